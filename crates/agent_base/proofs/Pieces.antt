@@ -1,0 +1,45 @@
+-- Pieces that are given or taken one after another.
+use Rattle.std.proofs.Common.{◌≡◌, ℕ, ◌+◌, ◌≤◌, List, ◌++◌, length, take, drop, Option, Some, None, ap, ◌∙◌, sym, append_assoc, take-add, ◌-◌, arith, length-drop, length-take}
+use Rattle.std.proofs.lemmas.List.{take_all, take_at, take-append-drop, drop-drop}
+use Rattle.std.proofs.Math.Seq.{drop-append_seam}
+use Rattle.agent_base.specs.Streams.{Gives, Shortens, Takes}
+
+-- what was taken up to here, and then a piece more
+pub takes_more : (a b c : Option (List ℕ)) (bytes : List ℕ) (at n : ℕ) → Takes a b (take at bytes) → Takes b c (take n (drop at bytes)) → Takes a c (take (at + n) bytes)
+takes_more None None None bytes at n first more = tt
+takes_more (Some a) (Some b) (Some c) bytes at n first more =
+    more ∙ ap (λ x. x ++ take n (drop at bytes)) first ∙ append_assoc a (take at bytes) (take n (drop at bytes)) ∙ ap (λ x. a ++ x) (sym (take-add at n bytes))
+takes_more (Some a) None c bytes at n first more = absurd first
+takes_more None (Some b) c bytes at n first more = absurd first
+takes_more (Some a) (Some b) None bytes at n first more = absurd more
+takes_more None None (Some c) bytes at n first more = absurd more
+
+-- the whole of what is left
+pub same_piece : (bytes : List ℕ) (at : ℕ) → take (length bytes - at) (drop at bytes) ≡ drop at bytes
+same_piece bytes at = take_all (length bytes - at) (drop at bytes) (omega (arith, length-drop at bytes))
+
+-- what was given is the front of what was left
+pub shortens_by : (a b : Option (List ℕ)) (bytes : List ℕ) → Gives a b bytes → Shortens a b
+shortens_by None None bytes gives = tt
+shortens_by (Some a) (Some b) bytes gives =
+    (length bytes, sym (ap (λ x. drop (length bytes) x) gives ∙ drop-append_seam bytes b))
+shortens_by (Some a) None bytes gives = absurd gives
+shortens_by None (Some b) bytes gives = absurd gives
+
+-- some was given, and then a piece more
+pub gives_more : (a b c : Option (List ℕ)) (first bytes : List ℕ) → Gives a b first → Gives b c bytes → Gives a c (first ++ bytes)
+gives_more None None None first bytes one two = tt
+gives_more (Some a) (Some b) (Some c) first bytes one two = one ∙ ap (λ x. first ++ x) two ∙ sym (append_assoc first bytes c)
+gives_more (Some a) None c first bytes one two = absurd one
+gives_more None (Some b) c first bytes one two = absurd one
+gives_more (Some a) (Some b) None first bytes one two = absurd two
+gives_more None None (Some c) first bytes one two = absurd two
+
+-- bytes that stand in front of a buffer are the front of what was left, and the rest stays
+pub given_front : (bytes buffer piece : List ℕ) (at n : ℕ) → n ≤ length (drop at bytes) → piece ≡ take n (take (length bytes - at) (drop at bytes)) → drop at bytes ≡ take n (piece ++ drop n buffer) ++ drop (at + n) bytes
+given_front bytes buffer piece at n fits is_front =
+    let same : piece ≡ take n (drop at bytes) = is_front ∙ ap (λ x. take n x) (same_piece bytes at) in
+    let front : take n (piece ++ drop n buffer) ≡ piece =
+    take_at piece (drop n buffer) n (omega (arith, length-take n (drop at bytes), ap (λ x. length x) same)) in
+    sym (ap (λ x. x ++ drop (at + n) bytes) (front ∙ same)
+    ∙ ap (λ x. take n (drop at bytes) ++ x) (sym (drop-drop n at bytes)) ∙ take-append-drop n (drop at bytes))

@@ -1,0 +1,4 @@
+pub mod Counts
+pub mod Streams
+pub mod Answers
+pub mod Memory

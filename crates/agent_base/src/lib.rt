@@ -1,0 +1,15 @@
+//! Where bytes come from and where they go, and the refusals that every crate shares.
+//!
+//! A [`Source`] gives bytes and a [`Sink`] takes them. Each counts its faults, and a call answers
+//! [`Failed`] only where that count rose in the call. [`read_all`] reads to the end of a source and
+//! [`write_all`] writes every byte. A clause on the bytes holds where the object tells its bytes:
+//! the ends in memory do, the adapters over a reader or a writer of std do not.
+#![tactic(auto)]
+
+mod refusals;
+mod sink;
+mod source;
+
+pub use refusals::{Failed, Fault, Label, NoMemory};
+pub use sink::{MemSink, Sink, WriteSink, write_all};
+pub use source::{MemSource, ReadAll, ReadSource, Source, read_all};

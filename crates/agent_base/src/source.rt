@@ -103,6 +103,13 @@ impl MemSource {
         }
     }
 
+    /// How many calls failed.
+    pub fn faults(&self) -> u64
+        ensures faults { result ≡ self.now.faults }
+    {
+        self.faults
+    }
+
     // Gives as many of the bytes left as there is room for.
     fn give(&mut self, into: &mut [u8]) -> usize
         ensures count { result ≡ min (length into.old) (length self.old.left) }
@@ -157,6 +164,13 @@ impl<R: Read + Drop> ReadSource<R> {
         ensures { result.faults ≡ 0 }
     {
         ReadSource { reader, faults: 0 }
+    }
+
+    /// How many calls failed.
+    pub fn faults(&self) -> u64
+        ensures faults { result ≡ self.now.faults }
+    {
+        self.faults
     }
 }
 

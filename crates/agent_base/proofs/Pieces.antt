@@ -1,18 +1,21 @@
 -- Pieces that are given or taken one after another.
-use Rattle.std.proofs.Common.{◌≡◌, ℕ, ◌+◌, ◌≤◌, List, ◌++◌, length, take, drop, Option, Some, None, ap, ◌∙◌, sym, append_assoc, take-add, ◌-◌, arith, length-drop, length-take}
+use Rattle.std.proofs.Common.{◌≡◌, ℕ, ◌+◌, ◌≤◌, List, [], ◌++◌, length, take, drop, subst, Option, Some, None, ap, ◌∙◌, sym, append_assoc, take-add, append-nil, ◌-◌, arith, length-drop, length-take}
 use Rattle.std.proofs.lemmas.List.{take_all, take_at, take-append-drop, drop-drop}
 use Rattle.std.proofs.Math.Seq.{drop-append_seam}
 use Rattle.agent_base.specs.Streams.{Gives, Shortens, Takes}
 
+-- some was taken, and then a piece more
+pub takes_append : (a b c : Option (List ℕ)) (first bytes : List ℕ) → Takes a b first → Takes b c bytes → Takes a c (first ++ bytes)
+takes_append None None None first bytes one two = tt
+takes_append (Some a) (Some b) (Some c) first bytes one two = two ∙ ap (λ x. x ++ bytes) one ∙ append_assoc a first bytes
+takes_append (Some a) None c first bytes one two = absurd one
+takes_append None (Some b) c first bytes one two = absurd one
+takes_append (Some a) (Some b) None first bytes one two = absurd two
+takes_append None None (Some c) first bytes one two = absurd two
+
 -- what was taken up to here, and then a piece more
 pub takes_more : (a b c : Option (List ℕ)) (bytes : List ℕ) (at n : ℕ) → Takes a b (take at bytes) → Takes b c (take n (drop at bytes)) → Takes a c (take (at + n) bytes)
-takes_more None None None bytes at n first more = tt
-takes_more (Some a) (Some b) (Some c) bytes at n first more =
-    more ∙ ap (λ x. x ++ take n (drop at bytes)) first ∙ append_assoc a (take at bytes) (take n (drop at bytes)) ∙ ap (λ x. a ++ x) (sym (take-add at n bytes))
-takes_more (Some a) None c bytes at n first more = absurd first
-takes_more None (Some b) c bytes at n first more = absurd first
-takes_more (Some a) (Some b) None bytes at n first more = absurd more
-takes_more None None (Some c) bytes at n first more = absurd more
+takes_more a b c bytes at n first more = subst (Takes a c) (sym (take-add at n bytes)) (takes_append a b c (take at bytes) (take n (drop at bytes)) first more)
 
 -- the whole of what is left
 pub same_piece : (bytes : List ℕ) (at : ℕ) → take (length bytes - at) (drop at bytes) ≡ drop at bytes
@@ -43,3 +46,8 @@ given_front bytes buffer piece at n fits is_front =
     take_at piece (drop n buffer) n (omega (arith, length-take n (drop at bytes), ap (λ x. length x) same)) in
     sym (ap (λ x. x ++ drop (at + n) bytes) (front ∙ same)
     ∙ ap (λ x. take n (drop at bytes) ++ x) (sym (drop-drop n at bytes)) ∙ take-append-drop n (drop at bytes))
+
+-- nothing was taken
+pub takes_none : (a : Option (List ℕ)) → Takes a a []
+takes_none None = tt
+takes_none (Some a) = sym (append-nil a)

@@ -1,0 +1,3 @@
+mod StandardFacts
+pub mod Pairs
+pub mod RowsLemmas

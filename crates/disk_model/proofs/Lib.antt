@@ -1,0 +1,7 @@
+pub mod StandardFacts
+pub mod Past
+pub mod Records
+pub mod Syncs
+pub mod MemView
+pub mod Recoveries
+pub mod Plans

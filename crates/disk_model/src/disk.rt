@@ -1,0 +1,97 @@
+// A disk: a file whose writes may be lost or torn until a sync.
+ghost use Rattle.std.specs.Prelude.{◌≡◌, ◌+◌, ◌<◌, ◌≤◌, List, ℕ, length, true, false, Some, IfOk, OnOk, OnErr};
+ghost use Rattle.disk_model.specs.Disk.{View, Holds, Written, Torn, Goes, Follows, IsSettled, Elapses, Stays, Counts, CountsCall, UsesRoom, Strikes};
+
+use agent_base::{Failed, NoMemory};
+
+/// One file of a device. Clauses on its content hold where it tells its content.
+///
+/// A call that fails has counted a fault, and may have done what it was asked, or a part of it.
+pub trait Disk {
+    // what the disk tells
+    ghost view: { Self → View };
+
+    /// The length in bytes.
+    fn len(&mut self) -> Result<u64, Failed>
+        ensures len { IfOk result (λ n. (c : List ℕ) → (view self.old).contents ≡ Some c → n ≡ length c) }
+        ensures stays { Stays (view self.old) (view self.new) }
+        ensures faults { Counts result (view self.old) (view self.new) }
+        ensures strikes { Strikes result (view self.old) (view self.new) }
+        ensures room { UsesRoom 0 (view self.old) (view self.new) };
+
+    /// Fills `into` from an offset.
+    fn read_at(&mut self, at: u64, into: &mut [u8]) -> Result<(), Failed>
+        requires within { (c : List ℕ) → (view self.old).contents ≡ Some c → at + length into.old ≤ length c }
+        ensures read { OnOk result ((c : List ℕ) → (view self.old).contents ≡ Some c → Holds c at into.new) }
+        ensures stays { Stays (view self.old) (view self.new) }
+        ensures faults { Counts result (view self.old) (view self.new) }
+        ensures strikes { Strikes result (view self.old) (view self.new) }
+        ensures room { UsesRoom 0 (view self.old) (view self.new) };
+
+    /// Writes over what is there, and past the end. Takes no memory.
+    ///
+    /// Until a sync, a cut may leave any bytes in the range, also where the write failed.
+    fn write_at(&mut self, at: u64, bytes: &[u8]) -> Result<(), Failed>
+        requires place { (c : List ℕ) → (view self.old).contents ≡ Some c → at ≤ length c }
+        requires room { at + length bytes.now ≤ (view self.old).room_end }
+        requires writes { 0 < (view self.old).room_writes }
+        ensures written { OnOk result (Goes (Written at bytes.now) (view self.old).contents (view self.new).contents) }
+        ensures failed { OnErr result (Goes (Torn at (length bytes.now)) (view self.old).contents (view self.new).contents) }
+        ensures images { Follows (Torn at (length bytes.now)) (view self.old).may_leave (view self.new).may_leave }
+        ensures time { Elapses (view self.old) (view self.new) }
+        ensures faults { Counts result (view self.old) (view self.new) }
+        ensures strikes { Strikes result (view self.old) (view self.new) }
+        ensures calls { CountsCall result (view self.old) (view self.new) }
+        ensures room { UsesRoom 1 (view self.old) (view self.new) };
+
+    /// At `Ok` a cut leaves what a read returns. Takes no memory.
+    fn sync(&mut self) -> Result<(), Failed>
+        ensures contents { (view self.new).contents ≡ (view self.old).contents }
+        ensures settled { OnOk result (IsSettled (view self.new)) }
+        ensures images { (c : List ℕ) → (view self.new).may_leave c → (view self.old).may_leave c }
+        ensures time { Elapses (view self.old) (view self.new) }
+        ensures faults { Counts result (view self.old) (view self.new) }
+        ensures strikes { Strikes result (view self.old) (view self.new) }
+        ensures calls { CountsCall result (view self.old) (view self.new) }
+        ensures room { UsesRoom 0 (view self.old) (view self.new) };
+
+    /// The power is cut and comes back. Takes no memory.
+    ///
+    /// The contents become one of the images, nothing is pending, and the past that is told begins
+    /// here.
+    fn restart(&mut self) -> Result<(), Failed>
+        ensures contents { OnOk result (Goes (λ _ d. (view self.old).may_leave d)
+            (view self.old).contents (view self.new).contents) }
+        ensures anew { OnOk result ((t : ℕ) (c : List ℕ) → (view self.new).left_since t c → (view self.new).contents ≡ Some c) }
+        ensures failed { OnErr result ((c : List ℕ) → (view self.new).may_leave c → (view self.old).may_leave c) }
+        ensures faults { Counts result (view self.old) (view self.new) }
+        ensures on { OnOk result (((view self.new).off ≡ false) × ((view self.new).strikes ≡ (view self.old).strikes)) }
+        ensures calls { (view self.new).changing ≡ (view self.old).changing }
+        ensures room { UsesRoom 0 (view self.old) (view self.new) };
+
+    /// Makes room, so that so many writes that end at most at `end` take no memory.
+    fn reserve(&mut self, end: u64, writes: u32) -> Result<(), NoMemory>
+        ensures stays { Stays (view self.old) (view self.new) }
+        ensures faults { (view self.new).faults ≡ (view self.old).faults }
+        ensures power { ((view self.new).off ≡ (view self.old).off)
+            × ((view self.new).strikes ≡ (view self.old).strikes) }
+        ensures end { OnOk result (end ≤ (view self.new).room_end) }
+        ensures writes { OnOk result (writes ≤ (view self.new).room_writes) }
+        ensures room { OnErr result (UsesRoom 0 (view self.old) (view self.new)) };
+
+    // This moment is one of those since an earlier one.
+    ghost counts_now: { (disk : Self) (t : ℕ) (c : List ℕ) → t ≤ (view disk).moment → (view disk).may_leave c
+        → (view disk).left_since t c };
+
+    // Since this moment there is no other.
+    ghost only_now: { (disk : Self) (c : List ℕ) → (view disk).left_since (view disk).moment c → (view disk).may_leave c };
+
+    // A disk that tells has contents, and only such a disk.
+    ghost told: { (disk : Self) → (view disk).tells ≡ true → (c : List ℕ) × ((view disk).contents ≡ Some c) };
+
+    ghost tells_contents: { (disk : Self) (c : List ℕ) → (view disk).contents ≡ Some c → (view disk).tells ≡ true };
+
+    // What a read returns is one of the images.
+    ghost contents_may_stay: { (disk : Self) (c : List ℕ) → (view disk).contents ≡ Some c
+        → (view disk).may_leave c };
+}

@@ -1,0 +1,20 @@
+//! A file as a store sees it: what a read returns, and what a cut of the power may leave.
+//!
+//! [`Disk`] says what each call promises, at each moment of the call and also where it fails.
+//! [`MemDisk`] is such a disk in memory, whose power can be cut in any of its changing calls.
+//! [`FileDisk`] is one over a file of the system, and tells nothing of its content.
+#![tactic(auto)]
+
+mod disk;
+mod file_disk;
+mod medium;
+mod mem_disk;
+mod recovery;
+mod schedule;
+#[cfg(test)]
+mod tests;
+
+pub use disk::Disk;
+pub use file_disk::FileDisk;
+pub use mem_disk::MemDisk;
+pub use schedule::Cut;

@@ -1,0 +1,5 @@
+pub mod SameLemmas
+pub mod DomainLemmas
+pub mod ReadsBackLemmas
+pub mod OriginLemmas
+pub mod StandardFacts

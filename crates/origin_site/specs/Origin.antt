@@ -1,0 +1,53 @@
+-- An origin: scheme, host and port.
+-- Source: HTML, "Origin" (tuple origins and same origin) and "Serialization of an origin".
+use Rattle.std.specs.Prelude.{◌≡◌, ℕ, Bool, ◌&&◌, ◌==◌, List, ◌++◌, codes, decimal, bytes_eq, Ok}
+use Rattle.std.specs.Prelude.{if◌then◌else◌}
+use Rattle.std.proofs.Math.Bool.{beq}
+use Rattle.origin_site.specs.Address.{PlainAddress, address_of}
+
+-- an origin, as contracts see it; whether the host is an IP address follows from the host
+pub record PlainOrigin : Type 0 where
+  pub https : Bool
+  pub ip : Bool
+  pub host : List ℕ
+  pub port : ℕ
+
+-- the origin of an address
+abbrev pub origin_of_address : PlainAddress → PlainOrigin
+origin_of_address address =
+    record { https = address.https; ip = address.ip; host = address.host; port = address.port }
+
+-- two origins are the same: scheme, host and port are equal
+abbrev pub same_plain_origin : PlainOrigin → PlainOrigin → Bool
+same_plain_origin a b =
+    beq a.https b.https && (beq a.ip b.ip && (bytes_eq a.host b.host && (a.port == b.port)))
+
+-- `https` or `http`
+abbrev pub scheme_text : Bool → List ℕ
+scheme_text https = if https then codes "https" else codes "http"
+
+-- the port is the scheme's default
+abbrev pub is_default : Bool → ℕ → Bool
+is_default https port = port == (if https then 443 else 80)
+
+-- `scheme://host`, with `:port` where it is not the default
+abbrev pub origin_text : PlainOrigin → List ℕ
+origin_text origin =
+    scheme_text origin.https ++ (codes "://"
+    ++ (if is_default origin.https origin.port then origin.host
+    else origin.host ++ (codes ":" ++ decimal origin.port)))
+
+-- the address of the origin's root: its text and path end with `/`
+abbrev pub root_address : PlainOrigin → PlainAddress
+root_address origin = record {
+  text = origin_text origin ++ codes "/";
+  https = origin.https;
+  ip = origin.ip;
+  host = origin.host;
+  port = origin.port;
+  path = codes "/";
+}
+
+-- the origin's text is the text of an address, which is its root
+abbrev pub ReadsBack : PlainOrigin → Type 0
+ReadsBack origin = address_of (origin_text origin) ≡ Ok (root_address origin)

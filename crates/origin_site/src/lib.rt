@@ -1,0 +1,16 @@
+//! Addresses, their origins and their sites.
+//!
+//! An [`Address`] is an http or https URL. Its [`Origin`] is scheme, host and port, its [`Site`] the
+//! scheme and the domain of the host. An origin that came from an address has a text that reads
+//! back. Contracts see each of them as plain data, whose texts are lists of bytes.
+#![tactic(auto)]
+
+mod address;
+mod origin;
+mod site;
+#[cfg(test)]
+mod tests;
+
+pub use address::{Address, AddressFault};
+pub use origin::{Origin, same_origin};
+pub use site::{Site, same_site, site_plain};

@@ -1,0 +1,3 @@
+mod StandardFacts
+pub mod PairsLemmas
+pub mod EntriesLemmas

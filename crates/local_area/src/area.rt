@@ -1,0 +1,225 @@
+//! The pairs of one storage area, with their weight.
+ghost use Rattle.std.specs.Prelude.{◌≡◌, ◌≤◌, ◌<◌, ◌+◌, ◌-◌, ◌↔◌, ◌⊎◌, ◌==◌, ◌≢◌, [], length, Some, None, Ok, Err, IfOk, IfErr, OnOk, OnErr, IsTrue, IsOk, string_bytes, option_map};
+ghost use Rattle.std.specs.Option.{option_copied};
+ghost use Rattle.local_area.specs.Area.{area_get, area_nth, area_put, area_remove, area_weight, quota, HasDistinctNames};
+ghost use Rattle.local_area.specs.Put.{plain_put, put_answer, same};
+
+use agent_base::NoMemory;
+use indexmap::IndexMap;
+use std::alloc::{AllocError, Global};
+use std::marker::Model;
+
+/// The number of bytes that an area may weigh.
+pub const QUOTA: usize = 5_242_880;
+
+/// What a [`Area::put`] did.
+#[derive(Debug, Drop, PartialEq, Eq)]
+pub enum Put {
+    /// The name had this value already, and nothing changed.
+    Same,
+    /// The name is new, and stands last.
+    Added,
+    /// The name had this other value, and keeps its place.
+    Changed(String),
+}
+
+/// Why a [`Area::put`] was refused. The area is as it was.
+#[derive(Clone, Copy, Debug, PartialEq, Eq)]
+pub enum AreaFault {
+    /// The area would weigh so much, which passes the quota.
+    Quota(u128),
+    /// A growth of memory was refused.
+    NoMemory,
+}
+
+impl From<NoMemory> for AreaFault {
+    ghost use Rattle.std.specs.Prelude.{◌≡◌};
+    ghost use Rattle.local_area.specs.declared.area.AreaFault.TheVariants as fault;
+
+    ghost from_gives = { λ _ e. e ≡ fault.NoMemory };
+
+    fn from(_: NoMemory) -> AreaFault {
+        AreaFault::NoMemory
+    }
+}
+
+impl From<AllocError> for AreaFault {
+    ghost use Rattle.std.specs.Prelude.{◌≡◌};
+    ghost use Rattle.local_area.specs.declared.area.AreaFault.TheVariants as fault;
+
+    ghost from_gives = { λ _ e. e ≡ fault.NoMemory };
+
+    fn from(_: AllocError) -> AreaFault {
+        AreaFault::NoMemory
+    }
+}
+
+/// Names and values of one storage key, in the order in which the names came.
+#[derive(Debug, Drop)]
+pub struct Area {
+    pairs: IndexMap<String, String>,
+    weight: usize,
+}
+
+impl Model for Area {
+    ghost use Rattle.std.specs.Prelude.{List};
+    ghost use Rattle.local_area.specs.Area.{Pair};
+
+    ghost Value = { List Pair };
+
+    ghost use Rattle.local_area.specs.Held.{pairs_of, IsHeld};
+
+    ghost view = { λ a. pairs_of a.pairs.entries };
+
+    ghost invariant = { λ a. IsHeld (pairs_of a.pairs.entries) a.weight };
+}
+
+impl Area {
+    /// An area without pairs.
+    pub fn new(alloc: Global) -> Area
+        ensures empty { result ≡ [] }
+    {
+        Area {
+            pairs: IndexMap::new(alloc),
+            weight: 0,
+        }
+    }
+
+    /// The number of pairs.
+    pub fn len(&self) -> usize
+        ensures len { result ≡ length self.now }
+        ensures distinct { HasDistinctNames self.now }
+    {
+        self.pairs.len()
+    }
+
+    /// Whether there is no pair.
+    pub fn is_empty(&self) -> bool
+        ensures empty { result ≡ (length self.now == 0) }
+    {
+        self.pairs.is_empty()
+    }
+
+    /// The bytes of all names and values. It is kept, and not summed.
+    pub fn weight(&self) -> usize
+        ensures weight { result ≡ area_weight self.now }
+        ensures within { result ≤ quota }
+    {
+        self.weight
+    }
+
+    /// The value of a name.
+    pub fn get(&self, name: &str) -> Option<&str>
+        ensures value { option_copied result ≡ area_get name.now self.now }
+    {
+        match self.pairs.get(name) {
+            Some(value) => Some(value.as_str()),
+            None => None,
+        }
+    }
+
+    /// The name at a place, counted from 0.
+    pub fn key(&self, n: u32) -> Option<&str>
+        ensures name { option_copied result ≡ area_nth n self.now }
+    {
+        match self.pairs.get_index(n as usize) {
+            Some((name, _)) => Some(name.as_str()),
+            None => None,
+        }
+    }
+
+    /// Gives a name a value: in its place where the name is there, else at the end.
+    ///
+    /// A refusal leaves the area as it was. The value that is there is never refused.
+    pub fn put(&mut self, name: String, value: String) -> Result<Put, AreaFault>
+        ensures stored { OnOk result (self.new ≡ area_put (string_bytes name) (string_bytes value) self.old) }
+        ensures answer { IfOk result (λ p. plain_put p ≡ put_answer (string_bytes name) (string_bytes value) self.old) }
+        ensures quota { let after = area_weight (area_put (string_bytes name) (string_bytes value) self.old) in
+            (result ≡ Err (AreaFault.Quota after)) ↔ (quota < after) }
+        ensures causes { let after = area_weight (area_put (string_bytes name) (string_bytes value) self.old) in
+            IfErr result (λ e. (e ≡ AreaFault.Quota after) ⊎ (e ≡ AreaFault.NoMemory)) }
+        ensures memory { result ≡ Err AreaFault.NoMemory → area_get (string_bytes name) self.old ≡ None }
+        ensures still { result ≡ Ok Put.Same → self.new ≡ self.old }
+        ensures kept { put_answer (string_bytes name) (string_bytes value) self.old ≡ same → IsOk result }
+        ensures unchanged { OnErr result (self.new ≡ self.old) }
+    {
+        if self.has(&name, &value) {
+            return Ok(Put::Same);
+        }
+        let weight = self.weight_with(&name, &value);
+        if weight > QUOTA as u128 {
+            return Err(AreaFault::Quota(weight));
+        }
+        let Ok(before) = self.pairs.insert(name, value) else {
+            return Err(AreaFault::NoMemory);
+        };
+        self.weight = weight as usize;
+        match before {
+            Some(before) => Ok(Put::Changed(before)),
+            None => Ok(Put::Added),
+        }
+    }
+
+    /// Removes a name, and gives the value that it had.
+    pub fn remove(&mut self, name: &str) -> Option<String>
+        ensures value { option_map string_bytes result ≡ area_get name.now self.old }
+        ensures removed { self.new ≡ area_remove name.now self.old }
+    {
+        let value = self.pairs.shift_remove(name)?;
+        self.weight -= name.len() + value.len();
+        Some(value)
+    }
+
+    /// Removes all pairs.
+    pub fn clear(&mut self)
+        ensures empty { self.new ≡ [] }
+    {
+        self.pairs.clear();
+        self.weight = 0;
+    }
+
+    /// An area with the same pairs in the same order.
+    pub fn copy(&self) -> Result<Area, NoMemory>
+        ensures same { IfOk result (λ area. area ≡ self.now) }
+    {
+        match self.pairs.clone() {
+            Ok(pairs) => Ok(Area {
+                pairs,
+                weight: self.weight,
+            }),
+            Err(_) => Err(NoMemory),
+        }
+    }
+
+    // Whether the name has this value.
+    fn has(&self, name: &str, value: &str) -> bool
+        ensures same { IsTrue result ↔ (area_get name.now self.now ≡ Some value.now) }
+    {
+        match self.get(name) {
+            Some(before) => before == value,
+            None => false,
+        }
+    }
+
+    // The weight after a put.
+    fn weight_with(&self, name: &str, value: &str) -> u128
+        ensures weight { result ≡ area_weight (area_put name.now value.now self.now) }
+    {
+        let kept = match self.get(name) {
+            Some(before) => self.weight - before.len(),
+            None => self.weight + name.len(),
+        };
+        kept as u128 + value.len() as u128
+    }
+}
+
+impl Clone for Area {
+    ghost is_clone = { λ area clone. clone ≡ area };
+
+    fn clone(&self) -> Result<Area, AllocError> {
+        match self.copy() {
+            Ok(area) => Ok(area),
+            Err(NoMemory) => Err(AllocError),
+        }
+    }
+}

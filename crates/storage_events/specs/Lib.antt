@@ -1,0 +1,4 @@
+-- What contracts cite.
+pub mod Event
+pub mod Queue
+pub mod Audience

@@ -1,0 +1,39 @@
+//! Which documents hear of a change.
+ghost use Rattle.std.specs.Prelude.{◌≡◌, IfOk};
+ghost use Rattle.storage_events.specs.Audience.{audience, hears};
+
+use crate::AreaKind;
+use agent_base::{Label, NoMemory};
+use std::alloc::Global;
+
+/// The documents that hear of a change which `writer` made, in the order of `documents`.
+///
+/// `key` is the storage key of the writer, and each document comes with its own.
+pub fn audience<K: Eq>(
+    alloc: Global,
+    area: AreaKind,
+    writer: Label,
+    key: &K,
+    documents: &[(Label, K)],
+) -> Result<Vec<Label>, NoMemory>
+    ensures audience { IfOk result (λ labels. labels.items ≡ audience K.eq area writer key.now documents.now) }
+{
+    let mut labels = Vec::new(alloc);
+    for document in documents {
+        if hears(area, writer, key, document) && labels.push(document.0).is_err() {
+            return Err(NoMemory);
+        }
+    }
+    Ok(labels)
+}
+
+// Whether a document hears of a change.
+fn hears<K: Eq>(area: AreaKind, writer: Label, key: &K, document: &(Label, K)) -> bool
+    ensures hears { result ≡ hears K.eq area writer key.now document.now }
+{
+    let within = match area {
+        AreaKind::Local => true,
+        AreaKind::Session => document.0.tab == writer.tab,
+    };
+    within && document.0 != writer && *key == document.1
+}

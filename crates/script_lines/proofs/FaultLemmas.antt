@@ -1,0 +1,85 @@
+-- The grammar answers only faults of the text: neither a fault of the source nor want of memory.
+use Rattle.std.proofs.Common.{◌≡◌, ℕ, ◌+◌, Bool, true, false, cond, not, List, [], ◌∷◌, Option}
+use Rattle.std.proofs.Common.{Some, None, Result, Ok, Err, IfErr, map, refl, find, bytes_eq, length}
+use Rattle.std.proofs.Common.{option_and_then}
+use Rattle.std.specs.Prelude.{codes, nat_lt, option_to_list}
+use Rattle.std.specs.Str.{is_utf8}
+use Rattle.serde_json.specs.Data.{Data}
+use Rattle.serde_json.specs.Find.{get, as_str}
+use Rattle.serde_json.specs.Read.{read}
+use Rattle.script_lines.specs.Script.{PlainAction, PlainLine, PlainFault, NotJson, UnknownAction}
+use Rattle.script_lines.specs.Script.{BadField, LineTooLong, TooLong, NotUtf8, ReadFault, NoMemory}
+use Rattle.script_lines.specs.Grammar.{Field, Row, action_by, action_named, action_of_bytes}
+use Rattle.script_lines.specs.Grammar.{field_by, fields_of, first_unknown, is_blank, json_of}
+use Rattle.script_lines.specs.Grammar.{line_limit, line_of_bytes, lines_from, lines_of, meaning}
+use Rattle.script_lines.specs.Grammar.{refused, script_limit, script_of_bytes, table, then_ok}
+
+-- a fault of the text
+abbrev pub IsOfText : PlainFault → Type 0
+IsOfText (NotJson line) = Unit {0}
+IsOfText (UnknownAction line) = Unit {0}
+IsOfText (BadField line name) = Unit {0}
+IsOfText (LineTooLong line) = Unit {0}
+IsOfText TooLong = Unit {0}
+IsOfText (NotUtf8 line) = Unit {0}
+IsOfText ReadFault = ⊥
+IsOfText NoMemory = ⊥
+
+then_of_text : {A B : Type 0} (first : Result A PlainFault) (next : A → Result B PlainFault) → IfErr first IsOfText → ((value : A) → IfErr (next value) IsOfText) → IfErr (then_ok first next) IsOfText
+then_of_text (Ok value) next first later = later value
+then_of_text (Err why) next first later = first
+
+if_of_text : {A : Type 0} (b : Bool) (one other : Result A PlainFault) → IfErr one IsOfText → IfErr other IsOfText → IfErr (cond b one other) IsOfText
+if_of_text true one other first second = first
+if_of_text false one other first second = second
+
+field_of_text : {A : Type 0} (number : ℕ) (name : List ℕ) (value : Option A) → IfErr (field_by number name value) IsOfText
+field_of_text number name (Some value) = tt
+field_of_text number name None = tt
+
+fields_of_text : (number : ℕ) (fields : List Field) (line : Data) → IfErr (fields_of number fields line) IsOfText
+fields_of_text number [] line = tt
+fields_of_text number (field ∷ fields) line =
+    then_of_text _ _ (field_of_text number field.name (option_and_then (meaning field.kind) (get field.name line)))
+    (λ value. then_of_text _ _ (fields_of_text number fields line) (λ values. tt))
+
+refused_of_text : (number : ℕ) (name : Option (List ℕ)) → IfErr (refused number name) IsOfText
+refused_of_text number (Some name) = tt
+refused_of_text number None = tt
+
+row_of_text : (number : ℕ) (row : Option Row) (line : Data) → IfErr (action_by number row line) IsOfText
+row_of_text number None line = tt
+row_of_text number (Some row) line =
+    then_of_text _ _ (fields_of_text number row.fields line)
+    (λ values. then_of_text _ _ (refused_of_text number (first_unknown (map (λ field. field.name) row.fields) line)) (λ _. tt))
+
+named_of_text : (number : ℕ) (name : Option (List ℕ)) (line : Data) → IfErr (action_named number name line) IsOfText
+named_of_text number None line = tt
+named_of_text number (Some name) line = row_of_text number (find (λ row. bytes_eq row.name name) table) line
+
+json_of_text : (number : ℕ) (line : Option Data) → IfErr (json_of number line) IsOfText
+json_of_text number (Some line) = tt
+json_of_text number None = tt
+
+action_of_text : (number : ℕ) (line : List ℕ) → IfErr (action_of_bytes number line) IsOfText
+action_of_text number line =
+    if_of_text (nat_lt line_limit (length line)) _ _ tt
+    (if_of_text (not (is_utf8 line)) _ _ tt
+    (then_of_text _ _ (json_of_text number (read line)) (λ value. named_of_text number (option_and_then as_str (get (codes "do") value)) value)))
+
+line_of_text : (number : ℕ) (line : List ℕ) → IfErr (line_of_bytes number line) IsOfText
+line_of_text number line =
+    if_of_text (is_blank line) _ _ tt (then_of_text _ _ (action_of_text number line) (λ action. tt))
+
+lines_of_text : (number : ℕ) (lines : List (List ℕ)) → IfErr (lines_from number lines) IsOfText
+unfolding lines_from
+lines_of_text number [] = tt
+lines_of_text number (line ∷ lines) =
+    then_of_text _ _ (line_of_text number line)
+    (λ first. then_of_text _ _ (lines_of_text (number + 1) lines) (λ later. tt))
+
+-- the fault of a script is one of the text
+pub script_of_text : (bytes : List ℕ) → IfErr (script_of_bytes bytes) IsOfText
+script_of_text bytes =
+    if_of_text (nat_lt script_limit (length bytes)) _ _ tt
+    (then_of_text _ _ (lines_of_text 1 (lines_of bytes)) (λ lines. tt))

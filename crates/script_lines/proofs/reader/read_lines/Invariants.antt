@@ -1,0 +1,15 @@
+use Rattle.std.proofs.Common.{◌≡◌, ◌≤◌, ◌+◌, length, map}
+use Rattle.script_lines.specs.Grammar.{lines_from, lines_of, then_ok}
+use Rattle.script_lines.specs.Plain.{line_of}
+use Rattle.script_lines.proofs.LineLemmas.{after}
+use Rattle.script_lines.proofs.reader.read_lines.Given as goal
+
+abbrev pub invariant-lines : goal.invariant-lines
+invariant-lines l =
+    record {
+      count : l.number + length l.rest ≤ length l.bytes + 1;
+      script : lines_from 1 (lines_of l.bytes) ≡ then_ok (lines_from l.number (lines_of l.rest)) (after (map line_of l.lines.items));
+    }
+
+abbrev pub decreases-lines : goal.decreases-lines
+decreases-lines l = length l.rest

@@ -1,0 +1,13 @@
+use Rattle.std.proofs.Common.{⊎_elim}
+use Rattle.std.specs.Str.{is_utf8}
+use Rattle.std.proofs.lemmas.Bool.{cases_Bool}
+use Rattle.std.proofs.lemmas.Str.{IsUtf8-from_is_utf8, is_utf8-from_IsUtf8}
+use Rattle.script_lines.proofs.reader.utf8_text.Goals as goal
+
+pub returns-in-Ok : goal.returns-in-Ok
+returns-in-Ok c = (c.in-Ok.ensures.cases.0, is_utf8-from_IsUtf8 c.args.line.now c.in-Ok.ensures.cases.1)
+
+pub returns-in-Err : goal.returns-in-Err
+returns-in-Err c =
+    ⊎_elim (λ yes. absurd (c.in-Err.ensures.cases.0 (IsUtf8-from_is_utf8 c.args.line.now yes)))
+    (λ other. other) (cases_Bool (is_utf8 c.args.line.now))

@@ -1,0 +1,71 @@
+-- What contracts see of the types of this crate: the bytes of texts, the items of lists.
+use Rattle.std.specs.Prelude.{◌≡◌, ◌⊎◌, map, option_map, string_bytes, Result, Ok, Err, MatchResult}
+use Rattle.origin_site.specs.Plain.{plain_address, plain_site}
+use Rattle.script_lines.specs.Script.{PlainAction, PlainLine, PlainScript, PlainFault}
+use Rattle.script_lines.specs.Script as plain
+use Rattle.script_lines.specs.Reply.{PlainBody, PlainReply}
+use Rattle.script_lines.specs.Reply as plain_reply
+use Rattle.script_lines.specs.declared.script.Action.{Action}
+use Rattle.script_lines.specs.declared.script.Action.TheVariants.{Open, Set, Get}
+use Rattle.script_lines.specs.declared.script.Line.{Line}
+use Rattle.script_lines.specs.declared.script.Script.{Script}
+use Rattle.script_lines.specs.declared.script.ScriptFault.{ScriptFault}
+use Rattle.script_lines.specs.declared.script.ScriptFault.TheVariants.{NotJson, UnknownAction}
+use Rattle.script_lines.specs.declared.script.ScriptFault.TheVariants.{BadField, LineTooLong}
+use Rattle.script_lines.specs.declared.script.ScriptFault.TheVariants.{TooLong, NotUtf8, ReadFault}
+use Rattle.script_lines.specs.declared.script.ScriptFault.TheVariants.{NoMemory}
+use Rattle.script_lines.specs.declared.reply.Reply.{Reply}
+use Rattle.script_lines.specs.declared.reply.ReplyBody.{ReplyBody}
+use Rattle.script_lines.specs.declared.reply.ReplyBody.TheVariants.{Plain, Load, Text}
+
+-- an action
+abbrev pub action_of : Action → PlainAction
+action_of (Open tab url) = plain.Open tab (plain_address url)
+action_of (Set at key value) = plain.Set at (string_bytes key) (string_bytes value)
+action_of (Get at key) = plain.Get at (string_bytes key)
+
+-- a line
+abbrev pub line_of : Line → PlainLine
+line_of line = record { number = line.number; action = action_of line.action }
+
+-- a script
+abbrev pub script_of : Script → PlainScript
+script_of script = record { lines = map line_of script.lines.items }
+
+-- why there is no script
+abbrev pub fault_of : ScriptFault → PlainFault
+fault_of (NotJson line) = plain.NotJson line
+fault_of (UnknownAction line) = plain.UnknownAction line
+fault_of (BadField line name) = plain.BadField line (string_bytes name)
+fault_of (LineTooLong line) = plain.LineTooLong line
+fault_of TooLong = plain.TooLong
+fault_of (NotUtf8 line) = plain.NotUtf8 line
+fault_of ReadFault = plain.ReadFault
+fault_of NoMemory = plain.NoMemory
+
+-- a reader answers the expected value, seen by `plain`, or its fault, or want of memory
+abbrev pub Reads : {T P : Type 0} → (T → P) → Result P PlainFault → Result T ScriptFault → Type 0
+Reads plain expected result =
+    MatchResult result (λ value. expected ≡ Ok (plain value))
+    (λ why. (why ≡ NoMemory) ⊎ (expected ≡ Err (fault_of why)))
+
+-- the same of a reader over a source, which answers a fault of the source, too
+abbrev pub ReadsSource : {T P : Type 0} → (T → P) → Result P PlainFault → Result T ScriptFault → Type 0
+ReadsSource plain expected result =
+    MatchResult result (λ value. expected ≡ Ok (plain value))
+    (λ why. (why ≡ ReadFault) ⊎ ((why ≡ NoMemory) ⊎ (expected ≡ Err (fault_of why))))
+
+-- what a reply answers
+abbrev pub body_of : ReplyBody → PlainBody
+body_of (Plain answer) = plain_reply.Plain answer.now
+body_of (Load cookie answers) =
+    plain_reply.Load (option_map string_bytes cookie) (map (λ t. t.now) answers.items)
+body_of (Text value) = plain_reply.Text (option_map string_bytes value)
+
+-- a reply
+abbrev pub reply_of : Reply → PlainReply
+reply_of reply = record {
+  name = reply.name.now;
+  site = option_map plain_site reply.site;
+  body = body_of reply.body;
+}

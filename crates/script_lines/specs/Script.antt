@@ -1,0 +1,32 @@
+-- A script as contracts see it: its lines, or why it has none.
+use Rattle.std.specs.Prelude.{ℕ, List}
+use Rattle.agent_base.specs.declared.refusals.Label.{Label}
+use Rattle.origin_site.specs.Address.{PlainAddress}
+
+-- what a line asks for. A top document is opened by its tab and address, and an area of a document,
+-- which is named by its tab and frame, is written and read.
+pub data PlainAction : Type 0 where
+  Open : (tab : ℕ) (url : PlainAddress) → PlainAction
+  Set : (at : Label) (key value : List ℕ) → PlainAction
+  Get : (at : Label) (key : List ℕ) → PlainAction
+
+-- a line that is not skipped, with its number, from 1
+pub record PlainLine : Type 0 where
+  pub number : ℕ
+  pub action : PlainAction
+
+-- a script
+pub record PlainScript : Type 0 where
+  pub lines : List PlainLine
+
+-- why a text is no script, with the number of the line and the name of the member; and the two
+-- refusals of a reader that are not the text's
+pub data PlainFault : Type 0 where
+  NotJson : (line : ℕ) → PlainFault
+  UnknownAction : (line : ℕ) → PlainFault
+  BadField : (line : ℕ) (name : List ℕ) → PlainFault
+  LineTooLong : (line : ℕ) → PlainFault
+  TooLong : PlainFault
+  NotUtf8 : (line : ℕ) → PlainFault
+  ReadFault : PlainFault
+  NoMemory : PlainFault

@@ -1,0 +1,17 @@
+//! Script lines and replies: reading a script by its grammar, and printing a reply.
+//!
+//! [`Script::read`] answers the script that the bytes of a source are, or its first fault.
+//! [`print`] writes the line of a reply. Contracts see actions, lines and replies as plain data,
+//! whose texts are lists of bytes; the grammar is a table of actions with their fields.
+#![tactic(auto)]
+
+mod actions;
+mod fields;
+mod reader;
+mod reply;
+mod script;
+#[cfg(test)]
+mod tests;
+
+pub use reply::{Reply, ReplyBody, print};
+pub use script::{Action, Line, Script, ScriptFault};

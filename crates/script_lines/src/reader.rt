@@ -1,0 +1,150 @@
+//! Reading a script.
+ghost use Rattle.std.specs.Prelude.{◌≡◌, ◌≤◌, ◌<◌, ◌∷◌, ◌++◌, ◌+◌, [], IfOk, IsErrOf, List, OnOk};
+ghost use Rattle.std.specs.Prelude.{Ok, ℕ, ◌==◌, IfSome, MatchOption, MatchResult, option_to_list};
+ghost use Rattle.std.specs.Prelude.{false, position, true, length, map, option_copied, option_map};
+ghost use Rattle.std.specs.Str.{is_utf8};
+ghost use Rattle.agent_base.specs.Counts.{Rose};
+ghost use Rattle.agent_base.specs.Streams.{Gives, Shortens};
+ghost use Rattle.serde_json.specs.Read.{read};
+ghost use Rattle.serde_json.specs.View.{view};
+ghost use Rattle.script_lines.specs.Grammar as spec;
+ghost use Rattle.script_lines.specs.Grammar.{action_of_bytes, json_of, line_of_bytes, lines_from};
+ghost use Rattle.script_lines.specs.Grammar.{lines_of, script_limit, script_of_bytes};
+ghost use Rattle.script_lines.specs.Pieces.{lines_after};
+ghost use Rattle.script_lines.specs.Plain.{Reads, ReadsSource, action_of, line_of, script_of};
+
+use crate::actions::read_action;
+use crate::{Action, Line, Script, ScriptFault};
+use agent_base::{ReadAll, Source, read_all};
+use serde_json::Value;
+use std::alloc::Global;
+use std::str;
+
+impl Script {
+    /// Reads the script that the bytes of a source are, in time linear in their number. Only after
+    /// an `Ok` and a fault of the text has the source surely been read to its end.
+    pub fn read<S: Source>(alloc: Global, source: &mut S) -> Result<Script, ScriptFault>
+        ensures answer { IfSome (S.left source.old)
+            (λ bytes. ReadsSource script_of (script_of_bytes bytes) result) }
+        ensures given { IfOk result (λ s. (bytes : List ℕ)
+            × Gives (S.left source.old) (S.left source.new) bytes
+            × (script_of_bytes bytes ≡ Ok (script_of s))) }
+        ensures end { OnOk result (IfSome (S.left source.new) (λ rest. rest ≡ [])) }
+        ensures cause { IsErrOf result ScriptFault.ReadFault
+            → Rose (S.faults source.old) (S.faults source.new) }
+        ensures later { S.faults source.old ≤ S.faults source.new }
+        ensures rest { Shortens (S.left source.old) (S.left source.new) }
+    {
+        match read_all(alloc, source, 16_777_216) {
+            Ok(bytes) => script_in(alloc, &bytes),
+            Err(ReadAll::TooLong) => Err(ScriptFault::TooLong),
+            Err(ReadAll::Failed) => Err(ScriptFault::ReadFault),
+            Err(ReadAll::NoMemory) => Err(ScriptFault::NoMemory),
+        }
+    }
+}
+
+fn script_in(alloc: Global, bytes: &[u8]) -> Result<Script, ScriptFault>
+    requires { length bytes.now ≤ script_limit }
+    ensures { Reads script_of (script_of_bytes bytes.now) result }
+{
+    let lines = read_lines(alloc, bytes)?;
+    Ok(Script { lines })
+}
+
+fn read_lines(alloc: Global, bytes: &[u8]) -> Result<Vec<Line>, ScriptFault>
+    requires { length bytes.now ≤ script_limit }
+    ensures { Reads (λ v. map line_of v.items) (lines_from 1 (lines_of bytes.now)) result }
+{
+    let mut lines = Vec::new(alloc);
+    let mut rest = bytes;
+    let mut number = 1;
+    'lines: loop {
+        let (line, later) = next_line(rest);
+        push_some(&mut lines, read_line(alloc, line, number)?)?;
+        match later {
+            Some(later) => rest = later,
+            None => return Ok(lines),
+        }
+        number += 1;
+    }
+}
+
+/// The first line, and what follows its line feed.
+fn next_line(bytes: &[u8]) -> (&[u8], Option<&[u8]>)
+    ensures lines { lines_of bytes.now ≡ result.0.now ∷ lines_after (option_copied result.1) }
+    ensures shorter { IfSome result.1 (λ later. length later.now < length bytes.now) }
+{
+    match line_end(bytes) {
+        Some(end) => (&bytes[..end], Some(&bytes[end + 1..])),
+        None => (bytes, None),
+    }
+}
+
+fn push_some(lines: &mut Vec<Line>, line: Option<Line>) -> Result<(), ScriptFault>
+    ensures { MatchResult result (λ _. lines.new.items ≡ lines.old.items ++ option_to_list line)
+        (λ e. e ≡ ScriptFault.NoMemory) }
+{
+    let Some(line) = line else {
+        return Ok(());
+    };
+    match lines.push(line) {
+        Ok(()) => Ok(()),
+        Err(_) => Err(ScriptFault::NoMemory),
+    }
+}
+
+fn line_end(bytes: &[u8]) -> Option<usize>
+    ensures { result ≡ position (λ b. b == 10) bytes.now }
+{
+    bytes.iter().position(|b| *b == b'\n')
+}
+
+fn read_line(alloc: Global, line: &[u8], number: u32) -> Result<Option<Line>, ScriptFault>
+    ensures { Reads (option_map line_of) (line_of_bytes number line.now) result }
+{
+    if is_blank(line) {
+        return Ok(None);
+    }
+    let action = action_in(alloc, line, number)?;
+    Ok(Some(Line { number, action }))
+}
+
+fn is_blank(line: &[u8]) -> bool
+    ensures { result ≡ spec.is_blank line.now }
+{
+    line.iter().all(|b| matches!(*b, b' ' | b'\t' | b'\r'))
+}
+
+fn action_in(alloc: Global, line: &[u8], number: u32) -> Result<Action, ScriptFault>
+    ensures { Reads action_of (action_of_bytes number line.now) result }
+{
+    if line.len() > 1_048_576 {
+        return Err(ScriptFault::LineTooLong(number));
+    }
+    let Some(text) = utf8_text(line) else {
+        return Err(ScriptFault::NotUtf8(number));
+    };
+    let value = read_json(alloc, text, number)?;
+    read_action(alloc, &value, number)
+}
+
+fn utf8_text(line: &[u8]) -> Option<&str>
+    ensures { MatchOption result (is_utf8 line.now ≡ false)
+        (λ text. (text.now ≡ line.now) × (is_utf8 line.now ≡ true)) }
+{
+    match str::from_utf8(line) {
+        Ok(text) => Some(text),
+        Err(_) => None,
+    }
+}
+
+fn read_json(alloc: Global, text: &str, number: u32) -> Result<Value, ScriptFault>
+    ensures { Reads view (json_of number (read text.now)) result }
+{
+    match Value::from_str(alloc, text) {
+        Ok(value) => Ok(value),
+        Err(e) if e.is_memory() => Err(ScriptFault::NoMemory),
+        Err(_) => Err(ScriptFault::NotJson(number)),
+    }
+}

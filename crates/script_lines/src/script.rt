@@ -1,0 +1,144 @@
+//! A script and its lines.
+ghost use Rattle.std.specs.Prelude.{◌≡◌, IfOk};
+ghost use Rattle.script_lines.specs.Plain.{action_of, fault_of, line_of, script_of};
+
+use agent_base::{Label, NoMemory};
+use origin_site::Address;
+use std::alloc::{AllocError, Global};
+
+/// What a line asks for.
+#[derive(Debug, Drop, PartialEq, Eq)]
+pub enum Action {
+    /// Opens the top document of a tab.
+    Open {
+        tab: u16,
+        url: Address,
+    },
+    /// Writes a pair of a document's local area.
+    Set {
+        at: Label,
+        key: String,
+        value: String,
+    },
+    /// Reads a value of a document's local area.
+    Get {
+        at: Label,
+        key: String,
+    },
+}
+
+/// A line of a script, with its number from 1.
+#[derive(Debug, Drop, PartialEq, Eq)]
+pub struct Line {
+    pub number: u32,
+    pub action: Action,
+}
+
+/// The lines of a script that are not skipped, in their order.
+#[derive(Debug, Drop, PartialEq, Eq)]
+pub struct Script {
+    pub lines: Vec<Line>,
+}
+
+/// Why no script was read. A number is that of the line, from 1, and a text the name of the member.
+#[derive(Debug, Drop, PartialEq, Eq)]
+pub enum ScriptFault {
+    /// The line is no JSON.
+    NotJson(u32),
+    /// No action has the name that the line gives.
+    UnknownAction(u32),
+    /// A member is missing, is of another form, or belongs to no field of the action.
+    BadField(u32, String),
+    /// The line has over 1,048,576 bytes.
+    LineTooLong(u32),
+    /// The script has over 16,777,216 bytes.
+    TooLong,
+    /// The line is not UTF-8.
+    NotUtf8(u32),
+    /// The source failed, and its count of faults rose.
+    ReadFault,
+    /// A growth of memory was refused.
+    NoMemory,
+}
+
+impl From<AllocError> for ScriptFault {
+    ghost use Rattle.std.specs.Prelude.{◌≡◌};
+    ghost use Rattle.script_lines.specs.declared.script.ScriptFault.TheVariants.{NoMemory};
+
+    ghost from_gives = { λ _ e. e ≡ NoMemory };
+
+    fn from(_: AllocError) -> ScriptFault {
+        ScriptFault::NoMemory
+    }
+}
+
+impl Action {
+    /// The same action, over memory of its own.
+    pub fn copy(&self, alloc: Global) -> Result<Action, NoMemory>
+        ensures same { IfOk result (λ a. action_of a ≡ action_of self.now) }
+    {
+        match self {
+            Action::Open { tab, url } => Ok(Action::Open {
+                tab: *tab,
+                url: url.copy(alloc)?,
+            }),
+            Action::Set { at, key, value } => Ok(Action::Set {
+                at: *at,
+                key: String::from_str(alloc, key.as_str())?,
+                value: String::from_str(alloc, value.as_str())?,
+            }),
+            Action::Get { at, key } => Ok(Action::Get {
+                at: *at,
+                key: String::from_str(alloc, key.as_str())?,
+            }),
+        }
+    }
+}
+
+impl Line {
+    /// The same line, over memory of its own.
+    pub fn copy(&self, alloc: Global) -> Result<Line, NoMemory>
+        ensures same { IfOk result (λ l. line_of l ≡ line_of self.now) }
+    {
+        Ok(Line {
+            number: self.number,
+            action: self.action.copy(alloc)?,
+        })
+    }
+}
+
+impl Script {
+    /// The same script, over memory of its own.
+    pub fn copy(&self, alloc: Global) -> Result<Script, NoMemory>
+        ensures same { IfOk result (λ s. script_of s ≡ script_of self.now) }
+    {
+        let mut lines = Vec::new(alloc);
+        for line in &self.lines {
+            if lines.push(line.copy(alloc)?).is_err() {
+                return Err(NoMemory);
+            }
+        }
+        Ok(Script { lines })
+    }
+}
+
+impl ScriptFault {
+    /// The same fault, over memory of its own.
+    pub fn copy(&self, alloc: Global) -> Result<ScriptFault, NoMemory>
+        ensures same { IfOk result (λ f. fault_of f ≡ fault_of self.now) }
+    {
+        match self {
+            ScriptFault::NotJson(line) => Ok(ScriptFault::NotJson(*line)),
+            ScriptFault::UnknownAction(line) => Ok(ScriptFault::UnknownAction(*line)),
+            ScriptFault::BadField(line, name) => Ok(ScriptFault::BadField(
+                *line,
+                String::from_str(alloc, name.as_str())?,
+            )),
+            ScriptFault::LineTooLong(line) => Ok(ScriptFault::LineTooLong(*line)),
+            ScriptFault::TooLong => Ok(ScriptFault::TooLong),
+            ScriptFault::NotUtf8(line) => Ok(ScriptFault::NotUtf8(*line)),
+            ScriptFault::ReadFault => Ok(ScriptFault::ReadFault),
+            ScriptFault::NoMemory => Ok(ScriptFault::NoMemory),
+        }
+    }
+}

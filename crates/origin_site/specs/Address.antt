@@ -1,4 +1,4 @@
--- An address: what its text stands for, over the URL Standard's parser as the crate `url` states it.
+-- An address: what its text stands for, over the URL Standard's parser as `url` states it.
 -- Source: URL Standard, "URL parsing", "URL serializing", "Host serializing".
 -- Our own choice: an address is an http or https URL whose host does not end with a dot, and whose
 -- text has at most 8,192 bytes. A port that is not written is the scheme's default.

@@ -1,6 +1,6 @@
 -- The domain of a host: what a site has in place of the host.
 -- Source: HTML, "Sites" (registrable domain); Public Suffix List, "Formal Algorithm", whose rule
--- without a matching rule is `*`. No list is read yet, so the public suffix is the last label.
+-- without a matching rule is `*`. The list is empty here, so the public suffix is the last label.
 -- Our own choice: a host is divided at every dot, so a label may be empty.
 use Rattle.std.specs.Prelude.{ℕ, Bool, ◌==◌, ◌-◌, List, length, drop, if◌then◌else◌}
 use Rattle.std.specs.List.{join_with_byte, slice_split}

@@ -1,6 +1,6 @@
 -- The site of an origin: its scheme and the domain of its host. Ports do not count.
 -- Source: HTML, "Sites" (site, same site, and how a site is serialized).
--- Our own choice: an opaque origin has no site, where HTML gives the origin itself.
+-- Only origins that have a host are defined here. HTML gives an opaque origin as its own site.
 use Rattle.std.specs.Prelude.{ℕ, Bool, ◌&&◌, List, ◌++◌, codes, bytes_eq}
 use Rattle.std.proofs.Math.Bool.{beq}
 use Rattle.origin_site.specs.Origin.{PlainOrigin, scheme_text}

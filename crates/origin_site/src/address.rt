@@ -1,5 +1,5 @@
 //! Addresses.
-ghost use Rattle.std.specs.Prelude.{◌≡◌, ◌≤◌, IfOk, IsTrue, false, length, string_bytes, true};
+ghost use Rattle.std.specs.Prelude.{◌≡◌, ◌≤◌, IfOk, false, length, string_bytes, true};
 ghost use Rattle.url.specs.Parts.{serialize};
 ghost use Rattle.origin_site.specs.Address as spec;
 ghost use Rattle.origin_site.specs.Origin.{ReadsBack};
@@ -9,7 +9,7 @@ use std::alloc::{AllocError, Global};
 use url::{ParseError, Url};
 
 /// An http or https URL, taken apart. `text` is the whole URL as the URL Standard writes it, with
-/// user, query and fragment; `path` is without query, and `host` has the brackets of an IPv6 address.
+/// user, query and fragment. `path` is without query, and `host` of IPv6 has its brackets.
 #[derive(Debug, Drop, PartialEq, Eq, PartialOrd, Ord, Hash)]
 pub struct Address {
     pub text: String,
@@ -19,7 +19,8 @@ pub struct Address {
     pub port: u16,
     pub path: String,
     // the text of the address's origin is the text of an address
-    ghost reads: { ReadsBack (record { https = https; ip = ip; host = string_bytes host; port = port }) },
+    ghost reads: { ReadsBack
+        (record { https = https; ip = ip; host = string_bytes host; port = port }) },
 }
 
 /// Why a text is no address.

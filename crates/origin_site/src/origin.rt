@@ -1,5 +1,5 @@
 //! Origins.
-ghost use Rattle.std.specs.Prelude.{◌≡◌, ◌↔◌, IfOk, IsTrue, string_bytes};
+ghost use Rattle.std.specs.Prelude.{◌≡◌, IfOk, string_bytes};
 ghost use Rattle.origin_site.specs.Origin.{ReadsBack};
 
 mod same;
@@ -17,7 +17,8 @@ pub struct Origin {
     pub host: String,
     pub port: u16,
     // the origin's text is the text of an address
-    ghost reads: { ReadsBack (record { https = https; ip = ip; host = string_bytes host; port = port }) },
+    ghost reads: { ReadsBack
+        (record { https = https; ip = ip; host = string_bytes host; port = port }) },
 }
 
 impl Origin {
@@ -42,7 +43,8 @@ impl Address {
 
     /// The origin of the address.
     pub fn origin(&self, alloc: Global) -> Result<Origin, NoMemory>
-        ensures value { IfOk result (λ o. plain_origin o ≡ origin_of_address (plain_address self.now)) }
+        ensures value { IfOk result
+            (λ o. plain_origin o ≡ origin_of_address (plain_address self.now)) }
     {
         Ok(Origin {
             https: self.https,

@@ -1,4 +1,4 @@
-//! Addresses, origins and sites from outside, and each call that takes memory where there is enough.
+//! Addresses, origins and sites from outside, and calls that take memory where there is enough.
 use super::*;
 use std::test::Fail;
 

@@ -1,7 +1,8 @@
 -- The content of a storage area: pairs of a name and a value, in the order in which names came.
--- Source: HTML, "Web storage", the Storage interface; Storage Standard, the quota of a bottle.
--- Our own choice: a changed value keeps its place, the quota counts the UTF-8 bytes of all names
--- and values, and it is 5,242,880 of them.
+-- Source: HTML, "Web storage", the Storage interface; Storage Standard, whose endpoint
+-- `localStorage` has a quota of 5 mebibytes.
+-- Our own choice: a new name stands last and a removal keeps the order, where HTML leaves both
+-- orders open. The quota counts the UTF-8 bytes of all names and values.
 use Rattle.std.specs.Prelude.{ℕ, ◌+◌, Bool, not, List, [], ◌∷◌, ◌++◌, map, filter, find, length, sum_by, slice_get, bytes_eq, Option, option_map, is_some, if◌then◌else◌}
 use Rattle.std.specs.List.{IsDistinct}
 

@@ -1,13 +1,13 @@
 -- The grammar answers only faults of the text: neither a fault of the source nor want of memory.
-use Rattle.std.proofs.Common.{◌≡◌, ℕ, ◌+◌, Bool, true, false, cond, not, List, [], ◌∷◌, Option}
-use Rattle.std.proofs.Common.{Some, None, Result, Ok, Err, IfErr, map, refl, find, bytes_eq, length}
+use Rattle.std.proofs.Common.{ℕ, ◌+◌, Bool, true, false, cond, not, List, [], ◌∷◌, Option}
+use Rattle.std.proofs.Common.{Some, None, Result, Ok, Err, IfErr, map, find, bytes_eq, length}
 use Rattle.std.proofs.Common.{option_and_then}
-use Rattle.std.specs.Prelude.{codes, nat_lt, option_to_list}
+use Rattle.std.specs.Prelude.{codes, nat_lt}
 use Rattle.std.specs.Str.{is_utf8}
 use Rattle.serde_json.specs.Data.{Data}
 use Rattle.serde_json.specs.Find.{get, as_str}
 use Rattle.serde_json.specs.Read.{read}
-use Rattle.script_lines.specs.Script.{PlainAction, PlainLine, PlainFault, NotJson, UnknownAction}
+use Rattle.script_lines.specs.Script.{PlainFault, NotJson, UnknownAction}
 use Rattle.script_lines.specs.Script.{BadField, LineTooLong, TooLong, NotUtf8, ReadFault, NoMemory}
 use Rattle.script_lines.specs.Grammar.{Field, Row, action_by, action_named, action_of_bytes}
 use Rattle.script_lines.specs.Grammar.{field_by, fields_of, first_unknown, is_blank, json_of}

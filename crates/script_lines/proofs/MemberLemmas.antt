@@ -1,9 +1,8 @@
 -- The names of an object's members, as the map of its entries has them.
 use Rattle.std.proofs.Common.{◌≡◌, ℕ, Bool, true, false, cond, ◌||◌, List, [], ◌∷◌, map, Option}
-use Rattle.std.proofs.Common.{Some, None, option_map, find, String, string_bytes, refl, ap, ◌∙◌}
+use Rattle.std.proofs.Common.{Some, option_map, find, String, string_bytes, refl, ap}
 use Rattle.std.specs.declared.alloc.Global.{Global}
 use Rattle.std.specs.List.{list_any}
-use Rattle.serde_json.specs.Data.{Data}
 use Rattle.serde_json.specs.View.{members_view}
 use Rattle.serde_json.specs.declared.value.Value.{Value}
 use Rattle.script_lines.specs.Grammar.{member_names}

@@ -1,5 +1,5 @@
 -- Values of the script and reply formats, so that a wrong rule in the specs does not check.
-use Rattle.std.proofs.Common.{◌≡◌, ◌∙◌, refl, ap, length, ℕ, ◌+◌, List, [], ◌∷◌, ◌++◌, replicate}
+use Rattle.std.proofs.Common.{◌≡◌, ◌∙◌, refl, ap, length, ℕ, List, [], ◌∷◌}
 use Rattle.std.proofs.Common.{Some, None, Result, Ok, Err, true, false}
 use Rattle.std.specs.Prelude.{codes, nat_lt, not}
 use Rattle.std.proofs.lemmas.Bool.{cond-true, cond-false}

@@ -18,10 +18,11 @@ use Rattle.script_lines.specs.Script.{PlainAction, Open, Set, Get, PlainLine, Pl
 use Rattle.script_lines.specs.Script.{PlainFault, NotJson, UnknownAction, BadField, LineTooLong}
 use Rattle.script_lines.specs.Script.{TooLong, NotUtf8}
 
--- the most bytes of a script, and of a line without its end
+-- the most bytes of a script
 abbrev pub script_limit : ℕ
 script_limit = 16777216
 
+-- the most bytes of a line without its end
 abbrev pub line_limit : ℕ
 line_limit = 1048576
 
@@ -68,11 +69,12 @@ abbrev pub Meanings : List Field → Type 0
 Meanings [] = Unit {0}
 Meanings (field ∷ fields) = Meaning field.kind × Meanings fields
 
--- what a line's member stands for, or the fault of that member
+-- the value of a member, or the fault of that member where there is none
 abbrev pub field_by : {A : Type 0} → ℕ → List ℕ → Option A → Result A PlainFault
 field_by number name (Some value) = Ok value
 field_by number name None = Err (BadField number name)
 
+-- what a line's member stands for, or its fault
 abbrev pub field_of : ℕ → (field : Field) → Data → Result (Meaning field.kind) PlainFault
 field_of number field line =
     field_by number field.name (option_and_then (meaning field.kind) (get field.name line))
@@ -90,6 +92,7 @@ abbrev pub member_names : Members → List (List ℕ)
 member_names no_members = []
 member_names (member name value members) = name ∷ member_names members
 
+-- the names of a line's members; a line that is no object has none
 abbrev pub names_of : Data → List (List ℕ)
 names_of line = unwrap_or (option_map member_names (as_object line)) []
 
@@ -105,6 +108,7 @@ pub record Row : Type 0 where
 abbrev pub top : ℕ → Label
 top tab = record { tab = tab; frame = 0 }
 
+-- `open`: a document in a tab
 abbrev pub open_row : Row
 open_row = record {
   name = codes "open";
@@ -112,6 +116,7 @@ open_row = record {
   action = λ (tab, (url, _)). Open tab url;
 }
 
+-- `set`: a pair of a local area
 abbrev pub set_row : Row
 set_row = record {
   name = codes "set";
@@ -120,6 +125,7 @@ set_row = record {
   action = λ (tab, (key, (value, _))). Set (top tab) key value;
 }
 
+-- `get`: a value of a local area
 abbrev pub get_row : Row
 get_row = record {
   name = codes "get";

@@ -1,8 +1,11 @@
 -- What contracts see of the types of this crate: the bytes of texts, the items of lists.
 use Rattle.std.specs.Prelude.{◌≡◌, ◌⊎◌, map, option_map, string_bytes, Result, Ok, Err, MatchResult}
+use Rattle.std.specs.Prelude.{ℕ, List, Option}
+use Rattle.agent_base.specs.Streams.{Gives}
 use Rattle.origin_site.specs.Plain.{plain_address, plain_site}
 use Rattle.script_lines.specs.Script.{PlainAction, PlainLine, PlainScript, PlainFault}
 use Rattle.script_lines.specs.Script as plain
+use Rattle.script_lines.specs.Grammar.{script_of_bytes}
 use Rattle.script_lines.specs.Reply.{PlainBody, PlainReply}
 use Rattle.script_lines.specs.Reply as plain_reply
 use Rattle.script_lines.specs.declared.script.Action.{Action}
@@ -50,10 +53,16 @@ Reads plain expected result =
     (λ why. (why ≡ NoMemory) ⊎ (expected ≡ Err (fault_of why)))
 
 -- the same of a reader over a source, which answers a fault of the source, too
-abbrev pub ReadsSource : {T P : Type 0} → (T → P) → Result P PlainFault → Result T ScriptFault → Type 0
+abbrev pub ReadsSource : {T P : Type 0}
+    → (T → P) → Result P PlainFault → Result T ScriptFault → Type 0
 ReadsSource plain expected result =
     MatchResult result (λ value. expected ≡ Ok (plain value))
     (λ why. (why ≡ ReadFault) ⊎ ((why ≡ NoMemory) ⊎ (expected ≡ Err (fault_of why))))
+
+-- the source gave bytes that are this, as a script
+abbrev pub GaveScript : Option (List ℕ) → Option (List ℕ) → Result PlainScript PlainFault → Type 0
+GaveScript old new script =
+    (bytes : List ℕ) × Gives old new bytes × (script_of_bytes bytes ≡ script)
 
 -- what a reply answers
 abbrev pub body_of : ReplyBody → PlainBody

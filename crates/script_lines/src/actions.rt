@@ -1,5 +1,5 @@
 //! The actions of the table, each read by its row.
-ghost use Rattle.std.specs.Prelude.{◌≡◌, codes};
+ghost use Rattle.std.specs.Prelude.{◌≡◌};
 ghost use Rattle.serde_json.specs.View.{view};
 ghost use Rattle.script_lines.specs.Grammar.{action_by_row, action_of_data, get_row, open_row};
 ghost use Rattle.script_lines.specs.Grammar.{set_row};

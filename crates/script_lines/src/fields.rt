@@ -1,5 +1,5 @@
 //! The members of a line, each by what it has to be.
-ghost use Rattle.std.specs.Prelude.{◌≡◌, ◌⊎◌, bytes_eq, codes, find, map, not, option_copied};
+ghost use Rattle.std.specs.Prelude.{◌≡◌, ◌⊎◌, bytes_eq, find, map, not, option_copied};
 ghost use Rattle.std.specs.Prelude.{option_map, string_bytes};
 ghost use Rattle.std.specs.BTreeMap.{keys};
 ghost use Rattle.std.specs.List.{list_any};
@@ -88,7 +88,8 @@ fn first_unknown<'a>(line: &'a Value, known: &[&str]) -> Option<&'a String>
 
 fn unknown_member<'a>(members: &'a Map<String, Value>, known: &[&str]) -> Option<&'a String>
     ensures { option_copied result
-        ≡ find (λ s. not (spec.is_known (map (λ k. k.now) known.now) (string_bytes s))) (keys members.now) }
+        ≡ find (λ s. not (spec.is_known (map (λ k. k.now) known.now) (string_bytes s)))
+        (keys members.now) }
 {
     members.keys().find(|name| !is_known(known, name.as_str()))
 }

@@ -1,17 +1,19 @@
 //! Reading a script.
-ghost use Rattle.std.specs.Prelude.{◌≡◌, ◌≤◌, ◌<◌, ◌∷◌, ◌++◌, ◌+◌, [], IfOk, IsErrOf, List, OnOk};
-ghost use Rattle.std.specs.Prelude.{Ok, ℕ, ◌==◌, IfSome, MatchOption, MatchResult, option_to_list};
+ghost use Rattle.std.specs.Prelude.{◌≡◌, ◌≤◌, ◌<◌, ◌∷◌, ◌++◌, ◌+◌, IfErr, IfOk, IsErrOf, OnOk};
+ghost use Rattle.std.specs.Prelude.{[], Ok, Err, ◌==◌, ◌⊎◌, IfSome, MatchOption, MatchResult};
+ghost use Rattle.std.specs.Prelude.{option_to_list};
 ghost use Rattle.std.specs.Prelude.{false, position, true, length, map, option_copied, option_map};
 ghost use Rattle.std.specs.Str.{is_utf8};
 ghost use Rattle.agent_base.specs.Counts.{Rose};
-ghost use Rattle.agent_base.specs.Streams.{Gives, Shortens};
+ghost use Rattle.agent_base.specs.Streams.{Shortens};
 ghost use Rattle.serde_json.specs.Read.{read};
 ghost use Rattle.serde_json.specs.View.{view};
 ghost use Rattle.script_lines.specs.Grammar as spec;
 ghost use Rattle.script_lines.specs.Grammar.{action_of_bytes, json_of, line_of_bytes, lines_from};
 ghost use Rattle.script_lines.specs.Grammar.{lines_of, script_limit, script_of_bytes};
 ghost use Rattle.script_lines.specs.Pieces.{lines_after};
-ghost use Rattle.script_lines.specs.Plain.{Reads, ReadsSource, action_of, line_of, script_of};
+ghost use Rattle.script_lines.specs.Plain.{GaveScript, Reads, ReadsSource, action_of, fault_of};
+ghost use Rattle.script_lines.specs.Plain.{line_of, script_of};
 
 use crate::actions::read_action;
 use crate::{Action, Line, Script, ScriptFault};
@@ -21,14 +23,16 @@ use std::alloc::Global;
 use std::str;
 
 impl Script {
-    /// Reads the script that the bytes of a source are, in time linear in their number. Only after
-    /// an `Ok` and a fault of the text has the source surely been read to its end.
+    /// Reads the script that the bytes of a source are, in time linear in their number. Of several
+    /// faults the first is answered.
     pub fn read<S: Source>(alloc: Global, source: &mut S) -> Result<Script, ScriptFault>
         ensures answer { IfSome (S.left source.old)
             (λ bytes. ReadsSource script_of (script_of_bytes bytes) result) }
-        ensures given { IfOk result (λ s. (bytes : List ℕ)
-            × Gives (S.left source.old) (S.left source.new) bytes
-            × (script_of_bytes bytes ≡ Ok (script_of s))) }
+        ensures given { IfOk result
+            (λ s. GaveScript (S.left source.old) (S.left source.new) (Ok (script_of s))) }
+        ensures refused { IfErr result (λ why. (why ≡ ScriptFault.NoMemory)
+            ⊎ ((why ≡ ScriptFault.ReadFault) ⊎ ((why ≡ ScriptFault.TooLong)
+            ⊎ GaveScript (S.left source.old) (S.left source.new) (Err (fault_of why))))) }
         ensures end { OnOk result (IfSome (S.left source.new) (λ rest. rest ≡ [])) }
         ensures cause { IsErrOf result ScriptFault.ReadFault
             → Rose (S.faults source.old) (S.faults source.new) }

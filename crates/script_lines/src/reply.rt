@@ -1,6 +1,6 @@
 //! Replies.
 
-ghost use Rattle.std.specs.Prelude.{◌≡◌, IfOk, List, map, option_map, string_bytes};
+ghost use Rattle.std.specs.Prelude.{◌≡◌, IfOk, map, option_map, string_bytes};
 ghost use Rattle.serde_json.specs.Data.{array, object, string};
 ghost use Rattle.serde_json.specs.View.{items_of, view};
 ghost use Rattle.serde_json.specs.Written.{compact_text};
@@ -203,7 +203,8 @@ fn text_or_null(alloc: Global, text: &Option<String>) -> Result<Value, NoMemory>
 }
 
 fn texts(alloc: Global, list: &[&str]) -> Result<Value, NoMemory>
-    ensures { IfOk result (λ v. view v ≡ array (items_of (map string (map (λ t. t.now) list.now)))) }
+    ensures { IfOk result
+        (λ v. view v ≡ array (items_of (map string (map (λ t. t.now) list.now)))) }
 {
     let mut out = Vec::new(alloc);
     for text in list {

@@ -28,16 +28,28 @@ fn first_fault_of_a_script(rt: HostRuntime) -> Result<(), Fail> {
     let alloc = rt.alloc();
     for (text, want) in [
         (&b"x"[..], ScriptFault::NotJson(1)),
-        (&b"\n \t\r\n{\"do\":\"tock\",\"a\":1}\nx"[..], ScriptFault::UnknownAction(3)),
+        (
+            &b"\n \t\r\n{\"do\":\"tock\",\"a\":1}\nx"[..],
+            ScriptFault::UnknownAction(3),
+        ),
         (&b"[]\n"[..], bad(alloc, 1, "do")?),
-        (&b"{\"do\":\"open\",\"tab\":1.0,\"z\":0}"[..], bad(alloc, 1, "tab")?),
-        (&b"{\"do\":\"get\",\"tab\":1,\"z\":0}"[..], bad(alloc, 1, "key")?),
-        (&b"{\"do\":\"get\",\"tab\":1,\"key\":\"\",\"z\":0,\"a\":0}"[..], bad(alloc, 1, "a")?),
+        (
+            &b"{\"do\":\"open\",\"tab\":1.0,\"z\":0}"[..],
+            bad(alloc, 1, "tab")?,
+        ),
+        (
+            &b"{\"do\":\"get\",\"tab\":1,\"z\":0}"[..],
+            bad(alloc, 1, "key")?,
+        ),
+        (
+            &b"{\"do\":\"get\",\"tab\":1,\"key\":\"\",\"z\":0,\"a\":0}"[..],
+            bad(alloc, 1, "a")?,
+        ),
         (&b"\n\"\xff\""[..], ScriptFault::NotUtf8(2)),
     ] {
         match read(alloc, text)? {
             Ok(_) => assert!(rt; false),
-            Err(why) => assert!(rt; why == want, "{why:?}"),
+            Err(why) => assert!(rt; why.copy(alloc)? == want, "{why:?}"),
         }
     }
     Ok(())
@@ -49,7 +61,8 @@ fn lines_of_a_script(rt: HostRuntime) -> Result<(), Fail> {
     let script = read(
         alloc,
         b"{\"do\":\"open\",\"tab\":65535,\"url\":\"https://a.test\"}\r\n\n{\"key\":\"k\",\"do\":\"get\",\"tab\":1}",
-    )??;
+    )??
+    .copy(alloc)?;
     assert_eq!(rt; script.lines.len(), 2);
     let [first, last] = script.lines.as_slice() else {
         return Ok(());
@@ -105,7 +118,8 @@ fn printed(
         }
         None => None,
     };
-    Ok(print(alloc, &Reply { name, site, body })?)
+    let reply = Reply { name, site, body };
+    Ok(print(alloc, &reply.copy(alloc)?)?)
 }
 
 #[test]
@@ -117,7 +131,12 @@ fn lines_of_replies(rt: HostRuntime) -> Result<(), Fail> {
     set.push("empty")?;
     for (line, want) in [
         (
-            printed(alloc, "set", Some("https://x.a.test:1/"), ReplyBody::Plain { is: "ok" })?,
+            printed(
+                alloc,
+                "set",
+                Some("https://x.a.test:1/"),
+                ReplyBody::Plain { is: "ok" },
+            )?,
             "{\"do\":\"set\",\"is\":\"ok\",\"site\":\"https://a.test\"}\n",
         ),
         (
@@ -125,15 +144,30 @@ fn lines_of_replies(rt: HostRuntime) -> Result<(), Fail> {
             "{\"do\":\"open\",\"is\":\"tab-exists\",\"site\":null}\n",
         ),
         (
-            printed(alloc, "get", Some("http://a.test"), ReplyBody::Text { value: found })?,
+            printed(
+                alloc,
+                "get",
+                Some("http://a.test"),
+                ReplyBody::Text { value: found },
+            )?,
             "{\"do\":\"get\",\"is\":\"ok\",\"site\":\"http://a.test\",\"value\":\"a\\\"\u{e9}\\n\"}\n",
         ),
         (
-            printed(alloc, "get", Some("http://a.test"), ReplyBody::Text { value: None })?,
+            printed(
+                alloc,
+                "get",
+                Some("http://a.test"),
+                ReplyBody::Text { value: None },
+            )?,
             "{\"do\":\"get\",\"is\":\"ok\",\"site\":\"http://a.test\",\"value\":null}\n",
         ),
         (
-            printed(alloc, "open", Some("https://a.test"), ReplyBody::Load { cookie: None, set })?,
+            printed(
+                alloc,
+                "open",
+                Some("https://a.test"),
+                ReplyBody::Load { cookie: None, set },
+            )?,
             "{\"cookie\":null,\"do\":\"open\",\"is\":\"ok\",\"set\":[\"added\",\"empty\"],\"site\":\"https://a.test\"}\n",
         ),
     ] {

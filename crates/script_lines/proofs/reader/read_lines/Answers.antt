@@ -1,4 +1,4 @@
-use Rattle.std.proofs.Common.{◌≡◌, ◌⊎◌, ℕ, ◌+◌, ◌<◌, ◌≤◌, ◌∷◌, [], length, Err, IfSome, option_copied, arith, ap, inl, inr, subst, rules, ⊎_elim, ◌∙◌, map}
+use Rattle.std.proofs.Common.{◌≡◌, ◌⊎◌, ◌+◌, ◌<◌, ◌∷◌, [], length, Err, IfSome, option_copied, arith, ap, inl, inr, subst, rules, ⊎_elim, ◌∙◌, map}
 use Rattle.script_lines.specs.Grammar.{lines_from, lines_of}
 use Rattle.script_lines.specs.Pieces.{lines_after}
 use Rattle.script_lines.specs.Plain.{line_of, fault_of}

@@ -1,0 +1,11 @@
+mod StandardFacts
+pub mod CutsLemmas
+pub mod DaysLemmas
+pub mod DigitsLemmas
+pub mod FoundLemmas
+pub mod KindLemmas
+pub mod MonthsLemmas
+pub mod PlainLemmas
+pub mod SeenLemmas
+pub mod SliceLemmas
+pub mod SplitsLemmas

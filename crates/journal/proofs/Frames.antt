@@ -1,0 +1,70 @@
+-- Frames and head of a file of which some bytes stay.
+use Rattle.std.proofs.Common.{◌≡◌, inl, inr, ℕ, ◌+◌, ◌≤◌, ◌<◌, Bool, true, false, List, [], ◌∷◌, ◌++◌, length, arith, refl, sym, ◌∙◌, subst, length-append}
+use Rattle.std.specs.Prelude.{replicate}
+use Rattle.std.specs.Int.{w64, to_le_bytes}
+use Rattle.journal.specs.Append.{Same}
+use Rattle.journal.specs.Store.{IsClosed, IsOpen, Frame, encoded, frame_len, frames_len, FramesAt, slot_bytes, IsOlder, magic, version_bytes, Head, last_of}
+use Rattle.journal.proofs.Ranges.{same_within, holds_same}
+
+pub length-encoded : (f : Frame) → length (encoded f) ≡ 17 + length f.body
+unfolding encoded
+length-encoded f = omega (arith, length-append (to_le_bytes w64 f.last) (to_le_bytes w64 (length f.body) ++ f.body), length-append (to_le_bytes w64 (length f.body)) f.body)
+
+pub open_same : (a b at : ℕ) (x y : List ℕ) → a ≤ at → at < b → Same a b x y → IsOpen x at → IsOpen y at
+open_same a b at x y from below same is = (omega (arith, same.there), λ e. is.1 (sym (same.each at from below) ∙ e))
+
+pub closed_same : (a b at : ℕ) (x y : List ℕ) → a ≤ at → at < b → Same a b x y → IsClosed x at → IsClosed y at
+closed_same a b at x y from below same is = (omega (arith, same.there), same.each at from below ∙ is.1)
+
+-- the frames stay where their bytes stay, and others may stand behind them
+pub frames_onto : (frames more : List Frame) (old new : List ℕ) (at end : ℕ) → end ≡ at + frames_len frames → FramesAt old at frames → Same at end old new → FramesAt new end more → FramesAt new at (frames ++ more)
+frames_onto [] more old new at end is at_old same then =
+    let here : end ≡ at = omega arith in
+    subst (λ (k : ℕ). FramesAt new k more) here then
+frames_onto (f ∷ frames) more old new at end is at_old same then =
+    let size = length-encoded f in (
+      open_same at end at old new (omega arith) (omega arith) same at_old.0,
+      holds_same at end (at + 1) (encoded f) old new (omega arith) (omega arith) same at_old.1,
+      frames_onto frames more old new (at + frame_len f) end (omega arith) at_old.2 (same_within at end (at + frame_len f) end old new (omega arith) (omega arith) same) then,
+    )
+
+-- the closed gate behind them
+pub frames_end : (frames : List Frame) (file : List ℕ) (at end : ℕ) → end ≡ at + frames_len frames → FramesAt file at frames → IsClosed file end
+frames_end [] file at end is here = let same : at ≡ end = omega arith in subst (λ (k : ℕ). IsClosed file k) same here
+frames_end (f ∷ frames) file at end is here = frames_end frames file (at + frame_len f) end (omega arith) here.2
+
+pub frames_len-append : (frames more : List Frame) → frames_len (frames ++ more) ≡ frames_len frames + frames_len more
+frames_len-append [] more = omega arith
+frames_len-append (f ∷ frames) more = omega (arith, frames_len-append frames more)
+
+pub last_of-push : (before : ℕ) (frames : List Frame) (f : Frame) → last_of before (frames ++ f ∷ []) ≡ f.last
+last_of-push before [] f = refl
+last_of-push before (g ∷ frames) f = last_of-push g.last frames f
+
+older_same : (at number : ℕ) (x y : List ℕ) → at + 17 ≤ 128 → Same 0 128 x y → IsOlder x at number → IsOlder y at number
+older_same at number x y within same (inl shut) = inl (closed_same 0 128 at x y (omega arith) (omega arith) same shut)
+older_same at number x y within same (inr o) = inr (o.0, o.1, open_same 0 128 at x y (omega arith) (omega arith) same o.2, o.3, holds_same 0 128 (at + 1) (slot_bytes o.0 o.1) x y (omega arith) (omega arith) same o.4)
+
+pub head_same : (digest x y : List ℕ) (live : Bool) (number begin : ℕ) → Same 0 128 x y → Head digest x live number begin → Head digest y live number begin
+head_same digest x y true number begin same h = record {
+  gate = open_same 0 128 0 x y (omega arith) (omega arith) same h.gate;
+  name = holds_same 0 128 1 magic x y (omega arith) (omega arith) same h.name;
+  version = holds_same 0 128 8 version_bytes x y (omega arith) (omega arith) same h.version;
+  digest_size = h.digest_size;
+  digest_at = holds_same 0 128 12 digest x y (omega arith) (omega (arith, h.digest_size)) same h.digest_at;
+  slot = open_same 0 128 61 x y (omega arith) (omega arith) same h.slot;
+  slot_says = holds_same 0 128 62 (slot_bytes number begin) x y (omega arith) (omega arith) same h.slot_says;
+  older = older_same 44 number x y (omega arith) same h.older;
+  zero = holds_same 0 128 78 (replicate 50 0) x y (omega arith) (omega arith) same h.zero;
+}
+head_same digest x y false number begin same h = record {
+  gate = open_same 0 128 0 x y (omega arith) (omega arith) same h.gate;
+  name = holds_same 0 128 1 magic x y (omega arith) (omega arith) same h.name;
+  version = holds_same 0 128 8 version_bytes x y (omega arith) (omega arith) same h.version;
+  digest_size = h.digest_size;
+  digest_at = holds_same 0 128 12 digest x y (omega arith) (omega (arith, h.digest_size)) same h.digest_at;
+  slot = open_same 0 128 44 x y (omega arith) (omega arith) same h.slot;
+  slot_says = holds_same 0 128 45 (slot_bytes number begin) x y (omega arith) (omega arith) same h.slot_says;
+  older = older_same 61 number x y (omega arith) same h.older;
+  zero = holds_same 0 128 78 (replicate 50 0) x y (omega arith) (omega arith) same h.zero;
+}

@@ -1,0 +1,67 @@
+-- A journal, as contracts see it, and what it and its disk owe each other between two calls.
+-- Our own choice: the journal keeps no frames. `Stands` says of a file which frames it has.
+use Rattle.std.specs.Prelude.{◌≡◌, ℕ, ◌+◌, ◌-◌, ◌%◌, ◌^◌, ◌<◌, ◌≤◌, Bool, true, false, List, [], ◌∷◌, ◌++◌, ◌⊎◌, Some}
+use Rattle.disk_model.specs.Disk.{View, IsSettled}
+use Rattle.journal.specs.Store.{Frame, IsStore, Head, FramesAt, AreSized, frames_len, last_of, base_of}
+
+-- what an open journal knows of its file, and the room it has for a frame
+pub record JournalView : Type 0 where
+  -- the digest of the suffix list under which the store was opened
+  pub digest : List ℕ
+  -- the live slot: the second or the first; its number; where its region begins
+  pub live : Bool
+  pub number : ℕ
+  pub begin : ℕ
+  -- where the live region's closed gate stands
+  pub end : ℕ
+  -- the number of changes since the store was made, and when the live region began
+  pub changes : ℕ
+  pub base : ℕ
+  -- a device call failed: no call may follow
+  pub shut : Bool
+  -- a frame of so many bytes takes no memory
+  pub room : ℕ
+
+-- the number of changes in the frames of the live region that are no snapshot, modulo 2^64
+abbrev pub since_of : JournalView → ℕ
+since_of journal = (journal.changes + (2 ^ 64 - journal.base)) % 2 ^ 64
+
+-- the file is the journal's store, with these frames
+pub record Stands (journal : JournalView) (file : List ℕ) (frames : List Frame) : Type 0 where
+  pub head : Head journal.digest file journal.live journal.number journal.begin
+  pub from : 128 ≤ journal.begin
+  pub fits : journal.begin < 2 ^ 64
+  pub frames_at : FramesAt file journal.begin frames
+  pub sized : AreSized frames
+  pub end : journal.end ≡ journal.begin + frames_len frames
+  pub last : journal.changes ≡ last_of 0 frames
+  pub base : journal.base ≡ base_of frames
+
+-- the disk is as the journal left it: nothing is pending, and what it tells is the journal's store
+pub record IsAtRest (journal : JournalView) (view : View) : Type 0 where
+  pub settled : IsSettled view
+  pub stands : (c : List ℕ) → view.contents ≡ Some c → (frames : List Frame) × Stands journal c frames
+
+-- a commit or a checkpoint with a body of so many bytes takes no memory
+pub record HasRoom (journal : JournalView) (view : View) (body : ℕ) : Type 0 where
+  pub block : body + 19 ≤ journal.room
+  pub end : journal.end + body + 20 ≤ view.room_end
+  pub head : 129 ≤ view.room_end
+  pub fits : journal.end + body + 148 < 2 ^ 64
+  pub writes : 4 ≤ view.room_writes
+
+-- the frame that a commit writes
+abbrev pub next_frame : JournalView → List ℕ → ℕ → Frame
+next_frame journal body changes = record { snapshot = false; last = (journal.changes + changes) % 2 ^ 64; body = body }
+
+-- the frame that a checkpoint writes
+abbrev pub snapshot_frame : JournalView → List ℕ → Frame
+snapshot_frame journal body = record { snapshot = true; last = journal.changes; body = body }
+
+-- a store with these frames, or with one more
+abbrev pub IsBeforeOrAfter : List ℕ → List Frame → Frame → List ℕ → Type 0
+IsBeforeOrAfter digest frames f file = IsStore digest file frames ⊎ IsStore digest file (frames ++ f ∷ [])
+
+-- a store with these frames, or with the snapshot alone
+abbrev pub IsBeforeOrSnapshot : List ℕ → List Frame → Frame → List ℕ → Type 0
+IsBeforeOrSnapshot digest frames f file = IsStore digest file frames ⊎ IsStore digest file (f ∷ [])

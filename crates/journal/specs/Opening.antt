@@ -1,0 +1,69 @@
+-- What an opening does to a file, and why it is refused.
+-- Our own choice: a store over 1,073,741,824 bytes is refused where a limit is asked for; this is
+-- looked at first. Then comes whether the file is unborn, then the head, then the region.
+use Rattle.std.specs.Prelude.{◌≡◌, ◌⊎◌, ℕ, ◌^◌, ◌<◌, ◌≤◌, Bool, true, List, [], length, slice_index, nat_le, nat_eq, if◌then◌else◌}
+use Rattle.journal.specs.Store.{IsOpen, IsStore, IsUnborn, Head}
+use Rattle.journal.specs.Region.{TakesOf, RefusesOf, IsFault}
+use Rattle.journal.specs.HeadFault.{IsHeadFault, IsOtherList}
+use Rattle.journal.specs.declared.open_fault.OpenFault.{OpenFault}
+use Rattle.journal.specs.declared.open_fault.OpenFault.TheVariants.{DeviceFault, NotAStore, OtherList, TooLarge, NoMemory}
+
+-- the greatest length under a limit
+abbrev pub limit : ℕ
+limit = 1073741824
+
+-- the file may be looked at: no limit is asked for, or it keeps to it
+abbrev pub IsWithin : Bool → List ℕ → Type 0
+IsWithin limited file = limited ≡ true → length file ≤ limit
+
+-- the file is no store, and this is its first fault
+abbrev pub IsStoreFault : {S : Type 0} → TakesOf S → RefusesOf S → S → List ℕ → List ℕ → ℕ → Type 0
+IsStoreFault {S} takes refuses empty digest file offset =
+    IsHeadFault digest file offset
+    ⊎ ((live : Bool) × (number : ℕ) × (begin : ℕ) × Head digest file live number begin × (128 ≤ begin)
+    × (begin < length file) × (begin < 2 ^ 64)
+    × IsFault takes refuses file begin empty offset)
+
+-- want of memory, and a device fault: they say nothing of the file
+abbrev pub IsExcused : OpenFault → Type 0
+IsExcused DeviceFault = Unit {0}
+IsExcused NoMemory = Unit {0}
+IsExcused (NotAStore offset) = ⊥
+IsExcused (OtherList kept given) = ⊥
+IsExcused (TooLarge len) = ⊥
+
+-- the other refusals are of a file
+abbrev pub IsOfFile : OpenFault → Type 0
+IsOfFile DeviceFault = ⊥
+IsOfFile NoMemory = ⊥
+IsOfFile (NotAStore offset) = Unit {0}
+IsOfFile (OtherList kept given) = Unit {0}
+IsOfFile (TooLarge len) = Unit {0}
+
+-- why a born file is refused
+abbrev pub IsStoreRefusal : {S : Type 0} → TakesOf S → RefusesOf S → S → List ℕ → List ℕ → OpenFault → Type 0
+IsStoreRefusal takes refuses empty digest file (NotAStore offset) = IsStoreFault takes refuses empty digest file offset
+IsStoreRefusal takes refuses empty digest file (OtherList kept given) = (given ≡ digest) × IsOtherList digest file kept
+IsStoreRefusal takes refuses empty digest file (TooLarge len) = ⊥
+IsStoreRefusal takes refuses empty digest file DeviceFault = ⊥
+IsStoreRefusal takes refuses empty digest file NoMemory = Unit {0}
+
+-- why an opening is refused
+abbrev pub IsRefusal : {S : Type 0} → TakesOf S → RefusesOf S → S → Bool → List ℕ → List ℕ → OpenFault → Type 0
+IsRefusal takes refuses empty limited digest file (TooLarge len) = (limited ≡ true)
+    × (len ≡ length file) × (limit < len)
+IsRefusal takes refuses empty limited digest file (NotAStore offset) =
+    IsWithin limited file × IsOpen file 0 × (1 < length file) × IsStoreFault takes refuses empty digest file offset
+IsRefusal takes refuses empty limited digest file (OtherList kept given) =
+    IsWithin limited file × IsOpen file 0 × (1 < length file) × (given ≡ digest) × IsOtherList digest file kept
+IsRefusal takes refuses empty limited digest file DeviceFault = Unit {0}
+IsRefusal takes refuses empty limited digest file NoMemory = Unit {0}
+
+-- what a cut during an opening leaves: the file as it was, or of an unborn file an unborn one or a
+-- store without frames
+abbrev pub IsOpening : List ℕ → List ℕ → List ℕ → Type 0
+IsOpening digest old new = (new ≡ old) ⊎ (IsUnborn old × (IsUnborn new ⊎ IsStore digest new []))
+
+-- how many changing calls an opening makes
+abbrev pub opening_calls : List ℕ → ℕ
+opening_calls file = if nat_le (length file) 1 then 7 else if nat_eq (slice_index file 0) 0 then 5 else 1

@@ -1,0 +1,68 @@
+// Numbers and frames in the bytes of a store.
+ghost use Rattle.std.specs.Prelude.{◌≡◌, ◌+◌, ◌<◌, ◌≤◌, List, ℕ, length};
+ghost use Rattle.std.specs.Int.{w64, to_le_bytes};
+ghost use Rattle.disk_model.specs.Disk.{Holds};
+ghost use Rattle.journal.specs.Read.{IsRead};
+
+// The number of eight bytes there.
+pub fn number_at(bytes: &[u8], at: usize) -> u64
+    requires { at + 8 ≤ length bytes.now }
+    ensures { Holds bytes.now at (to_le_bytes w64 result) }
+{
+    u64::from_le_bytes([
+        bytes[at],
+        bytes[at + 1],
+        bytes[at + 2],
+        bytes[at + 3],
+        bytes[at + 4],
+        bytes[at + 5],
+        bytes[at + 6],
+        bytes[at + 7],
+    ])
+}
+
+/// What stands at an offset of a region.
+#[derive(Clone, Copy)]
+pub enum Read {
+    /// A closed gate.
+    End,
+    /// No gate, or a frame that passes the end.
+    Cut,
+    /// A wrong kind.
+    Kind,
+    /// Changes without a body.
+    Empty,
+    /// A frame: whether it is a snapshot, its number and its body's size.
+    Whole(bool, u64, usize),
+}
+
+/// Finds what stands at an offset, with the first three faults of a frame.
+pub fn frame_at(bytes: &[u8], at: usize, fresh: bool) -> Read
+    ensures { IsRead bytes.now at fresh result }
+{
+    if at >= bytes.len() {
+        return Read::Cut;
+    }
+    if bytes[at] == 0 {
+        return Read::End;
+    }
+    if bytes.len() - at < 18 {
+        return Read::Cut;
+    }
+    let size = number_at(bytes, at + 10);
+    if size > (bytes.len() - at - 18) as u64 {
+        return Read::Cut;
+    }
+    let last = number_at(bytes, at + 2);
+    let kind = bytes[at + 1];
+    if kind == 1 {
+        if size == 0 {
+            return Read::Empty;
+        }
+        return Read::Whole(false, last, size as usize);
+    }
+    if kind == 2 && fresh {
+        return Read::Whole(true, last, size as usize);
+    }
+    Read::Kind
+}

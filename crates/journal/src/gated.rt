@@ -1,0 +1,87 @@
+// A block is appended behind a closed gate, which is opened once the block is on the disk.
+ghost use Rattle.std.specs.Prelude.{◌≡◌, ◌+◌, ◌<◌, ◌≤◌, ◌^◌, ◌-◌, min, ◌∷◌, List, ℕ, length, Some, IfOk, OnOk};
+ghost use Rattle.disk_model.specs.Disk.{Written, Goes, IsSettled, LeavesOnly, Counts, UsesRoom};
+ghost use Rattle.journal.specs.Append.{IsAppending, IsStaging, IsStaged, IsReady, IsSettling, settle_calls};
+
+use agent_base::Failed;
+use disk_model::Disk;
+
+/// Writes a block behind the gate, and then opens it.
+pub fn append<D: Disk>(disk: &mut D, gate: u64, block: &[u8]) -> Result<(), Failed>
+    requires settled { IsSettled (D.view disk.old) }
+    requires place { (c : List ℕ) → (D.view disk.old).contents ≡ Some c → gate + 1 ≤ length c }
+    requires room { gate + 1 + length block.now ≤ (D.view disk.old).room_end }
+    requires writes { 2 ≤ (D.view disk.old).room_writes }
+    requires some { 0 < length block.now }
+    requires fits { gate + 1 + length block.now < 18446744073709551616 }
+    ensures written { OnOk result (Goes (Written gate (1 ∷ block.now)) (D.view disk.old).contents (D.view disk.new).contents) }
+    ensures settled { OnOk result (IsSettled (D.view disk.new)) }
+    ensures any_moment { (c : List ℕ) → (D.view disk.old).contents ≡ Some c
+        → LeavesOnly (D.view disk.old) (D.view disk.new) (IsAppending gate block.now c) }
+    ensures faults { Counts result (D.view disk.old) (D.view disk.new) }
+    ensures calls { (D.view disk.new).changing ≤ (D.view disk.old).changing + 4 }
+    ensures all_calls { OnOk result (min ((D.view disk.old).changing + 4) (2 ^ 64 - 1) ≤ (D.view disk.new).changing) }
+    ensures room { UsesRoom 2 (D.view disk.old) (D.view disk.new) }
+{
+    disk.write_at(gate + 1, block)?;
+    disk.sync()?;
+    disk.write_at(gate, &[1])?;
+    disk.sync()
+}
+
+/// Writes a block and a piece of a slot, which lie apart, and syncs.
+pub fn stage<D: Disk>(
+    disk: &mut D,
+    at: u64,
+    block: &[u8],
+    slot: u64,
+    piece: &[u8],
+) -> Result<(), Failed>
+    requires settled { IsSettled (D.view disk.old) }
+    requires place { (c : List ℕ) → (D.view disk.old).contents ≡ Some c → at ≤ length c }
+    requires slot_place { (c : List ℕ) → (D.view disk.old).contents ≡ Some c → slot ≤ length c }
+    requires room { at + length block.now ≤ (D.view disk.old).room_end }
+    requires slot_room { slot + length piece.now ≤ (D.view disk.old).room_end }
+    requires writes { 2 ≤ (D.view disk.old).room_writes }
+    ensures written { OnOk result (Goes (IsStaged at block.now slot piece.now)
+        (D.view disk.old).contents (D.view disk.new).contents) }
+    ensures settled { OnOk result (IsSettled (D.view disk.new)) }
+    ensures any_moment { (c : List ℕ) → (D.view disk.old).contents ≡ Some c
+        → LeavesOnly (D.view disk.old) (D.view disk.new) (IsStaging at (length block.now) slot (length piece.now) c) }
+    ensures faults { Counts result (D.view disk.old) (D.view disk.new) }
+    ensures calls { (D.view disk.new).changing ≤ (D.view disk.old).changing + 3 }
+    ensures all_calls { OnOk result (min ((D.view disk.old).changing + 3) (2 ^ 64 - 1) ≤ (D.view disk.new).changing) }
+    ensures room { UsesRoom 2 (D.view disk.old) (D.view disk.new) }
+{
+    disk.write_at(at, block)?;
+    disk.write_at(slot, piece)?;
+    disk.sync()
+}
+
+/// Syncs, asks the length, and closes the first byte of a file that has at most one.
+pub fn settle<D: Disk>(disk: &mut D) -> Result<u64, Failed>
+    requires room { 1 ≤ (D.view disk.old).room_end }
+    requires writes { 1 ≤ (D.view disk.old).room_writes }
+    ensures settled { OnOk result (IsSettled (D.view disk.new)) }
+    ensures contents { OnOk result (Goes IsReady (D.view disk.old).contents (D.view disk.new).contents) }
+    ensures len { IfOk result (λ n. (d : List ℕ) → (D.view disk.new).contents ≡ Some d → n ≡ length d) }
+    ensures any_moment { IsSettled (D.view disk.old) → (c : List ℕ) → (D.view disk.old).contents ≡ Some c
+        → LeavesOnly (D.view disk.old) (D.view disk.new) (IsSettling c) }
+    ensures kept { (c : List ℕ) → (D.view disk.old).contents ≡ Some c → 1 < length c
+        → (D.view disk.new).contents ≡ Some c }
+    ensures faults { Counts result (D.view disk.old) (D.view disk.new) }
+    ensures calls { (c : List ℕ) → (D.view disk.old).contents ≡ Some c
+        → (D.view disk.new).changing ≤ (D.view disk.old).changing + settle_calls c }
+    ensures all_calls { OnOk result ((c : List ℕ) → (D.view disk.old).contents ≡ Some c
+        → min ((D.view disk.old).changing + settle_calls c) (2 ^ 64 - 1) ≤ (D.view disk.new).changing) }
+    ensures room { UsesRoom 1 (D.view disk.old) (D.view disk.new) }
+{
+    disk.sync()?;
+    let len = disk.len()?;
+    if len > 1 {
+        return Ok(len);
+    }
+    disk.write_at(0, &[0])?;
+    disk.sync()?;
+    Ok(1)
+}

@@ -1,0 +1,251 @@
+// Opens a store, or makes one.
+ghost use Rattle.std.specs.Prelude.{◌≡◌, ◌⊎◌, ◌+◌, ◌-◌, ◌^◌, ◌<◌, ◌≤◌, ◌++◌, ◌∷◌, [], min, List, ℕ, length, slice_index, true, false, Some, IfOk, IfErr, OnOk, IsErrOf, MatchResult};
+ghost use Rattle.agent_base.specs.Counts.{Rose};
+ghost use Rattle.disk_model.specs.Disk.{IsSettled, LeavesOnly, Counts, Stays, UsesRoom};
+ghost use Rattle.journal.specs.Store.{Frame, IsOpen, IsUnborn, IsStore, new_head};
+ghost use Rattle.journal.specs.Region.{Runs, StandsFor};
+ghost use Rattle.journal.specs.Opening.{IsWithin, IsRefusal, IsStoreRefusal, IsOfFile, IsExcused, IsOpening, opening_calls};
+ghost use Rattle.journal.specs.Journal.{Stands};
+ghost use Rattle.journal.specs.declared.open_fault.OpenFault.{OpenFault};
+ghost use Rattle.journal.specs.declared.open_fault.OpenFault.TheVariants.{DeviceFault};
+
+use crate::gated::{append, settle};
+use crate::head::{HeadRead, read_head};
+use crate::journal::Journal;
+use crate::open_fault::OpenFault;
+use crate::region::{RegionFault, read_region};
+use crate::replay::Replay;
+use disk_model::Disk;
+use std::alloc::{AllocError, Global};
+
+// The greatest length of a store that is opened under a limit.
+const LIMIT: u64 = 1_073_741_824;
+
+// The whole file.
+fn read_all<D: Disk>(alloc: Global, disk: &mut D, len: u64) -> Result<Vec<u8>, OpenFault>
+    requires { (c : List ℕ) → (D.view disk.old).contents ≡ Some c → len ≡ length c }
+    ensures bytes { IfOk result (λ v. (c : List ℕ) → (D.view disk.old).contents ≡ Some c → v.items ≡ c) }
+    ensures stays { Stays (D.view disk.old) (D.view disk.new) }
+    ensures excused { IfErr result IsExcused }
+    ensures later { (D.view disk.old).faults ≤ (D.view disk.new).faults }
+    ensures device { IsErrOf result DeviceFault → Rose (D.view disk.old).faults (D.view disk.new).faults }
+    ensures room { UsesRoom 0 (D.view disk.old) (D.view disk.new) }
+{
+    let mut bytes = Vec::new(alloc);
+    let Ok(()) = bytes.resize(len as usize, 0) else {
+        return Err(OpenFault::NoMemory);
+    };
+    let Ok(()) = disk.read_at(0, &mut bytes) else {
+        return Err(OpenFault::DeviceFault);
+    };
+    Ok(bytes)
+}
+
+// What a born file stands for.
+fn read_store<R: Replay>(
+    alloc: Global,
+    bytes: &[u8],
+    digest: &[u8; 32],
+    into: &mut R,
+) -> Result<Journal, OpenFault>
+    requires { IsOpen bytes.now 0 }
+    ensures usable { IfOk result (λ j. (j.shut ≡ false) × (j.digest ≡ digest.now)) }
+    ensures frames { IfOk result (λ j. (frames : List Frame) × Stands j bytes.now frames
+        × Runs R.takes true R.empty 0 frames (R.state into.new) j.changes) }
+    ensures refused { IfErr result (IsStoreRefusal R.takes R.refuses R.empty digest.now bytes.now) }
+{
+    let (live, number, begin) = match read_head(bytes, digest) {
+        HeadRead::Live(live, number, begin) => (live, number, begin),
+        HeadRead::Bad(offset) => return Err(OpenFault::NotAStore(offset)),
+        HeadRead::Other(kept) => {
+            return Err(OpenFault::OtherList {
+                kept,
+                given: *digest,
+            });
+        }
+    };
+    match read_region(bytes, begin as usize, into) {
+        Ok(region) => Ok(Journal {
+            digest: *digest,
+            live,
+            number,
+            begin,
+            end: region.end as u64,
+            changes: region.last,
+            base: region.base,
+            shut: false,
+            block: Vec::new(alloc),
+        }),
+        Err(RegionFault::NotAStore(offset)) => Err(OpenFault::NotAStore(offset as u64)),
+        Err(RegionFault::NoMemory) => Err(OpenFault::NoMemory),
+    }
+}
+
+// The head of a new store, behind its gate, and the closed gate of its region.
+fn head_of(alloc: Global, digest: &[u8; 32]) -> Result<Vec<u8>, AllocError>
+    ensures { IfOk result (λ v. v.items ≡ new_head digest.now) }
+{
+    let mut block = Vec::new(alloc);
+    block.extend_from_slice(b"PBSTORE")?;
+    block.extend_from_slice(&[1, 0, 0, 0])?;
+    block.extend_from_slice(digest)?;
+    block.extend_from_slice(&[1, 1, 0, 0, 0, 0, 0, 0, 0, 128, 0, 0, 0, 0, 0, 0, 0])?;
+    block.extend_from_slice(&[0; 17])?;
+    block.extend_from_slice(&[0; 50])?;
+    block.extend_from_slice(&[0])?;
+    Ok(block)
+}
+
+// Makes a store of a file whose first byte is 0. Four changing calls.
+fn make<D: Disk, R: Replay>(
+    alloc: Global,
+    disk: &mut D,
+    digest: &[u8; 32],
+    into: &mut R,
+) -> Result<Journal, OpenFault>
+    requires settled { IsSettled (D.view disk.old) }
+    requires place { (c : List ℕ) → (D.view disk.old).contents ≡ Some c → (1 ≤ length c) × (slice_index c 0 ≡ 0) }
+    requires room { 129 ≤ (D.view disk.old).room_end }
+    requires writes { 2 ≤ (D.view disk.old).room_writes }
+    ensures made { IfOk result (λ j. (d : List ℕ) → (D.view disk.new).contents ≡ Some d → Stands j d []) }
+    ensures usable { IfOk result (λ j. (j.shut ≡ false) × (j.digest ≡ digest.now)) }
+    ensures changes { IfOk result (λ j. j.changes ≡ 0) }
+    ensures empty { OnOk result (R.state into.new ≡ R.empty) }
+    ensures settled { OnOk result (IsSettled (D.view disk.new)) }
+    ensures excused { IfErr result IsExcused }
+    ensures tells { (D.view disk.new).tells ≡ (D.view disk.old).tells }
+    ensures later { (D.view disk.old).faults ≤ (D.view disk.new).faults }
+    ensures device { IsErrOf result DeviceFault → Rose (D.view disk.old).faults (D.view disk.new).faults }
+    ensures calls { (D.view disk.new).changing ≤ (D.view disk.old).changing + 4 }
+    ensures all_calls { OnOk result (min ((D.view disk.old).changing + 4) (2 ^ 64 - 1) ≤ (D.view disk.new).changing) }
+    ensures any_moment { (c : List ℕ) → (D.view disk.old).contents ≡ Some c
+        → LeavesOnly (D.view disk.old) (D.view disk.new) (λ image. IsUnborn image ⊎ IsStore digest.now image []) }
+{
+    let Ok(block) = head_of(alloc, digest) else {
+        return Err(OpenFault::NoMemory);
+    };
+    let Ok(()) = append(disk, 0, &block) else {
+        return Err(OpenFault::DeviceFault);
+    };
+    into.begin();
+    Ok(Journal {
+        digest: *digest,
+        live: false,
+        number: 1,
+        begin: 128,
+        end: 128,
+        changes: 0,
+        base: 0,
+        shut: false,
+        block: Vec::new(alloc),
+    })
+}
+
+// The first byte, or 0.
+fn gate_of(bytes: &[u8]) -> u8
+    ensures gate { result ≡ slice_index bytes.now 0 }
+    ensures there { 0 < result → IsOpen bytes.now 0 }
+{
+    if bytes.is_empty() {
+        return 0;
+    }
+    bytes[0]
+}
+
+// Opens a store or makes one, without the laws on what the file stands for.
+fn open_store<D: Disk, R: Replay>(
+    alloc: Global,
+    disk: &mut D,
+    digest: &[u8; 32],
+    limit: bool,
+    into: &mut R,
+) -> Result<Journal, OpenFault>
+    ensures opened { IfOk result (λ j. (d : List ℕ) → (D.view disk.new).contents ≡ Some d
+        → (frames : List Frame) × Stands j d frames × Runs R.takes true R.empty 0 frames (R.state into.new) j.changes) }
+    ensures usable { IfOk result (λ j. (j.shut ≡ false) × (j.digest ≡ digest.now)) }
+    ensures settled { OnOk result (IsSettled (D.view disk.new)) }
+    ensures within { OnOk result ((c : List ℕ) → (D.view disk.old).contents ≡ Some c → IsWithin limit c) }
+    ensures kept { (c : List ℕ) → (D.view disk.old).contents ≡ Some c → IsOpen c 0 → 1 < length c
+        → (D.view disk.new).contents ≡ Some c }
+    ensures unborn { IfOk result (λ j. (c : List ℕ) → (D.view disk.old).contents ≡ Some c → IsUnborn c
+        → (R.state into.new ≡ R.empty) × (j.changes ≡ 0)) }
+    ensures refused { (why : OpenFault) → IsErrOf result why → (c : List ℕ) → (D.view disk.old).contents ≡ Some c
+        → IsRefusal R.takes R.refuses R.empty limit digest.now c why }
+    ensures tells { (D.view disk.new).tells ≡ (D.view disk.old).tells }
+    ensures later { (D.view disk.old).faults ≤ (D.view disk.new).faults }
+    ensures device { IsErrOf result DeviceFault → Rose (D.view disk.old).faults (D.view disk.new).faults }
+    ensures calls { (c : List ℕ) → (D.view disk.old).contents ≡ Some c
+        → (D.view disk.new).changing ≤ (D.view disk.old).changing + opening_calls c }
+    ensures all_calls { OnOk result ((c : List ℕ) → (D.view disk.old).contents ≡ Some c
+        → min ((D.view disk.old).changing + opening_calls c) (2 ^ 64 - 1) ≤ (D.view disk.new).changing) }
+    ensures any_moment { IsSettled (D.view disk.old) → (c : List ℕ) → (D.view disk.old).contents ≡ Some c
+        → LeavesOnly (D.view disk.old) (D.view disk.new) (IsOpening digest.now c) }
+{
+    let Ok(()) = disk.reserve(129, 3) else {
+        return Err(OpenFault::NoMemory);
+    };
+    let Ok(len) = settle(disk) else {
+        return Err(OpenFault::DeviceFault);
+    };
+    if limit && len > LIMIT {
+        return Err(OpenFault::TooLarge(len));
+    }
+    let bytes = read_all(alloc, disk, len)?;
+    if gate_of(&bytes) == 0 {
+        make(alloc, disk, digest, into)
+    } else {
+        read_store(alloc, &bytes, digest, into)
+    }
+}
+
+impl Journal {
+    /// Opens a store under the digest of a suffix list, and gives its frames to `into` in order.
+    ///
+    /// A file that is no store yet is made one. With `limit` a file over 1,073,741,824 bytes is
+    /// refused. After a refusal nothing is told of `into`, and its `begin` makes it usable again.
+    pub fn open<D: Disk, R: Replay>(
+        alloc: Global,
+        disk: &mut D,
+        digest: &[u8; 32],
+        limit: bool,
+        into: &mut R,
+    ) -> Result<Journal, OpenFault>
+        // The file is the journal's store, and its frames lead to the state of `into`.
+        ensures opened { IfOk result (λ j. (d : List ℕ) → (D.view disk.new).contents ≡ Some d
+            → (frames : List Frame) × Stands j d frames
+            × Runs R.takes true R.empty 0 frames (R.state into.new) j.changes) }
+        ensures usable { IfOk result (λ j. (j.shut ≡ false) × (j.digest ≡ digest.now)) }
+        ensures settled { OnOk result (IsSettled (D.view disk.new)) }
+        ensures kept { (c : List ℕ) → (D.view disk.old).contents ≡ Some c → IsOpen c 0 → 1 < length c
+            → (D.view disk.new).contents ≡ Some c }
+
+        // A store is opened as what it stands for, and an unborn file as the empty state.
+        ensures store { (c : List ℕ) (s : R.State) (n : ℕ) → (D.view disk.old).contents ≡ Some c → IsWithin limit c
+            → StandsFor R.takes R.empty digest.now c s n
+            → MatchResult result (λ j. (R.state into.new ≡ s) × (j.changes ≡ n)) IsExcused }
+        ensures unborn { (c : List ℕ) → (D.view disk.old).contents ≡ Some c → IsWithin limit c → IsUnborn c
+            → MatchResult result (λ j. (R.state into.new ≡ R.empty) × (j.changes ≡ 0)) IsExcused }
+
+        // Each refusal of a file has its cause, and comes wherever the cause is.
+        ensures refused { (why : OpenFault) → IsErrOf result why → (c : List ℕ) → (D.view disk.old).contents ≡ Some c
+            → IsRefusal R.takes R.refuses R.empty limit digest.now c why }
+        ensures exactly { (why : OpenFault) (c : List ℕ) → (D.view disk.old).contents ≡ Some c → IsOfFile why
+            → IsRefusal R.takes R.refuses R.empty limit digest.now c why
+            → MatchResult result (λ _. ⊥) (λ w. (w ≡ why) ⊎ IsExcused w) }
+
+        ensures tells { (D.view disk.new).tells ≡ (D.view disk.old).tells }
+        ensures later { (D.view disk.old).faults ≤ (D.view disk.new).faults }
+        ensures device { IsErrOf result DeviceFault → Rose (D.view disk.old).faults (D.view disk.new).faults }
+        ensures calls { (c : List ℕ) → (D.view disk.old).contents ≡ Some c
+            → (D.view disk.new).changing ≤ (D.view disk.old).changing + opening_calls c }
+        ensures all_calls { OnOk result ((c : List ℕ) → (D.view disk.old).contents ≡ Some c
+            → min ((D.view disk.old).changing + opening_calls c) (2 ^ 64 - 1) ≤ (D.view disk.new).changing) }
+
+        // A cut at any moment leaves the file as it was, or of an unborn file an unborn one or a
+        // store without frames.
+        ensures any_moment { IsSettled (D.view disk.old) → (c : List ℕ) → (D.view disk.old).contents ≡ Some c
+            → LeavesOnly (D.view disk.old) (D.view disk.new) (IsOpening digest.now c) }
+    {
+        open_store(alloc, disk, digest, limit, into)
+    }
+}

@@ -1,0 +1,312 @@
+//! Cuts in each device call, and the first fault of a store whose bytes were changed by hand.
+use super::*;
+use disk_model::{Cut, Disk, MemDisk};
+use std::alloc::Global;
+use std::test::Fail;
+
+// SHA-256 of the empty list.
+const DIGEST: [u8; 32] = [
+    0xe3, 0xb0, 0xc4, 0x42, 0x98, 0xfc, 0x1c, 0x14, 0x9a, 0xfb, 0xf4, 0xc8, 0x99, 0x6f, 0xb9, 0x24,
+    0x27, 0xae, 0x41, 0xe4, 0x64, 0x9b, 0x93, 0x4c, 0xa4, 0x95, 0x99, 0x1b, 0x78, 0x52, 0xb8, 0x55,
+];
+
+// The body of the worked store: one change that puts `v` under `k` in the area of `https://a.test`.
+const BODY: [u8; 52] =
+    *b"\x01\0\0\0\x01\x0e\0\0\0https://a.test\x0e\0\0\0https://a.test\0\x01\0\0\0k\x01\0\0\0v";
+
+// Stands for the body of the last frame. Each body is one change.
+#[derive(Debug, Drop)]
+struct LastBody {
+    body: Vec<u8>,
+}
+
+impl Replay for LastBody {
+    ghost use Rattle.std.specs.Prelude.{◌≡◌, [], List, ℕ};
+    ghost use Rattle.std.proofs.Common.{sym, ◌∙◌};
+
+    ghost State = { List ℕ };
+
+    ghost state = { λ r. r.body.items };
+
+    ghost empty = { [] };
+
+    ghost takes = { λ s kind body t n. (t ≡ body) × (n ≡ 1) };
+
+    ghost refuses = { λ s kind body o. ⊥ };
+
+    ghost one_state = { λ s kind body t u m n one two. one.0 ∙ sym two.0 };
+
+    ghost one_count = { λ s kind body t u m n one two. one.1 ∙ sym two.1 };
+
+    ghost one_fault = { λ s kind body o p one two. absurd one };
+
+    ghost apart = { λ s kind body t n o took refused. refused };
+
+    fn begin(&mut self) {
+        self.body.clear();
+    }
+
+    fn frame(&mut self, snapshot: bool, body: &[u8]) -> Result<u64, ReplayFault> {
+        let _ = snapshot;
+        self.body.clear();
+        let Ok(()) = self.body.extend_from_slice(body) else {
+            self.body.clear();
+            return Err(ReplayFault::NoMemory);
+        };
+        Ok(1)
+    }
+}
+
+// A disk of these bytes, with one cut and the numbers of calls that fail.
+fn disk_of(alloc: Global, bytes: &[u8], cut: Option<Cut>, fails: &[u64]) -> Result<MemDisk, Fail> {
+    let mut contents = Vec::new(alloc);
+    contents.extend_from_slice(bytes)?;
+    let mut cuts = Vec::new(alloc);
+    if let Some(cut) = cut {
+        if cut.call > 0 && cut.pick < 4 {
+            cuts.push(cut)?;
+        }
+    }
+    let mut numbers = Vec::new(alloc);
+    numbers.extend_from_slice(fails)?;
+    Ok(MemDisk::new(alloc, contents, cuts, numbers))
+}
+
+// Opens the store, and answers how many changes it has.
+fn open_it<D: Disk>(alloc: Global, disk: &mut D) -> Result<u64, OpenFault> {
+    let mut into = LastBody {
+        body: Vec::new(alloc),
+    };
+    let journal = Journal::open(alloc, disk, &DIGEST, true, &mut into)?;
+    Ok(journal.changes())
+}
+
+// Opens the store, commits the body once, and makes a checkpoint of it where it is asked to. Answers
+// whether the journal is shut, and a fault of its opening.
+fn run<D: Disk>(alloc: Global, disk: &mut D, has_checkpoint: bool) -> Result<bool, OpenFault> {
+    let mut into = LastBody {
+        body: Vec::new(alloc),
+    };
+    let mut journal = Journal::open(alloc, disk, &DIGEST, false, &mut into)?;
+    let Ok(()) = journal.reserve(disk, BODY.len()) else {
+        return Err(OpenFault::NoMemory);
+    };
+    let Ok(()) = journal.commit(disk, &BODY, 1) else {
+        return Ok(journal.is_shut());
+    };
+    if !has_checkpoint {
+        return Ok(journal.is_shut() || journal.since() != 1);
+    }
+    let Ok(()) = journal.reserve(disk, BODY.len()) else {
+        return Err(OpenFault::NoMemory);
+    };
+    let Ok(()) = journal.checkpoint(disk, &BODY[4..]) else {
+        return Ok(journal.is_shut());
+    };
+    Ok(journal.is_shut() || journal.since() != 0)
+}
+
+// All bytes of a disk.
+fn bytes_of<D: Disk>(alloc: Global, disk: &mut D) -> Result<Vec<u8>, Fail> {
+    let mut bytes = Vec::new(alloc);
+    let Ok(len) = disk.len() else {
+        return Ok(bytes);
+    };
+    bytes.resize(len as usize, 0)?;
+    let _ = disk.read_at(0, &mut bytes);
+    Ok(bytes)
+}
+
+// How many changes the store has after a restart.
+fn kept<D: Disk>(alloc: Global, disk: &mut D) -> Result<u64, OpenFault> {
+    let Ok(()) = disk.restart() else {
+        return Err(OpenFault::DeviceFault);
+    };
+    open_it(alloc, disk)
+}
+
+// Runs on an empty file with a cut in this call: whether the fault showed, and what is kept.
+fn cut_run(alloc: Global, cut: Cut) -> Result<(bool, Result<u64, OpenFault>), Fail> {
+    let mut disk = disk_of(alloc, b"", Some(cut), &[])?;
+    let shows = match run(alloc, &mut disk, true) {
+        Ok(is_shut) => is_shut,
+        Err(fault) => fault == OpenFault::DeviceFault,
+    };
+    Ok((shows, kept(alloc, &mut disk)))
+}
+
+#[test]
+fn a_cut_in_any_call_keeps_what_was_acknowledged(rt: HostRuntime) -> Result<(), Fail> {
+    let alloc = rt.alloc();
+    for (first, last, pick_0, others) in [(1, 9, 0, 0), (10, 11, 0, 1), (12, 18, 1, 1)] {
+        for call in first..=last {
+            for pick in 0..4 {
+                let want = if pick == 0 { pick_0 } else { others };
+                let (shows, found) = cut_run(alloc, Cut { call, pick })?;
+                assert!(rt; shows, "call {call} pick {pick}");
+                assert_eq!(rt; found, Ok(want), "call {call} pick {pick}");
+            }
+        }
+    }
+    Ok(())
+}
+
+// Whether the file is opened, or a run on it succeeds.
+fn is_made<D: Disk>(alloc: Global, disk: &mut D, commits: bool, has_checkpoint: bool) -> bool {
+    if commits {
+        return run(alloc, disk, has_checkpoint) == Ok(false);
+    }
+    open_it(alloc, disk) == Ok(0)
+}
+
+// The calls and the bytes after a run on a file of so many zeros.
+fn counts(
+    alloc: Global,
+    zeros: usize,
+    commits: bool,
+    has_checkpoint: bool,
+) -> Result<(u64, usize), Fail> {
+    let mut file = Vec::new(alloc);
+    file.resize(zeros, 0)?;
+    let mut disk = disk_of(alloc, &file, None, &[])?;
+    if !is_made(alloc, &mut disk, commits, has_checkpoint) {
+        return Ok((0, 0));
+    }
+    let bytes = bytes_of(alloc, &mut disk)?;
+    Ok((disk.changing_calls(), bytes.len()))
+}
+
+#[test]
+fn calls_and_bytes_are_counted(rt: HostRuntime) -> Result<(), Fail> {
+    let alloc = rt.alloc();
+    for (zeros, commits, has_checkpoint, calls, bytes) in [
+        (0, false, false, 7, 129),
+        (1, false, false, 7, 129),
+        (129, false, false, 5, 129),
+        (300, false, false, 5, 300),
+        (0, true, false, 11, 199),
+        (0, true, true, 18, 266),
+    ] {
+        let found = counts(alloc, zeros, commits, has_checkpoint)?;
+        assert_eq!(rt; found, (calls, bytes), "{zeros} zeros");
+    }
+    Ok(())
+}
+
+// What a run leaves in which the ninth call fails, the power staying on.
+fn failing_run(alloc: Global) -> Result<(bool, Result<u64, OpenFault>), Fail> {
+    let mut disk = disk_of(alloc, b"", None, &[9])?;
+    let is_shut = run(alloc, &mut disk, false) == Ok(true);
+    Ok((is_shut, kept(alloc, &mut disk)))
+}
+
+#[test]
+fn a_call_that_fails_shuts_the_journal(rt: HostRuntime) -> Result<(), Fail> {
+    let (is_shut, found) = failing_run(rt.alloc())?;
+    assert!(rt; is_shut);
+    assert_eq!(rt; found, Ok(0));
+    Ok(())
+}
+
+// The worked store: one commit of the body to a new store.
+fn worked(alloc: Global) -> Result<Vec<u8>, Fail> {
+    let mut file = Vec::new(alloc);
+    file.extend_from_slice(b"\x01PBSTORE\x01\0\0\0")?;
+    file.extend_from_slice(&DIGEST)?;
+    file.extend_from_slice(b"\x01\x01\0\0\0\0\0\0\0\x80\0\0\0\0\0\0\0")?;
+    file.resize(128, 0)?;
+    file.extend_from_slice(b"\x01\x01\x01\0\0\0\0\0\0\0\x34\0\0\0\0\0\0\0")?;
+    file.extend_from_slice(&BODY)?;
+    file.push(0)?;
+    Ok(file)
+}
+
+// The bytes of a new store after one commit.
+fn committed(alloc: Global) -> Result<Vec<u8>, Fail> {
+    let mut disk = disk_of(alloc, b"", None, &[])?;
+    if !is_made(alloc, &mut disk, true, false) {
+        return Ok(Vec::new(alloc));
+    }
+    bytes_of(alloc, &mut disk)
+}
+
+#[test]
+fn a_commit_writes_the_worked_store(rt: HostRuntime) -> Result<(), Fail> {
+    let alloc = rt.alloc();
+    let want = worked(alloc)?;
+    let found = committed(alloc)?;
+    assert_eq!(rt; found.as_slice(), want.as_slice());
+    Ok(())
+}
+
+// What the opening of the worked store answers, cut to a length and with one byte changed.
+fn answer(alloc: Global, len: usize, at: usize, byte: u8) -> Result<String, Fail> {
+    let mut file = worked(alloc)?;
+    file.truncate(len);
+    if at < file.len() {
+        file[at] = byte;
+    }
+    let mut disk = disk_of(alloc, &file, None, &[])?;
+    Ok(match open_it(alloc, &mut disk) {
+        Ok(changes) => format!(in alloc; "{changes}")?,
+        Err(fault) => format!(in alloc; "{fault}")?,
+    })
+}
+
+#[test]
+fn the_first_fault_has_its_offset(rt: HostRuntime) -> Result<(), Fail> {
+    let alloc = rt.alloc();
+    for (len, at, byte, want) in [
+        (199, 0, 0, "0"),
+        (199, 0, 0xa5, "1"),
+        (199, 1, 0, "store: not a store at 1"),
+        (199, 8, 2, "store: not a store at 8"),
+        (199, 44, 0, "store: not a store at 44"),
+        (199, 45, 2, "1"),
+        (199, 53, 127, "store: not a store at 53"),
+        (199, 53, 199, "store: not a store at 53"),
+        (199, 61, 0xa5, "1"),
+        (199, 78, 1, "store: not a store at 78"),
+        (199, 128, 0, "0"),
+        (199, 128, 0xa5, "1"),
+        (199, 129, 2, "1"),
+        (199, 129, 3, "store: not a store at 129"),
+        (199, 130, 2, "store: not a store at 130"),
+        (199, 138, 0, "store: not a store at 138"),
+        (199, 138, 53, "store: not a store at 199"),
+        (199, 138, 54, "store: not a store at 128"),
+        (199, 145, 0x80, "store: not a store at 128"),
+        (199, 198, 1, "store: not a store at 198"),
+        (1, 0, 1, "0"),
+        (128, 0, 1, "store: not a store at 0"),
+        (198, 0, 1, "store: not a store at 198"),
+        (
+            199,
+            12,
+            0,
+            "store: list 00b0c44298fc1c149afbf4c8996fb92427ae41e4649b934ca495991b7852b855, \
+             given e3b0c44298fc1c149afbf4c8996fb92427ae41e4649b934ca495991b7852b855",
+        ),
+    ] {
+        let found = answer(alloc, len, at, byte)?;
+        assert_eq!(rt; found.as_str(), want, "byte {at} of {len} is {byte}");
+    }
+    Ok(())
+}
+
+#[test]
+fn refusals_have_their_texts(rt: HostRuntime) -> Result<(), Fail> {
+    let alloc = rt.alloc();
+    for (fault, text) in [
+        (
+            OpenFault::TooLarge(1_073_741_825),
+            "store: too large: 1073741825",
+        ),
+        (OpenFault::DeviceFault, "device fault"),
+        (OpenFault::NoMemory, "no memory"),
+    ] {
+        let shown = format!(in alloc; "{fault}")?;
+        assert_eq!(rt; shown.as_str(), text);
+    }
+    Ok(())
+}

@@ -1,0 +1,42 @@
+-- The machine of one site as the general law takes it, and the world in which a run begins.
+use Rattle.std.specs.Prelude.{ℕ, true, false, [], None}
+use Rattle.unwinding.specs.Machine.{Machine}
+use Rattle.origin_site.specs.Site.{PlainSite, same_plain_site}
+use Rattle.script_lines.specs.Script.{PlainAction}
+use Rattle.agent_model.specs.Partition.{Partition, empty_partition}
+use Rattle.agent_model.specs.SiteStep.{TimedEvent, Answer, Nothing, site_step}
+use Rattle.agent_model.specs.Lines.{Rest, AgentWorld, main_event, refusal, rest_after}
+
+-- No event consults a cell, and no line has an event beside its main one.
+unfoldable pub machine : Machine PlainSite Nothing Nothing Partition Nothing Rest PlainAction TimedEvent Answer Nothing
+machine =
+    record {
+      same_site = same_plain_site;
+      same_cell = λ a b. true;
+      same_content = λ a b. true;
+      is_home = λ site cell. false;
+      is_own = λ site cell. false;
+      blank = tt;
+      get = λ cells cell. tt;
+      set = λ cell content cells. tt;
+      restrict = λ test cells. tt;
+      merge = λ test new old. tt;
+      listed = λ cells. cells;
+      names = λ partition event. [];
+      sweeps = λ partition event. false;
+      step = site_step;
+      side = λ world line site. None;
+      main = main_event;
+      refusal = refusal;
+      later = rest_after;
+      moment = λ rest. rest.now;
+    }
+
+-- 2026-01-01 00:00:00 UTC, in seconds since 1970: the clock of a run that names no other
+abbrev pub default_start : ℕ
+default_start = 1767225600
+
+-- the world in which a run begins: no tab is open, and nothing is stored
+unfoldable pub beginning : ℕ → AgentWorld
+beginning start =
+    record { partition = empty_partition; cells = tt; rest = record { now = start; places = [] } }

@@ -1,0 +1,3 @@
+pub mod RowsLemmas
+pub mod StandingLemmas
+pub mod StepsLemmas

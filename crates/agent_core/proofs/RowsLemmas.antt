@@ -1,0 +1,90 @@
+-- Where an area stands among the rows, and what a put into it makes of them.
+use Rattle.std.proofs.Common.{◌≡◌, ◌<◌, ℕ, ◌+◌, Bool, true, false, cond, List, [], ◌∷◌, ◌++◌, Option, Some, None, map, length, refl, sym, ap, subst, ◌∙◌, arith, slice_set, slice_index_or, add-one}
+use Rattle.std.specs.Prelude.{option_map}
+use Rattle.std.proofs.lemmas.List.{map-set, get_or-map}
+use Rattle.origin_site.specs.Origin.{PlainOrigin}
+use Rattle.origin_site.specs.Site.{PlainSite}
+use Rattle.local_area.specs.Area.{Pair}
+use Rattle.agent_core.specs.declared.rows.AreaRow.{AreaRow as Row}
+use Rattle.agent_core.specs.Plain.{plain_row}
+use Rattle.agent_core.specs.Standing.{AreaRow}
+use Rattle.agent_core.specs.Rows.{is_at, row_place, pairs_in, pairs_put, rows_put}
+
+-- a row whose area is written stands for that row with its pairs replaced
+pub row_written : (rows : List Row) (place : ℕ) (row : Row) (pairs : List Pair) (d : AreaRow) → place < length rows → row ≡ slice_index_or rows place row
+    → map plain_row (slice_set rows place (record { site = row.site; origin = row.origin; area = pairs })) ≡ slice_set (map plain_row rows) place (record (slice_index_or (map plain_row rows) place d) { pairs = pairs })
+row_written rows place row pairs d fits is =
+    map-set plain_row rows place (record { site = row.site; origin = row.origin; area = pairs })
+    ∙ ap (λ r. slice_set (map plain_row rows) place (record r { pairs = pairs })) (ap plain_row is ∙ sym (get_or-map plain_row rows place row d fits))
+
+-- the row at a place, as it stands in the list of plain rows
+pub row_read : (rows : List Row) (place : ℕ) (row : Row) (d : AreaRow) → place < length rows → row ≡ slice_index_or rows place row → plain_row row ≡ slice_index_or (map plain_row rows) place d
+row_read rows place row d fits is = ap plain_row is ∙ sym (get_or-map plain_row rows place row d fits)
+
+module _ (site : PlainSite) (origin : PlainOrigin) where
+  pub place_fits : (rows : List AreaRow) (i : ℕ) → row_place site origin rows ≡ Some i → i < length rows
+  place_fits [] i e = cc
+  place_fits (row ∷ rows) i e = at (is_at site origin row) (row_place site origin rows) (place_fits rows) e
+    where
+      at : (b : Bool) (later : Option ℕ) → ((j : ℕ) → later ≡ Some j → j < length rows)
+          → cond b (Some 0) (option_map (λ n. n + 1) later) ≡ Some i → i < length (row ∷ rows)
+      at true later ih is = grind arith
+      at false None ih is = cc
+      at false (Some j) ih is = let below = ih j refl in grind arith
+
+  -- the row at the place has the pairs of the area
+  pub place_pairs : (rows : List AreaRow) (i : ℕ) (d : AreaRow) → row_place site origin rows ≡ Some i → pairs_in site origin rows ≡ (slice_index_or rows i d).pairs
+  place_pairs [] i d e = cc
+  place_pairs (row ∷ rows) i d e = at (is_at site origin row) (row_place site origin rows) (λ j. place_pairs rows j d) e
+    where
+      at : (b : Bool) (later : Option ℕ) → ((j : ℕ) → later ≡ Some j → pairs_in site origin rows ≡ (slice_index_or rows j d).pairs)
+          → cond b (Some 0) (option_map (λ n. n + 1) later) ≡ Some i → cond b row.pairs (pairs_in site origin rows) ≡ (slice_index_or (row ∷ rows) i d).pairs
+      at true later ih is = let here : 0 ≡ i = cc in subst (λ k. row.pairs ≡ (slice_index_or (row ∷ rows) k d).pairs) here refl
+      at false None ih is = cc
+      at false (Some j) ih is =
+          let next : j + 1 ≡ i = cc in
+          subst (λ k. pairs_in site origin rows ≡ (slice_index_or (row ∷ rows) k d).pairs) (sym (add-one j) ∙ next) (ih j refl)
+
+  pub nowhere_pairs : (rows : List AreaRow) → row_place site origin rows ≡ None → pairs_in site origin rows ≡ []
+  nowhere_pairs [] e = refl
+  nowhere_pairs (row ∷ rows) e = at (is_at site origin row) (row_place site origin rows) (nowhere_pairs rows) e
+    where
+      at : (b : Bool) (later : Option ℕ) → (later ≡ None → pairs_in site origin rows ≡ [])
+          → cond b (Some 0) (option_map (λ n. n + 1) later) ≡ None → cond b row.pairs (pairs_in site origin rows) ≡ []
+      at true later ih is = cc
+      at false None ih is = ih refl
+      at false (Some j) ih is = cc
+
+  module _ (name value : List ℕ) where
+    pub put_at_place : (rows : List AreaRow) (i : ℕ) (d : AreaRow) → row_place site origin rows ≡ Some i
+        → let row = slice_index_or rows i d in
+        slice_set rows i (record row { pairs = pairs_put name value row.pairs }) ≡ rows_put site origin name value rows
+    put_at_place [] i d e = cc
+    put_at_place (row ∷ rows) i d e = at (is_at site origin row) (row_place site origin rows) (λ j. put_at_place rows j d) e
+      where
+        written : ℕ → List AreaRow → AreaRow
+        written j rs = let r = slice_index_or rs j d in record r { pairs = pairs_put name value r.pairs }
+
+        at : (b : Bool) (later : Option ℕ) → ((j : ℕ) → later ≡ Some j → slice_set rows j (written j rows) ≡ rows_put site origin name value rows)
+            → cond b (Some 0) (option_map (λ n. n + 1) later) ≡ Some i
+            → slice_set (row ∷ rows) i (written i (row ∷ rows)) ≡ cond b (record row { pairs = pairs_put name value row.pairs } ∷ rows) (row ∷ rows_put site origin name value rows)
+        at true later ih is = let here : 0 ≡ i = cc in subst (λ k. slice_set (row ∷ rows) k (written k (row ∷ rows)) ≡ record row { pairs = pairs_put name value row.pairs } ∷ rows) here refl
+        at false None ih is = cc
+        at false (Some j) ih is =
+            let next : j + 1 ≡ i = cc in
+            subst (λ k. slice_set (row ∷ rows) k (written k (row ∷ rows)) ≡ row ∷ rows_put site origin name value rows) (sym (add-one j) ∙ next) (ap (λ rs. row ∷ rs) (ih j refl))
+
+    pub put_nowhere : (rows : List AreaRow) → row_place site origin rows ≡ None
+        → rows ++ record { site = site; origin = origin; pairs = pairs_put name value [] } ∷ [] ≡ rows_put site origin name value rows
+    put_nowhere [] e = refl
+    put_nowhere (row ∷ rows) e = at (is_at site origin row) (row_place site origin rows) (put_nowhere rows) e
+      where
+        added : AreaRow
+        added = record { site = site; origin = origin; pairs = pairs_put name value [] }
+
+        at : (b : Bool) (later : Option ℕ) → (later ≡ None → rows ++ added ∷ [] ≡ rows_put site origin name value rows)
+            → cond b (Some 0) (option_map (λ n. n + 1) later) ≡ None
+            → row ∷ (rows ++ added ∷ []) ≡ cond b (record row { pairs = pairs_put name value row.pairs } ∷ rows) (row ∷ rows_put site origin name value rows)
+        at true later ih is = cc
+        at false None ih is = ap (λ rs. row ∷ rs) (ih refl)
+        at false (Some j) ih is = cc

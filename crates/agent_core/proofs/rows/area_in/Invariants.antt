@@ -1,0 +1,11 @@
+use Rattle.std.proofs.Common.{◌≡◌, map, drop}
+use Rattle.origin_site.specs.Plain.{plain_origin, plain_site}
+use Rattle.agent_core.specs.Plain.{plain_row}
+use Rattle.agent_core.specs.Rows.{pairs_in}
+use Rattle.agent_core.proofs.rows.area_in.Given as goal
+
+-- the area is among the rows that are left
+abbrev pub invariant-loop-row : goal.invariant-loop-row
+invariant-loop-row l =
+    pairs_in (plain_site l.site) (plain_origin l.origin) (map plain_row (drop l.row-index l.rows))
+    ≡ pairs_in (plain_site l.site) (plain_origin l.origin) (map plain_row l.rows)

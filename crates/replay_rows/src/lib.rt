@@ -1,0 +1,17 @@
+//! Worked rows: scripts with the lines that they have to print, run over memory by `replay::run`.
+//!
+//! The rows are data. Their expected texts come from the formats in docs/FORMATS.md.
+#![tactic(auto)]
+
+#[cfg(test)]
+mod faults;
+#[cfg(test)]
+mod first_path;
+#[cfg(test)]
+mod quota;
+#[cfg(test)]
+mod real_host;
+#[cfg(test)]
+mod refusals;
+#[cfg(test)]
+mod row;

@@ -1,0 +1,95 @@
+//! One row, and how it is run.
+ghost use Rattle.std.specs.Prelude.{◌≡◌, IfOk};
+
+use agent_base::{MemSink, MemSource, NoMemory};
+use replay::{MemHost, run};
+use std::alloc::{AllocError, Global};
+use std::process::Abort;
+use std::test::Fail;
+
+/// A run: its words, list and script, and all that it has to print.
+#[derive(Clone, Copy)]
+pub struct Row {
+    pub name: &'static str,
+    pub words: &'static [&'static str],
+    pub list: &'static str,
+    pub script: &'static str,
+    pub out: &'static str,
+    pub err: &'static str,
+    pub status: u8,
+}
+
+/// The words that run a script under the list of the row.
+pub const REPLAY: &[&str] = &["replay", "LIST"];
+
+// Bytes of their own.
+fn bytes_of(alloc: Global, text: &str) -> Result<Vec<u8>, Fail> {
+    let mut bytes = Vec::new(alloc);
+    bytes.extend_from_slice(text.as_bytes())?;
+    Ok(bytes)
+}
+
+/// A source of a text whose calls of these numbers fail.
+pub fn source(alloc: Global, text: &str, fails: &[u64]) -> Result<MemSource, Fail>
+    ensures fresh { IfOk result (λ s. s.faults ≡ 0) }
+{
+    let mut numbers = Vec::new(alloc);
+    numbers.extend_from_slice(fails)?;
+    Ok(MemSource::new(bytes_of(alloc, text)?, numbers))
+}
+
+/// Texts of their own.
+pub fn words(alloc: Global, words: &[&str]) -> Result<Vec<String>, Fail> {
+    let mut owned = Vec::new(alloc);
+    for word in words {
+        owned.push(String::from_str(alloc, word)?)?;
+    }
+    Ok(owned)
+}
+
+/// A host that has one list, under the path `LIST`.
+pub fn host(alloc: Global, list: MemSource) -> Result<MemHost, Fail>
+    requires { list.faults ≡ 0 }
+{
+    let mut lists = Vec::new(alloc);
+    lists.push((String::from_str(alloc, "LIST")?, list))?;
+    Ok(MemHost::new(lists))
+}
+
+/// Room for what a row prints.
+pub fn sink(alloc: Global, fails: &[u64]) -> Result<MemSink, Fail> {
+    let mut numbers = Vec::new(alloc);
+    numbers.extend_from_slice(fails)?;
+    match MemSink::new(alloc, 100_000, numbers) {
+        Ok(sink) => Ok(sink),
+        Err(NoMemory) => Err(Fail::from(AllocError)),
+    }
+}
+
+/// Runs a row, and names it where it fails.
+pub fn check(rt: &impl Abort, alloc: Global, row: &Row) -> Result<(), Fail> {
+    let mut host = host(alloc, source(alloc, row.list, &[])?)?;
+    let mut script = source(alloc, row.script, &[])?;
+    let mut out = sink(alloc, &[])?;
+    let mut err = sink(alloc, &[])?;
+    let status = run(
+        alloc,
+        &words(alloc, row.words)?,
+        &mut host,
+        &mut script,
+        &mut out,
+        &mut err,
+    );
+    assert_eq!(rt; status.code(), row.status, "the status of: {}", row.name);
+    assert!(rt;
+        out.bytes() == row.out.as_bytes(),
+        "the replies of: {}",
+        row.name
+    );
+    assert!(rt;
+        err.bytes() == row.err.as_bytes(),
+        "the fault line of: {}",
+        row.name
+    );
+    Ok(())
+}

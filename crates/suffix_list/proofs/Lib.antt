@@ -1,0 +1,9 @@
+pub mod LabelLemmas
+pub mod MatchLemmas
+pub mod KeptLemmas
+pub mod LookupLemmas
+pub mod NoteLemmas
+pub mod RuleLemmas
+pub mod ScanLemmas
+pub mod PlainLemmas
+mod StandardFacts

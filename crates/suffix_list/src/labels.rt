@@ -1,0 +1,74 @@
+//! The labels of a name, which stand between its dots.
+ghost use Rattle.std.specs.Prelude.{◌≡◌, ◌==◌, ◌∷◌, ◌<◌, ◌^◌, length, IfSome, option_copied, option_map};
+ghost use Rattle.std.specs.List.{list_all, list_any};
+ghost use Rattle.std.specs.Str.{byte};
+ghost use Rattle.suffix_list.specs.ListText as text;
+ghost use Rattle.suffix_list.specs.Suffix.{labels_of, last_of};
+ghost use Rattle.suffix_list.specs.Suffix as suffix;
+ghost use Rattle.suffix_list.specs.Index.{labels_after};
+ghost use Rattle.suffix_list.specs.Index as spec;
+
+/// The first label, and what follows its dot.
+pub(crate) fn next_label(name: &str) -> (&str, Option<&str>)
+    ensures labels { labels_of name.now ≡ result.0.now ∷ labels_after (option_copied result.1) }
+    ensures shorter { IfSome result.1 (λ rest. length rest.now < length name.now) }
+{
+    match name.split_once('.') {
+        Some((label, rest)) => (label, Some(rest)),
+        None => (name, None),
+    }
+}
+
+pub(crate) fn count_labels(name: &str) -> usize
+    ensures { result ≡ length (labels_of name.now) }
+{
+    name.split('.').count()
+}
+
+/// The last labels of a name, or all where it has no more.
+pub(crate) fn last_labels(name: &str, count: usize) -> &str
+    ensures value { result.now ≡ suffix.last_labels count name.now }
+    ensures labels { 0 < count → labels_of result.now ≡ last_of count (labels_of name.now) }
+    ensures countable { length (labels_of name.now) < 2 ^ 64 }
+{
+    let mut rest = name;
+    let mut left = count_labels(name);
+    'labels: while left > count {
+        match next_label(rest) {
+            (_, Some(more)) => rest = more,
+            (_, None) => return "",
+        }
+        left -= 1;
+    }
+    rest
+}
+
+/// The last labels of a name and one more, or none where the last labels are the name.
+pub(crate) fn one_label_more(name: &str, count: usize) -> Option<&str>
+    ensures { option_map (λ text. text.now) result ≡ spec.one_label_more count name.now }
+{
+    if last_labels(name, count) == name {
+        None
+    } else {
+        Some(last_labels(name, count + 1))
+    }
+}
+
+/// Whether each label of a name stands for itself in a rule.
+pub(crate) fn all_labels(name: &str) -> bool
+    ensures { result ≡ list_all text.is_label (labels_of name.now) }
+{
+    name.split('.').all(is_label)
+}
+
+pub(crate) fn is_label(label: &str) -> bool
+    ensures { result ≡ text.is_label label.now }
+{
+    !label.is_empty() && !has_star(label)
+}
+
+fn has_star(label: &str) -> bool
+    ensures { result ≡ list_any (λ b. b == byte "*") label.now }
+{
+    label.bytes().any(|b| b == b'*')
+}

@@ -1,0 +1,3 @@
+mod StandardFacts
+pub mod PlacesLemmas
+pub mod EntriesLemmas

@@ -1,0 +1,11 @@
+//! Values by key, in the order of the keys, each of which can be lent to be changed.
+//!
+//! A [`KeyMap`] is seen as the list of its entries, ordered by key. Its contracts say what the map
+//! is after a write through a `&mut` that it lent.
+#![tactic(auto)]
+
+mod map;
+#[cfg(test)]
+mod tests;
+
+pub use map::KeyMap;

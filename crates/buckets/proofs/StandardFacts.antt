@@ -1,0 +1,54 @@
+-- Values worked out by hand from the standard's steps and from this repository's own choices.
+use Rattle.std.proofs.Common.{◌≡◌, ℕ, refl, List, [], ◌∷◌, Some, None}
+use Rattle.std.specs.Prelude.{codes}
+use Rattle.std.specs.Ordering.{nat_cmp}
+use Rattle.local_area.specs.Area.{Pair}
+use Rattle.buckets.specs.declared.shed.Bucket.{Bucket}
+use Rattle.buckets.specs.declared.shed.Mode.TheVariants.{BestEffort, Persistent}
+use Rattle.buckets.specs.Shed.{area_at, held_area, mode_at, made, shed_put, evicted, count_evicted, fresh_bucket}
+
+abbrev one : List Pair
+one = record { name = codes "k"; value = codes "v" } ∷ []
+
+abbrev kept : Bucket
+kept = record { mode = Persistent; area = one }
+
+abbrev held : Bucket
+held = record { mode = BestEffort; area = one }
+
+-- 3 is best-effort with a pair, 5 is persistent with a pair, 7 is best-effort without
+abbrev three : List (ℕ × Bucket)
+three = (3, held) ∷ (5, kept) ∷ (7, fresh_bucket) ∷ []
+
+area_of_bucket : area_at nat_cmp 7 three ≡ Some []
+area_of_bucket = refl
+
+area_of_none : area_at nat_cmp 4 three ≡ None
+area_of_none = refl
+
+pairs_of_none : held_area nat_cmp 4 three ≡ []
+pairs_of_none = refl
+
+mode_of_bucket : mode_at nat_cmp 5 three ≡ Persistent
+mode_of_bucket = refl
+
+mode_of_none : mode_at nat_cmp 4 three ≡ BestEffort
+mode_of_none = refl
+
+made_is_fresh : made nat_cmp 4 ((5, kept) ∷ []) ≡ (4, fresh_bucket) ∷ (5, kept) ∷ []
+made_is_fresh = refl
+
+made_stays : made nat_cmp 5 three ≡ three
+made_stays = refl
+
+persisted_keeps_pairs : shed_put nat_cmp 3 Persistent one three ≡ (3, kept) ∷ (5, kept) ∷ (7, fresh_bucket) ∷ []
+persisted_keeps_pairs = refl
+
+persistent_stays : evicted nat_cmp (3 ∷ 5 ∷ 9 ∷ []) three ≡ (3, fresh_bucket) ∷ (5, kept) ∷ (7, fresh_bucket) ∷ []
+persistent_stays = refl
+
+named_twice_counts_once : count_evicted nat_cmp (3 ∷ 5 ∷ 7 ∷ 3 ∷ []) three ≡ 1
+named_twice_counts_once = refl
+
+unnamed_stays : evicted nat_cmp (7 ∷ []) three ≡ three
+unnamed_stays = refl

@@ -1,0 +1,86 @@
+//! A caller of the loan, and each call that takes memory with ample memory.
+ghost use Rattle.std.specs.Prelude.{◌≡◌, OnOk, OnErr, string_bytes};
+ghost use Rattle.local_area.specs.Area.{area_put};
+ghost use Rattle.buckets.specs.Shed.{held_area, mode_at, shed_put};
+
+use crate::{Mode, Shed};
+use agent_base::NoMemory;
+use local_area::{AreaFault, Put};
+use std::alloc::{AllocError, Global};
+use std::test::Fail;
+
+// Puts a pair into the area of a key.
+fn put<K: Ord + Drop>(
+    shed: &mut Shed<K>,
+    key: K,
+    name: String,
+    value: String,
+) -> Result<Put, AreaFault>
+    ensures stored { OnOk result (shed.new ≡ shed_put K.cmp key (mode_at K.cmp key shed.old)
+        (area_put (string_bytes name) (string_bytes value) (held_area K.cmp key shed.old)) shed.old) }
+{
+    match shed.area_mut(key) {
+        Ok(area) => area.put(name, value),
+        Err(NoMemory) => Err(AreaFault::NoMemory),
+    }
+}
+
+// A shed with one pair of two bytes at each of these keys.
+fn shed_of(alloc: Global, keys: &[u32]) -> Result<Shed<u32>, AllocError> {
+    let mut shed = Shed::new(alloc);
+    for key in keys {
+        let name = String::from_str(alloc, "k")?;
+        let value = String::from_str(alloc, "v")?;
+        if put(&mut shed, *key, name, value).is_err() {
+            return Err(AllocError);
+        }
+    }
+    Ok(shed)
+}
+
+#[test]
+fn eviction_spares_persistent_buckets(rt: HostRuntime) -> Result<(), Fail> {
+    let mut shed = shed_of(rt.alloc(), &[7, 3, 5])?;
+    for (key, want) in [(5, Ok(true)), (5, Ok(false)), (9, Ok(true))] {
+        assert_eq!(rt; shed.persist(key), want, "at {key}");
+    }
+    assert_eq!(rt; shed.reserve(8), Ok(()));
+    let Ok(copy) = shed.copy() else {
+        assert!(rt; false, "no memory for a copy");
+        return Ok(());
+    };
+    for (keys, want) in [
+        (&[3, 5, 8, 9][..], 1),
+        (&[3, 5, 7, 7][..], 1),
+        (&[3, 5, 7][..], 0),
+    ] {
+        assert_eq!(rt; shed.evict(keys), want, "of {keys:?}");
+    }
+    for (key, usage, copied) in [(3, 0, 2), (5, 2, 2), (7, 0, 2), (8, 0, 0), (1, 0, 0)] {
+        assert_eq!(rt; shed.usage(&key), usage, "at {key}");
+        assert_eq!(rt; copy.usage(&key), copied, "in the copy at {key}");
+    }
+    assert_eq!(rt; shed.mode(&9), Mode::Persistent);
+    assert_eq!(rt; shed.mode(&1), Mode::BestEffort);
+    Ok(())
+}
+
+#[test]
+fn keys_come_in_order(rt: HostRuntime) -> Result<(), Fail> {
+    let shed = shed_of(rt.alloc(), &[7, 3, 5])?;
+    for (after, want) in [
+        (None, Some(3)),
+        (Some(3), Some(5)),
+        (Some(4), Some(5)),
+        (Some(7), None),
+    ] {
+        assert_eq!(rt;
+            shed.next_key(after.as_ref()).copied(),
+            want,
+            "after {after:?}"
+        );
+    }
+    assert!(rt; shed.area(&4).is_none());
+    assert!(rt; matches!(shed.area(&3), Some(area) if area.get("k") == Some("v")));
+    Ok(())
+}

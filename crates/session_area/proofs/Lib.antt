@@ -1,0 +1,3 @@
+mod StandardFacts
+pub mod SessionsLemmas
+pub mod CopyLemmas

@@ -1,0 +1,67 @@
+-- The areas of tabs after a write at one tab.
+use Rattle.std.proofs.Common.{◌≡◌, ◌≢◌, ℕ, Bool, true, false, cond, List, [], ◌∷◌, Option, Some, None, refl, arith}
+use Rattle.std.specs.Prelude.{unwrap_or, is_some}
+use Rattle.std.specs.List.{AllZip}
+use Rattle.std.specs.Cmp.{Equal-is}
+use Rattle.std.specs.Ordering.{nat_cmp, is_eq}
+use Rattle.local_area.specs.Area.{Pair}
+use Rattle.key_map.specs.Entries.{map_get, IsCopy}
+use Rattle.session_area.specs.Sessions.{areas_of, ChangesTab, SameAreas}
+
+-- a tab is told from another
+itself : (tab : ℕ) → is_eq (nat_cmp tab tab) ≡ true
+itself tab = grind (arith, Equal-is)
+
+one : (tab other : ℕ) → is_eq (nat_cmp tab other) ≡ true → tab ≡ other
+one tab other same = grind (arith, Equal-is)
+
+apart : (tab other : ℕ) → tab ≢ other → is_eq (nat_cmp tab other) ≡ false
+apart tab other differ = grind (arith, Equal-is)
+
+module _ {K : Type 0} where
+  -- what is found at each tab, where one is written
+  abbrev pub Finds : ℕ → Option (List (K × List Pair)) → (old new : List (ℕ × List (K × List Pair))) → Type 0
+  Finds tab value old new = (q : ℕ) → map_get nat_cmp q new ≡ cond (is_eq (nat_cmp tab q)) value (map_get nat_cmp q old)
+
+  pub ChangesTab-found : (tab : ℕ) (value : Option (List (K × List Pair))) (old new : List (ℕ × List (K × List Pair))) → Finds tab value old new
+      → ChangesTab tab (unwrap_or value []) old new
+  ChangesTab-found tab value old new finds = record {
+    here = rw (finds tab, itself tab) refl;
+    elsewhere = λ other differ. rw (finds other, apart tab other differ) refl;
+  }
+
+  same_step : (value : Option (List (K × List Pair))) (b : Bool) → (b ≡ true → value ≡ None)
+      → unwrap_or (cond b (Some []) value) [] ≡ unwrap_or value []
+  same_step value true none = rw (none refl) refl
+  same_step value false none = refl
+
+  -- a tab that was not there has no areas, and neither has one that was made
+  pub SameAreas-made : (tab : ℕ) (old new : List (ℕ × List (K × List Pair))) → Finds tab (Some []) old new
+      → map_get nat_cmp tab old ≡ None → SameAreas old new
+  SameAreas-made tab old new finds missing =
+      λ q. rw (finds q) (same_step (map_get nat_cmp q old) (is_eq (nat_cmp tab q))
+      (λ same. let is : tab ≡ q = one tab q same in rw (← is) missing))
+
+  both_some : (C : K → K → Type 0) (D : List Pair → List Pair → Type 0) (a b : List (K × List Pair)) (c d : Option (List (K × List Pair))) (t : Bool)
+      → IsCopy C D a b → IsCopy C D (unwrap_or c []) (unwrap_or d [])
+      → IsCopy C D (unwrap_or (cond t (Some a) c) []) (unwrap_or (cond t (Some b) d) [])
+  both_some C D a b c d true here rest = here
+  both_some C D a b c d false here rest = rest
+
+  -- tabs whose maps are clones
+  pub areas_of-clone : (C : K → K → Type 0) (old new : List (ℕ × List (K × List Pair)))
+      → AllZip (λ e f. (f.0 ≡ e.0) × IsCopy C (λ area clone. clone ≡ area) e.1 f.1) old new
+      → (tab : ℕ) → IsCopy C (λ area clone. clone ≡ area) (areas_of tab old) (areas_of tab new)
+  areas_of-clone C [] [] zip tab = tt
+  areas_of-clone C [] (f ∷ fs) zip tab = absurd zip
+  areas_of-clone C (e ∷ es) [] zip tab = absurd zip
+  areas_of-clone C (e ∷ es) (f ∷ fs) zip tab =
+      rw zip.0.0 (both_some C (λ area clone. clone ≡ area) e.1 f.1 _ _ (is_eq (nat_cmp tab e.0)) zip.0.1 (areas_of-clone C es fs zip.1 tab))
+
+pub none_from : {A : Type 0} (o : Option A) → false ≡ is_some o → o ≡ None
+none_from None is = refl
+none_from (Some x) is = absurd (cc is)
+
+pub both_none : {A : Type 0} (b : Bool) → ◌≡◌ {A = Option A} None (cond b None None)
+both_none true = refl
+both_none false = refl

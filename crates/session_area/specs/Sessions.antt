@@ -1,0 +1,40 @@
+-- Session areas: a map from tabs to a map from storage keys to areas.
+-- Source: Storage Standard, "Storage sheds": each traversable navigable holds a storage shed.
+-- Our own choice: a tab without areas and an absent tab are not told apart.
+use Rattle.std.specs.Prelude.{◌≡◌, ◌≢◌, ℕ, List, [], Option, None, unwrap_or, if◌then◌else◌}
+use Rattle.std.specs.declared.cmp.Ordering.{Ordering}
+use Rattle.std.specs.Ordering.{nat_cmp}
+use Rattle.local_area.specs.Area.{Pair}
+use Rattle.key_map.specs.Entries.{map_get, is_among}
+
+module _ {K : Type 0} where
+  -- the areas of a tab, by key
+  abbrev pub areas_of : ℕ → List (ℕ × List (K × List Pair)) → List (K × List Pair)
+  areas_of tab sessions = unwrap_or (map_get nat_cmp tab sessions) []
+
+  -- every tab has the areas that it had
+  abbrev pub SameAreas : (old new : List (ℕ × List (K × List Pair))) → Type 0
+  SameAreas old new = (tab : ℕ) → areas_of tab new ≡ areas_of tab old
+
+  -- every other tab has the areas that it had
+  abbrev pub KeepsOthers : ℕ → (old new : List (ℕ × List (K × List Pair))) → Type 0
+  KeepsOthers tab old new = (other : ℕ) → tab ≢ other → areas_of other new ≡ areas_of other old
+
+  -- a tab has these areas, and every other tab those that it had
+  pub record ChangesTab (tab : ℕ) (areas : List (K × List Pair)) (old new : List (ℕ × List (K × List Pair))) : Type 0 where
+    pub here : areas_of tab new ≡ areas
+    pub elsewhere : KeepsOthers tab old new
+
+module _ {K : Type 0} (cmp : K → K → Ordering) where
+  -- the area of a tab and a key, if there is one
+  abbrev pub session_area : ℕ → K → List (ℕ × List (K × List Pair)) → Option (List Pair)
+  session_area tab key sessions = map_get cmp key (areas_of tab sessions)
+
+  -- the pairs of a tab and a key: those of the area, and none where there is no area
+  abbrev pub held_session : ℕ → K → List (ℕ × List (K × List Pair)) → List Pair
+  held_session tab key sessions = unwrap_or (session_area tab key sessions) []
+
+  -- a map of areas holds those of another under these keys, and no others
+  abbrev pub IsCopied : List K → (from to : List (K × List Pair)) → Type 0
+  IsCopied keys from to =
+      (key : K) → map_get cmp key to ≡ (if is_among cmp keys key then map_get cmp key from else None)

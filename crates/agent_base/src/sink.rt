@@ -118,6 +118,7 @@ impl Sink for MemSink {
         ensures count { IfOk result (λ n. n ≡ min (length bytes.now) (self.old.room - length self.old.taken)) }
         ensures fails { IsErr result ↔ IsTrue (refuses self.old) }
         ensures calls { self.new.calls ≡ next_count self.old.calls }
+        ensures faults { OnErr result (self.new.faults ≡ next_count self.old.faults) }
         ensures kept { (self.new.fails ≡ self.old.fails) × (self.new.room ≡ self.old.room) }
     {
         let refused = self.refuses();

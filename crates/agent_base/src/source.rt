@@ -1,5 +1,5 @@
 //! Sources of bytes, and reading one to its end.
-ghost use Rattle.std.specs.Prelude.{◌≡◌, ◌≤◌, ◌<◌, ◌↔◌, ◌++◌, ℕ, List, [], Option, Some, None, Ok, Err, IfOk, IfSome, IsErr, IsErrOf, IsTrue, OnOk, MatchResult, length, take, min};
+ghost use Rattle.std.specs.Prelude.{◌≡◌, ◌≤◌, ◌<◌, ◌↔◌, ◌++◌, ◌⊎◌, ℕ, List, [], Option, Some, None, Ok, Err, IfOk, IfSome, IsErr, IsErrOf, IsTrue, OnErr, OnOk, MatchResult, length, take, min};
 ghost use Rattle.agent_base.specs.Counts.{Rose, HasCause, next_count};
 ghost use Rattle.agent_base.specs.Streams.{Gives, Shortens};
 ghost use Rattle.agent_base.specs.Memory.{SourceView, next_fails};
@@ -46,6 +46,8 @@ pub fn read_all<S: Source>(alloc: Global, source: &mut S, limit: usize) -> Resul
     ensures too_long { IsErrOf result ReadAll.TooLong → IfSome (S.left source.old) (λ bytes. limit < length bytes) }
     ensures failed { IsErrOf result ReadAll.Failed → Rose (S.faults source.old) (S.faults source.new) }
     ensures later { S.faults source.old ≤ S.faults source.new }
+    ensures still { MatchResult result (λ _. S.faults source.new ≡ S.faults source.old)
+        (λ why. (why ≡ ReadAll.Failed) ⊎ (S.faults source.new ≡ S.faults source.old)) }
     ensures rest { Shortens (S.left source.old) (S.left source.new) }
 {
     let mut bytes = Vec::new(alloc);
@@ -140,6 +142,7 @@ impl Source for MemSource {
         ensures count { IfOk result (λ n. n ≡ min (length into.old) (length self.old.left)) }
         ensures fails { IsErr result ↔ IsTrue (next_fails self.old.fails self.old.calls) }
         ensures calls { self.new.calls ≡ next_count self.old.calls }
+        ensures faults { OnErr result (self.new.faults ≡ next_count self.old.faults) }
         ensures kept { self.new.fails ≡ self.old.fails }
     {
         self.calls = self.calls.saturating_add(1);

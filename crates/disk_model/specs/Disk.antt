@@ -81,7 +81,6 @@ pub record Stays (old new : View) : Type 0 where
 -- the count of faults rises at `Err` and stays at `Ok`, and a disk that tells goes on telling
 pub record Counts {T E : Type 0} (result : Result T E) (old new : View) : Type 0 where
   pub cause : HasCause old.faults new.faults result
-  pub ok : OnOk result (new.faults ≡ old.faults)
   pub tells : new.tells ≡ old.tells
 
 -- a changing call counts as one; one that fails may count as none

@@ -1,4 +1,4 @@
-use Rattle.std.proofs.Common.{◌≤◌, ◌-◌, length, take}
+use Rattle.std.proofs.Common.{◌≡◌, ◌≤◌, ◌-◌, length, take}
 use Rattle.agent_base.specs.Streams.{Takes}
 use Rattle.agent_base.proofs.sink.write_all.Given as goal
 
@@ -6,7 +6,7 @@ abbrev pub invariant-pieces : goal.invariant-pieces
 invariant-pieces g l =
     let sink = g.K.Sink in
     record {
-      later : sink.faults l.fn.sink ≤ sink.faults l.sink;
+      still : sink.faults l.sink ≡ sink.faults l.fn.sink;
       within : l.at ≤ length l.bytes;
       so_far : Takes (sink.taken l.fn.sink) (sink.taken l.sink) (take l.at l.bytes);
     }

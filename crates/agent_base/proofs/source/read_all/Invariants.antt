@@ -1,4 +1,4 @@
-use Rattle.std.proofs.Common.{◌≤◌, length}
+use Rattle.std.proofs.Common.{◌≡◌, ◌≤◌, length}
 use Rattle.agent_base.specs.Streams.{Gives}
 use Rattle.agent_base.proofs.source.read_all.Given as goal
 
@@ -6,7 +6,7 @@ abbrev pub invariant-pieces : goal.invariant-pieces
 invariant-pieces g l =
     let source = g.S.Source in
     record {
-      later : source.faults l.fn.source ≤ source.faults l.source;
+      still : source.faults l.source ≡ source.faults l.fn.source;
       so_far : Gives (source.left l.fn.source) (source.left l.source) l.bytes.items;
       within : length l.bytes.items ≤ l.limit;
     }

@@ -7,7 +7,7 @@ use Rattle.disk_model.specs.Image.{IsImage}
 use Rattle.disk_model.specs.ImageLaws.{image_from}
 use Rattle.disk_model.specs.History.{Held, Event, wrote, synced, overlaid, after, replay, at_first, ImageOf, Since}
 use Rattle.disk_model.specs.Laws.{contents_stay, overlaid-written, overlaid-torn}
-use Rattle.disk_model.specs.History.{Past, held, Grows}
+use Rattle.disk_model.specs.History.{Past, held, IsNext, Grows}
 use Rattle.disk_model.specs.MemDisk.{MemView, view_of}
 use Rattle.disk_model.specs.Recovery.{Recovered}
 use Rattle.disk_model.proofs.Recoveries.{recovered_image}
@@ -23,24 +23,24 @@ pub image_exact : (file c : List ℕ) → IsImage file [] c → c ≡ file
 image_exact file c image = same_number_lists c file (omega (arith, image.no_shorter, image.no_longer)) (λ k below. image.outside k (omega (arith, image.no_shorter, image.no_longer)) tt)
 
 module _ (old new : Past) (h : Held) (base : ℕ) (grows : Grows old new h) where
-  events_more : (t : ℕ) (file : List ℕ) → ((e : Event) × (new.events ≡ old.events ++ e ∷ [])) ⊎ (new.events ≡ old.events) → t ≤ base + length old.events → Since new.first new.events base t file → Since old.first old.events base t file ⊎ ImageOf (held new) file
+  events_more : (t : ℕ) (file : List ℕ) → IsNext old.events new.events → t ≤ base + length old.events → Since new.first new.events base t file → Since old.first old.events base t file ⊎ ImageOf (held new) file
   events_more t file (inl more) le since =
       let at_old : Since old.first (old.events ++ more.0 ∷ []) base t file = subst (λ (l : List Event). Since old.first l base t file) more.1 (subst (λ (f : List ℕ). Since f new.events base t file) grows.first since) in
       let is_new : replay (at_first old.first) (old.events ++ more.0 ∷ []) ≡ held new =
       ap (λ (l : List Event). replay (at_first old.first) l) (sym more.1) ∙ ap (λ (f : List ℕ). replay (at_first f) new.events) (sym grows.first) in
       ⊎_elim (λ past. inl past) (λ now. inr (subst (λ (x : Held). ImageOf x file) is_new now)) (since_push old.first old.events more.0 base t file at_old)
   events_more t file (inr same) le since =
-      inl (subst (λ (l : List Event). Since old.first l base t file) same (subst (λ (f : List ℕ). Since f new.events base t file) grows.first since))
+      inl (subst (λ (l : List Event). Since old.first l base t file) same.0 (subst (λ (f : List ℕ). Since f new.events base t file) grows.first since))
 
-  events_keep : (t : ℕ) (file : List ℕ) → ((e : Event) × (new.events ≡ old.events ++ e ∷ [])) ⊎ (new.events ≡ old.events) → Since old.first old.events base t file → Since new.first new.events base t file
+  events_keep : (t : ℕ) (file : List ℕ) → IsNext old.events new.events → Since old.first old.events base t file → Since new.first new.events base t file
   events_keep t file (inl more) since =
       subst (λ (f : List ℕ). Since f new.events base t file) (sym grows.first) (subst (λ (l : List Event). Since old.first l base t file) (sym more.1) (since_keeps old.first old.events more.0 base t file since))
   events_keep t file (inr same) since =
-      subst (λ (f : List ℕ). Since f new.events base t file) (sym grows.first) (subst (λ (l : List Event). Since old.first l base t file) (sym same) since)
+      subst (λ (f : List ℕ). Since f new.events base t file) (sym grows.first) (subst (λ (l : List Event). Since old.first l base t file) (sym same.0) since)
 
-  longer : ((e : Event) × (new.events ≡ old.events ++ e ∷ [])) ⊎ (new.events ≡ old.events) → length old.events ≤ length new.events
+  longer : IsNext old.events new.events → length old.events ≤ length new.events
   longer (inl more) = omega (arith, ap length more.1, length-append old.events (more.0 ∷ []))
-  longer (inr same) = omega (arith, ap length same)
+  longer (inr same) = omega (arith, ap length same.0)
 
 -- time goes on by one event, or by none
 pub elapses : (old new : MemView) (h : Held) → Grows old.past new.past h → new.base ≡ old.base → Elapses (view_of old) (view_of new)

@@ -1,7 +1,7 @@
 -- The past of a disk in memory: what it held at each moment since it was made or last restarted.
 -- Our own choice: the record has what the file was at first, and then each write, failed ones too,
 -- each sync that succeeded and each that failed.
-use Rattle.std.specs.Prelude.{◌≡◌, ◌⊎◌, ℕ, ◌+◌, ◌≤◌, nat_le, List, [], ◌∷◌, ◌++◌, length, take, drop, if◌then◌else◌}
+use Rattle.std.specs.Prelude.{◌≡◌, ◌⊎◌, ℕ, ◌+◌, ◌-◌, ◌^◌, ◌≤◌, nat_le, List, [], ◌∷◌, ◌++◌, length, take, drop, if◌then◌else◌}
 use Rattle.disk_model.specs.Image.{IsImage}
 
 -- what a read returns, what was synced, and the ranges written since
@@ -62,8 +62,12 @@ pub record Past : Type 0 where
 abbrev pub held : Past → Held
 held p = replay (at_first p.first) p.events
 
--- the past has grown by one event, or by none where a count of syncs stands at its last value
+-- one event more, or none where so many were recorded that a count may stand at its last value
+abbrev pub IsNext : List Event → List Event → Type 0
+IsNext old new = ((e : Event) × (new ≡ old ++ e ∷ [])) ⊎ ((new ≡ old) × (2 ^ 64 - 1 ≤ length old))
+
+-- the past has grown by an event, and what is held now
 pub record Grows (old new : Past) (now : Held) : Type 0 where
   pub first : new.first ≡ old.first
-  pub events : ((e : Event) × (new.events ≡ old.events ++ e ∷ [])) ⊎ (new.events ≡ old.events)
+  pub events : IsNext old.events new.events
   pub stands : held new ≡ now

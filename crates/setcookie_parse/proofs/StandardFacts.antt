@@ -1,11 +1,12 @@
 -- Values of the definitions, computed from them, so that a wrong rule does not check.
-use Rattle.std.proofs.Common.{◌≡◌, refl, true, false, [], ◌∷◌, ◌++◌, replicate, codes, Some, None}
-use Rattle.std.specs.Prelude.{pos}
+use Rattle.std.proofs.Common.{◌≡◌, refl, ℕ, zero, suc, true, false, [], ◌∷◌, ◌++◌, replicate, codes, Some, None}
+use Rattle.std.specs.Prelude.{pos, ℤ}
+use Rattle.std.specs.List.{list_any, concat}
 use Rattle.jiff_core.specs.Calendar.{days_from_civil, day_count, days_of_years, days_of_months}
 use Rattle.setcookie_parse.specs.declared.cookie.SameSite.TheVariants.{Default, Lax}
 use Rattle.setcookie_parse.specs.declared.cookie.DropCause.TheVariants.{Control, TooLong, Empty}
 use Rattle.setcookie_parse.specs.CookieDate.{cookie_date, tokens_of}
-use Rattle.setcookie_parse.specs.SetCookie.{CookieText, Kept, Dropped, set_cookie_text}
+use Rattle.setcookie_parse.specs.SetCookie.{CookieText, Kept, Dropped, is_control, set_cookie_text}
 
 some_tokens : tokens_of (codes "Sun, 06 Nov") ≡ codes "Sun" ∷ codes "06" ∷ codes "Nov" ∷ []
 some_tokens = refl
@@ -111,3 +112,16 @@ latest_date = refl
 other_attributes : set_cookie_text (codes "a=1; HTTPONLY; samesite=NONE; partitioned; SameSite=lax") (pos 0)
     ≡ Kept (record plain_cookie { http_only = true; partitioned = true; same_site = Lax })
 other_attributes = refl
+
+no_control : (n : ℕ) → list_any is_control (replicate n 59) ≡ false
+no_control zero = refl
+no_control (suc n) = no_control n
+
+-- a text of semicolons alone, however many, has no name and no value
+only_semicolons : (n : ℕ) (now : ℤ) → set_cookie_text (replicate n 59) now ≡ Dropped Empty
+only_semicolons zero now = refl
+only_semicolons (suc n) now = rw (no_control n) refl
+
+many_paths : set_cookie_text (codes "a=1" ++ concat (replicate 1000 (codes ";Path=/x"))) (pos 0)
+    ≡ Kept (record plain_cookie { path = Some (codes "/x"); has_path = true })
+many_paths = refl

@@ -47,6 +47,8 @@ pub record View : Type 1 where
   -- whether the power is off, and how many calls have failed while it was on
   pub off : Bool
   pub strikes : ℕ
+  -- at most so many calls more may fail while the power is on
+  pub spare : ℕ
 
 -- what is told goes on by a step, and what is not told stays untold
 abbrev pub Goes : (List ℕ → List ℕ → Type 0) → Option (List ℕ) → Option (List ℕ) → Type 0
@@ -94,11 +96,21 @@ pub record UsesRoom (n : ℕ) (old new : View) : Type 0 where
   pub end : old.room_end ≤ new.room_end
   pub writes : old.room_writes ≤ new.room_writes + n
 
--- a call that succeeds found the power on; one that fails found it off, or is a strike
+-- a call that failed found the power off, or is one failure more while the power was on
+abbrev pub IsStruck : View → View → Type 0
+IsStruck old new =
+    ((old.off ≡ true) × (new.off ≡ true) × (new.strikes ≡ old.strikes))
+    ⊎ ((old.off ≡ false) × Rose old.strikes new.strikes × (new.strikes ≤ old.strikes + 1))
+
+-- the failures that were to come are those that came and those that are still to come, or more
+abbrev pub IsSpent : View → View → Type 0
+IsSpent old new = new.strikes + new.spare ≤ old.strikes + old.spare
+
+-- a call that succeeds found the power on
 pub record Strikes {T E : Type 0} (result : Result T E) (old new : View) : Type 0 where
   pub ok : OnOk result ((old.off ≡ false) × (new.off ≡ false) × (new.strikes ≡ old.strikes))
-  pub err : OnErr result (((old.off ≡ true) × (new.off ≡ true) × (new.strikes ≡ old.strikes))
-      ⊎ ((old.off ≡ false) × Rose old.strikes new.strikes × (new.strikes ≤ old.strikes + 1)))
+  pub err : OnErr result (IsStruck old new)
+  pub spent : IsSpent old new
 
 -- a cut at any moment since `old` leaves a file that has P
 pub record LeavesOnly (old new : View) (P : List ℕ → Type 0) : Type 0 where

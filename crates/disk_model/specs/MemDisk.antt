@@ -1,5 +1,5 @@
 -- A disk in memory, as contracts see it, and what it tells.
-use Rattle.std.specs.Prelude.{◌≡◌, ◌↔◌, true, ℕ, ◌+◌, length, Some, is_some, unwrap_or, Result, IsErr, IsTrue}
+use Rattle.std.specs.Prelude.{◌≡◌, ◌↔◌, true, ℕ, ◌+◌, ◌-◌, ◌^◌, List, [], ◌∷◌, length, Some, is_some, unwrap_or, Result, IsErr, IsTrue}
 use Rattle.disk_model.specs.Disk.{View}
 use Rattle.disk_model.specs.History.{Past, held, ImageOf, Since}
 use Rattle.disk_model.specs.Schedule.{Plan, refuses, called}
@@ -12,6 +12,15 @@ pub record MemView : Type 0 where
   pub base : ℕ
   pub faults : ℕ
   pub strikes : ℕ
+
+-- so many failures more, where calls are to fail without a cut: as many as a count has room for
+abbrev pub failures_of : List ℕ → ℕ → ℕ
+failures_of [] strikes = 0
+failures_of (number ∷ fails) strikes = 2 ^ 64 - strikes
+
+-- so many calls more may fail while the power is on: one for each cut to come
+abbrev pub spare_of : Plan → ℕ → ℕ
+spare_of plan strikes = length plan.cuts + failures_of plan.fails strikes
 
 -- what it tells
 abbrev pub view_of : MemView → View
@@ -27,6 +36,7 @@ view_of disk = record {
   room_writes = disk.past.room_writes;
   off = is_some disk.plan.off;
   strikes = disk.strikes;
+  spare = spare_of disk.plan disk.strikes;
 }
 
 -- the pick of a restart: that of the cut, and 0 while the power is on

@@ -65,7 +65,8 @@ pub trait Disk {
         ensures anew { OnOk result ((t : ℕ) (c : List ℕ) → (view self.new).left_since t c → (view self.new).contents ≡ Some c) }
         ensures failed { OnErr result ((c : List ℕ) → (view self.new).may_leave c → (view self.old).may_leave c) }
         ensures faults { Counts result (view self.old) (view self.new) }
-        ensures on { OnOk result (((view self.new).off ≡ false) × ((view self.new).strikes ≡ (view self.old).strikes)) }
+        ensures on { OnOk result (((view self.new).off ≡ false) × ((view self.new).strikes ≡ (view self.old).strikes)
+            × ((view self.new).spare ≡ (view self.old).spare)) }
         ensures calls { (view self.new).changing ≡ (view self.old).changing }
         ensures room { UsesRoom 0 (view self.old) (view self.new) };
 
@@ -74,7 +75,8 @@ pub trait Disk {
         ensures stays { Stays (view self.old) (view self.new) }
         ensures faults { (view self.new).faults ≡ (view self.old).faults }
         ensures power { ((view self.new).off ≡ (view self.old).off)
-            × ((view self.new).strikes ≡ (view self.old).strikes) }
+            × ((view self.new).strikes ≡ (view self.old).strikes)
+            × ((view self.new).spare ≡ (view self.old).spare) }
         ensures end { OnOk result (end ≤ (view self.new).room_end) }
         ensures writes { OnOk result (writes ≤ (view self.new).room_writes) }
         ensures room { OnErr result (UsesRoom 0 (view self.old) (view self.new)) };

@@ -50,6 +50,7 @@ impl MemDisk {
         ensures contents { (result.past.first ≡ bytes.items) × (result.past.events ≡ []) }
         ensures plan { result.plan ≡ record { calls = 0; cuts = cuts.items; fails = fails.items; off = None } }
         ensures counts { (result.faults ≡ 0) × (result.strikes ≡ 0) }
+        ensures spare { fails.items ≡ [] → (view_of result).spare ≡ length cuts.items }
     {
         MemDisk {
             medium: Medium::new(alloc, bytes),
@@ -228,7 +229,8 @@ impl Disk for MemDisk {
             → (view_of self.new).contents ≡ Some c) }
         ensures failed { OnErr result ((c : List ℕ) → (view_of self.new).may_leave c → (view_of self.old).may_leave c) }
         ensures faults { Counts result (view_of self.old) (view_of self.new) }
-        ensures on { OnOk result (((view_of self.new).off ≡ false) × ((view_of self.new).strikes ≡ (view_of self.old).strikes)) }
+        ensures on { OnOk result (((view_of self.new).off ≡ false) × ((view_of self.new).strikes ≡ (view_of self.old).strikes)
+            × ((view_of self.new).spare ≡ (view_of self.old).spare)) }
         ensures calls { (view_of self.new).changing ≡ (view_of self.old).changing }
         ensures room { UsesRoom 0 (view_of self.old) (view_of self.new) }
         ensures ok { IsOk result }
@@ -249,7 +251,8 @@ impl Disk for MemDisk {
         ensures stays { Stays (view_of self.old) (view_of self.new) }
         ensures faults { (view_of self.new).faults ≡ (view_of self.old).faults }
         ensures power { ((view_of self.new).off ≡ (view_of self.old).off)
-            × ((view_of self.new).strikes ≡ (view_of self.old).strikes) }
+            × ((view_of self.new).strikes ≡ (view_of self.old).strikes)
+            × ((view_of self.new).spare ≡ (view_of self.old).spare) }
         ensures end { OnOk result (end ≤ (view_of self.new).room_end) }
         ensures writes { OnOk result (writes ≤ (view_of self.new).room_writes) }
         ensures room { OnErr result (UsesRoom 0 (view_of self.old) (view_of self.new)) }

@@ -1,6 +1,6 @@
 // A checkpoint: a snapshot in the place of the frames, by the two slots of the head.
 ghost use Rattle.std.specs.Prelude.{◌≡◌, ◌⊎◌, is_err, ◌+◌, ◌-◌, ◌%◌, ◌<◌, ◌≤◌, ◌^◌, ◌++◌, ◌∷◌, [], min, not, Bool, List, ℕ, length, slice_index, Some, true, false, IfOk, OnOk, OnErr};
-ghost use Rattle.disk_model.specs.Disk.{IsSettled, LeavesOnly, Counts, Stays, UsesRoom};
+ghost use Rattle.disk_model.specs.Disk.{IsSettled, LeavesOnly, Counts, Strikes, Stays, UsesRoom};
 ghost use Rattle.journal.specs.Store.{Frame, IsStore, encoded, slot_bytes, other_at};
 ghost use Rattle.journal.specs.Journal.{JournalView, Stands, IsAtRest, HasRoom, IsBeforeOrSnapshot, snapshot_frame, since_of};
 ghost use Rattle.journal.specs.Between.{IsRegion, IsApart, IsBetween};
@@ -16,6 +16,7 @@ fn byte_at<D: Disk>(disk: &mut D, at: u64) -> Result<u8, Failed>
     ensures byte { IfOk result (λ b. (c : List ℕ) → (D.view disk.old).contents ≡ Some c → slice_index c at ≡ b) }
     ensures stays { Stays (D.view disk.old) (D.view disk.new) }
     ensures faults { Counts result (D.view disk.old) (D.view disk.new) }
+    ensures strikes { Strikes result (D.view disk.old) (D.view disk.new) }
     ensures room { UsesRoom 0 (D.view disk.old) (D.view disk.new) }
 {
     let mut byte = [0];
@@ -54,6 +55,7 @@ fn stage_snapshot<D: Disk>(
     ensures long { OnOk result ((d : List ℕ) → (D.view disk.new).contents ≡ Some d → 129 ≤ length d) }
     ensures settled { OnOk result (IsSettled (D.view disk.new)) }
     ensures faults { Counts result (D.view disk.old) (D.view disk.new) }
+    ensures strikes { Strikes result (D.view disk.old) (D.view disk.new) }
     ensures calls { (D.view disk.new).changing ≤ (D.view disk.old).changing + 3 }
     ensures all_calls { OnOk result (min ((D.view disk.old).changing + 3) (2 ^ 64 - 1) ≤ (D.view disk.new).changing) }
     ensures room { UsesRoom 2 (D.view disk.old) (D.view disk.new) }
@@ -123,6 +125,7 @@ impl Journal {
         ensures shut { self.new.shut ≡ is_err result }
         ensures room { self.old.room ≤ self.new.room }
         ensures faults { Counts result (D.view disk.old) (D.view disk.new) }
+        ensures strikes { Strikes result (D.view disk.old) (D.view disk.new) }
         ensures calls { (D.view disk.new).changing ≤ (D.view disk.old).changing + 7 }
         ensures all_calls { OnOk result (min ((D.view disk.old).changing + 7) (2 ^ 64 - 1) ≤ (D.view disk.new).changing) }
     {

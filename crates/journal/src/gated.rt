@@ -1,6 +1,6 @@
 // A block is appended behind a closed gate, which is opened once the block is on the disk.
 ghost use Rattle.std.specs.Prelude.{◌≡◌, ◌+◌, ◌<◌, ◌≤◌, ◌^◌, ◌-◌, min, ◌∷◌, List, ℕ, length, Some, IfOk, OnOk};
-ghost use Rattle.disk_model.specs.Disk.{Written, Goes, IsSettled, LeavesOnly, Counts, UsesRoom};
+ghost use Rattle.disk_model.specs.Disk.{Written, Goes, IsSettled, LeavesOnly, Counts, Strikes, UsesRoom};
 ghost use Rattle.journal.specs.Append.{IsAppending, IsStaging, IsStaged, IsReady, IsSettling, settle_calls};
 
 use agent_base::Failed;
@@ -19,6 +19,7 @@ pub fn append<D: Disk>(disk: &mut D, gate: u64, block: &[u8]) -> Result<(), Fail
     ensures any_moment { (c : List ℕ) → (D.view disk.old).contents ≡ Some c
         → LeavesOnly (D.view disk.old) (D.view disk.new) (IsAppending gate block.now c) }
     ensures faults { Counts result (D.view disk.old) (D.view disk.new) }
+    ensures strikes { Strikes result (D.view disk.old) (D.view disk.new) }
     ensures calls { (D.view disk.new).changing ≤ (D.view disk.old).changing + 4 }
     ensures all_calls { OnOk result (min ((D.view disk.old).changing + 4) (2 ^ 64 - 1) ≤ (D.view disk.new).changing) }
     ensures room { UsesRoom 2 (D.view disk.old) (D.view disk.new) }
@@ -49,6 +50,7 @@ pub fn stage<D: Disk>(
     ensures any_moment { (c : List ℕ) → (D.view disk.old).contents ≡ Some c
         → LeavesOnly (D.view disk.old) (D.view disk.new) (IsStaging at (length block.now) slot (length piece.now) c) }
     ensures faults { Counts result (D.view disk.old) (D.view disk.new) }
+    ensures strikes { Strikes result (D.view disk.old) (D.view disk.new) }
     ensures calls { (D.view disk.new).changing ≤ (D.view disk.old).changing + 3 }
     ensures all_calls { OnOk result (min ((D.view disk.old).changing + 3) (2 ^ 64 - 1) ≤ (D.view disk.new).changing) }
     ensures room { UsesRoom 2 (D.view disk.old) (D.view disk.new) }
@@ -70,6 +72,7 @@ pub fn settle<D: Disk>(disk: &mut D) -> Result<u64, Failed>
     ensures kept { (c : List ℕ) → (D.view disk.old).contents ≡ Some c → 1 < length c
         → (D.view disk.new).contents ≡ Some c }
     ensures faults { Counts result (D.view disk.old) (D.view disk.new) }
+    ensures strikes { Strikes result (D.view disk.old) (D.view disk.new) }
     ensures calls { (c : List ℕ) → (D.view disk.old).contents ≡ Some c
         → (D.view disk.new).changing ≤ (D.view disk.old).changing + settle_calls c }
     ensures all_calls { OnOk result ((c : List ℕ) → (D.view disk.old).contents ≡ Some c

@@ -1,6 +1,6 @@
 // The journal: frames behind gates in the live region of a store.
 ghost use Rattle.std.specs.Prelude.{◌≡◌, ◌⊎◌, ◌↔◌, ◌+◌, ◌-◌, ◌%◌, ◌^◌, ◌<◌, ◌≤◌, ◌∷◌, ◌++◌, [], min, List, ℕ, Bool, length, Some, true, false, OnOk, OnErr, is_err, vec_capacity};
-ghost use Rattle.disk_model.specs.Disk.{IsSettled, LeavesOnly, Counts, Stays};
+ghost use Rattle.disk_model.specs.Disk.{IsSettled, LeavesOnly, Counts, Strikes, Stays};
 ghost use Rattle.journal.specs.Store.{Frame, encoded};
 ghost use Rattle.journal.specs.Region.{Runs, StandsFor};
 ghost use Rattle.journal.specs.Journal.{JournalView, Stands, IsAtRest, HasRoom, IsBeforeOrAfter, next_frame, since_of};
@@ -77,6 +77,9 @@ impl Journal {
         ensures at_rest { IsAtRest self.old (D.view disk.old) → IsAtRest self.new (D.view disk.new) }
         ensures stays { Stays (D.view disk.old) (D.view disk.new) }
         ensures faults { (D.view disk.new).faults ≡ (D.view disk.old).faults }
+        ensures power { ((D.view disk.new).off ≡ (D.view disk.old).off)
+            × ((D.view disk.new).strikes ≡ (D.view disk.old).strikes)
+            × ((D.view disk.new).spare ≡ (D.view disk.old).spare) }
     {
         let size = body.checked_add(19).ok_or(NoMemory)?;
         let end = self
@@ -130,6 +133,7 @@ impl Journal {
         ensures shut { self.new.shut ≡ is_err result }
         ensures room { self.old.room ≤ self.new.room }
         ensures faults { Counts result (D.view disk.old) (D.view disk.new) }
+        ensures strikes { Strikes result (D.view disk.old) (D.view disk.new) }
         ensures calls { (D.view disk.new).changing ≤ (D.view disk.old).changing + 4 }
         ensures all_calls { OnOk result (min ((D.view disk.old).changing + 4) (2 ^ 64 - 1) ≤ (D.view disk.new).changing) }
     {

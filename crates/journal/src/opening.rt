@@ -1,7 +1,7 @@
 // Opens a store, or makes one.
 ghost use Rattle.std.specs.Prelude.{◌≡◌, ◌⊎◌, ◌+◌, ◌-◌, ◌^◌, ◌<◌, ◌≤◌, ◌++◌, ◌∷◌, [], min, List, ℕ, length, slice_index, true, false, Some, IfOk, IfErr, OnOk, IsErrOf, MatchResult};
 ghost use Rattle.agent_base.specs.Counts.{Rose};
-ghost use Rattle.disk_model.specs.Disk.{IsSettled, LeavesOnly, Counts, Stays, UsesRoom};
+ghost use Rattle.disk_model.specs.Disk.{IsSettled, LeavesOnly, Counts, IsStruck, IsSpent, Stays, UsesRoom};
 ghost use Rattle.journal.specs.Store.{Frame, IsOpen, IsUnborn, IsStore, new_head};
 ghost use Rattle.journal.specs.Region.{Runs, StandsFor};
 ghost use Rattle.journal.specs.Opening.{IsWithin, IsRefusal, IsStoreRefusal, IsOfFile, IsExcused, IsOpening, opening_calls};
@@ -29,6 +29,10 @@ fn read_all<D: Disk>(alloc: Global, disk: &mut D, len: u64) -> Result<Vec<u8>, O
     ensures excused { IfErr result IsExcused }
     ensures later { (D.view disk.old).faults ≤ (D.view disk.new).faults }
     ensures device { IsErrOf result DeviceFault → Rose (D.view disk.old).faults (D.view disk.new).faults }
+    ensures struck { IsErrOf result DeviceFault → IsStruck (D.view disk.old) (D.view disk.new) }
+    ensures spent { IsSpent (D.view disk.old) (D.view disk.new) }
+    ensures power { OnOk result (((D.view disk.old).off ≡ false) × ((D.view disk.new).off ≡ false)
+        × ((D.view disk.new).strikes ≡ (D.view disk.old).strikes)) }
     ensures room { UsesRoom 0 (D.view disk.old) (D.view disk.new) }
 {
     let mut bytes = Vec::new(alloc);
@@ -116,6 +120,10 @@ fn make<D: Disk, R: Replay>(
     ensures tells { (D.view disk.new).tells ≡ (D.view disk.old).tells }
     ensures later { (D.view disk.old).faults ≤ (D.view disk.new).faults }
     ensures device { IsErrOf result DeviceFault → Rose (D.view disk.old).faults (D.view disk.new).faults }
+    ensures struck { IsErrOf result DeviceFault → IsStruck (D.view disk.old) (D.view disk.new) }
+    ensures spent { IsSpent (D.view disk.old) (D.view disk.new) }
+    ensures power { OnOk result (((D.view disk.old).off ≡ false) × ((D.view disk.new).off ≡ false)
+        × ((D.view disk.new).strikes ≡ (D.view disk.old).strikes)) }
     ensures calls { (D.view disk.new).changing ≤ (D.view disk.old).changing + 4 }
     ensures all_calls { OnOk result (min ((D.view disk.old).changing + 4) (2 ^ 64 - 1) ≤ (D.view disk.new).changing) }
     ensures any_moment { (c : List ℕ) → (D.view disk.old).contents ≡ Some c
@@ -174,6 +182,10 @@ fn open_store<D: Disk, R: Replay>(
     ensures tells { (D.view disk.new).tells ≡ (D.view disk.old).tells }
     ensures later { (D.view disk.old).faults ≤ (D.view disk.new).faults }
     ensures device { IsErrOf result DeviceFault → Rose (D.view disk.old).faults (D.view disk.new).faults }
+    ensures struck { IsErrOf result DeviceFault → IsStruck (D.view disk.old) (D.view disk.new) }
+    ensures spent { IsSpent (D.view disk.old) (D.view disk.new) }
+    ensures power { OnOk result (((D.view disk.old).off ≡ false) × ((D.view disk.new).off ≡ false)
+        × ((D.view disk.new).strikes ≡ (D.view disk.old).strikes)) }
     ensures calls { (c : List ℕ) → (D.view disk.old).contents ≡ Some c
         → (D.view disk.new).changing ≤ (D.view disk.old).changing + opening_calls c }
     ensures all_calls { OnOk result ((c : List ℕ) → (D.view disk.old).contents ≡ Some c
@@ -236,6 +248,10 @@ impl Journal {
         ensures tells { (D.view disk.new).tells ≡ (D.view disk.old).tells }
         ensures later { (D.view disk.old).faults ≤ (D.view disk.new).faults }
         ensures device { IsErrOf result DeviceFault → Rose (D.view disk.old).faults (D.view disk.new).faults }
+        ensures struck { IsErrOf result DeviceFault → IsStruck (D.view disk.old) (D.view disk.new) }
+        ensures spent { IsSpent (D.view disk.old) (D.view disk.new) }
+        ensures power { OnOk result (((D.view disk.old).off ≡ false) × ((D.view disk.new).off ≡ false)
+            × ((D.view disk.new).strikes ≡ (D.view disk.old).strikes)) }
         ensures calls { (c : List ℕ) → (D.view disk.old).contents ≡ Some c
             → (D.view disk.new).changing ≤ (D.view disk.old).changing + opening_calls c }
         ensures all_calls { OnOk result ((c : List ℕ) → (D.view disk.old).contents ≡ Some c

@@ -28,8 +28,23 @@ fn or_else(members: &[(&'static str, u8)], name: &'static str, other: u8) -> Res
     Ok(Cases { rows: members }.find(name).unwrap_or(other))
 }
 
+// Refuses the first member of another name.
+fn only(members: &[(&'static str, u8)], names: &[&str]) -> Result<(), Absent> {
+    match members
+        .iter()
+        .find(|row| !names.iter().any(|name| *name == row.0))
+    {
+        Some(row) => Err(Absent(row.0)),
+        None => Ok(()),
+    }
+}
+
 fn read_shape(members: &[(&'static str, u8)]) -> Result<Shape, Absent> {
-    Ok(read_fields!(members; Shape::Frame { low: required, high: required, depth: or_else(9) }))
+    let shape =
+        read_fields!((members); only; { low: required, high: required, depth: or_else(9) } => {
+        Shape::Frame { low, high, depth }
+    });
+    Ok(shape)
 }
 
 #[test]
@@ -47,7 +62,11 @@ fn first_rows_and_fields(rt: HostRuntime) {
     assert!(rt; Cases { rows: &LEVELS[1..] }.distinct());
 
     let (low, high, depth) = (1, 2, 9);
-    assert_eq!(rt; read_shape(&LEVELS), Ok(Shape::Frame { low, high, depth }));
+    assert_eq!(rt;
+        read_shape(&LEVELS[..3]),
+        Ok(Shape::Frame { low, high, depth })
+    );
+    assert_eq!(rt; read_shape(&LEVELS), Err(Absent("Höhe")));
     assert_eq!(rt; read_shape(&LEVELS[..1]), Err(Absent("high")));
     assert_eq!(rt; read_shape(&[]), Err(Absent("low")));
 }

@@ -1,5 +1,6 @@
 pub mod LabelLemmas
 pub mod MatchLemmas
+pub mod DomainLemmas
 pub mod KeptLemmas
 pub mod LookupLemmas
 pub mod NoteLemmas

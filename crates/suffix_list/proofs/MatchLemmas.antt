@@ -16,7 +16,7 @@ covers-other : (labels : List (List ℕ)) (rule : Rule) → (length rule.labels 
 covers-other labels rule other = false_from_ne_true (covers labels rule) (λ holds. other (covers-length labels rule holds))
 
 -- a rule that matches has no more labels
-matches-length : (labels : List (List ℕ)) (rule : Rule) → matches_labels labels rule ≡ true → length rule.labels ≤ length labels
+pub matches-length : (labels : List (List ℕ)) (rule : Rule) → matches_labels labels rule ≡ true → length rule.labels ≤ length labels
 matches-length labels rule holds =
     let same = covers-length (last_of (length rule.labels) labels) rule holds in
     omega (arith, length-drop (length labels - length rule.labels) labels)
@@ -117,7 +117,7 @@ longest_is test rules (label ∷ labels) =
     step later false out = ap most_labels (same_filter test label labels rules out) ∙ later
 
 -- a filter of a filter
-filter-both : (p q : Rule → Bool) (rules : List Rule) → filter p (filter q rules) ≡ filter (λ rule. p rule && q rule) rules
+pub filter-both : (p q : Rule → Bool) (rules : List Rule) → filter p (filter q rules) ≡ filter (λ rule. p rule && q rule) rules
 filter-both p q [] = refl
 filter-both p q (rule ∷ rules) = first (filter-both p q rules) (p rule) (q rule) refl
   where

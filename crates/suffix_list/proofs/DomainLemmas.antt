@@ -1,11 +1,11 @@
 -- The domain of a host is a label suffix of the host, and the domain of a domain is itself.
 use Rattle.std.proofs.Common.{◌≡◌, ℕ, zero, suc, ◌+◌, ◌-◌, ◌<◌, ◌≤◌, ◌==◌, ◌⊎◌, inl, inr, ⊎_elim, Bool, true, false, cond, List, [], ◌∷◌, ◌++◌, length, drop, map, refl, ap, ◌∙◌, sym, arith, append_assoc, length-drop, drop-drop}
-use Rattle.std.specs.Prelude.{max, ◌&&◌, ◌||◌, filter, fold, bytes_eq, Some, None, unwrap_or}
+use Rattle.std.specs.Prelude.{max, ◌&&◌, ◌||◌, filter, fold, Some, None, unwrap_or}
 use Rattle.std.specs.List.{list_any, join_with_byte, onto_first}
 use Rattle.std.proofs.lemmas.Bool.{both_ways, false_from_ne_true, cond-true, cond-false, cases_lt}
 use Rattle.std.proofs.lemmas.Bool.Decides.{nat_tests}
 use Rattle.std.proofs.lemmas.Slice.Eq.{bytes_eq-Decides}
-use Rattle.suffix_list.specs.Suffix.{Rule, labels_of, last_of, last_labels, covers, matches_labels, most_labels, prevailing_labels, suffix_labels, is_public_suffix, public_suffix, domain}
+use Rattle.suffix_list.specs.Suffix.{Rule, labels_of, last_of, last_labels, covers, matches_labels, most_labels, prevailing_labels, suffix_labels, is_public_suffix, domain}
 use Rattle.suffix_list.proofs.LabelLemmas.{join_labels, some_label, last_labels_all}
 use Rattle.suffix_list.proofs.MatchLemmas.{filter-both, matches-length}
 
@@ -54,11 +54,16 @@ labels_behind (suc count) name some =
     let rest = first.1.0 in
     let fewer : length (labels_of rest) ≡ length (labels_of name) - 1 = ap length (sym first.1.1.1) ∙ length-drop 1 (labels_of name) in
     let found = labels_behind count rest (omega arith) in
-    let labels : labels_of found.0 ≡ drop (suc count) (labels_of name) = found.1.0 ∙ ap (drop count) (sym first.1.1.1) ∙ drop_more count (labels_of name) in
-    (found.0, (labels, inr (⊎_elim
-    (λ same. (front, first.1.1.0 ∙ ap (λ r. front ++ 46 ∷ r) (sym same)))
-    (λ dotted. (front ++ 46 ∷ dotted.0, first.1.1.0 ∙ ap (λ r. front ++ 46 ∷ r) dotted.1 ∙ sym (append_assoc front (46 ∷ dotted.0) (46 ∷ found.0))))
-    found.1.1)))
+    let labels : labels_of found.0 ≡ drop (suc count) (labels_of name) = found.1.0 ∙ ap (drop count) (sym first.1.1.1) ∙ drop_more count (labels_of name) in (
+      found.0,
+      (
+        labels,
+        inr (⊎_elim
+            (λ same. (front, first.1.1.0 ∙ ap (λ r. front ++ 46 ∷ r) (sym same)))
+            (λ dotted. (front ++ 46 ∷ dotted.0, first.1.1.0 ∙ ap (λ r. front ++ 46 ∷ r) dotted.1 ∙ sym (append_assoc front (46 ∷ dotted.0) (46 ∷ found.0))))
+            found.1.1),
+      ),
+    )
 
 -- the last labels of a name are a text that it ends at
 pub last_labels_end : (count : ℕ) (name : List ℕ) → 0 < count

@@ -84,6 +84,8 @@ fn first_fault_of_a_text(rt: HostRuntime) -> Result<(), Fail> {
         ("a<b", ListFault::BadRule(1)),
         ("xn--a", ListFault::BadRule(1)),
         ("a。。b", ListFault::BadRule(1)),
+        ("\u{FEFF}// c\ncom", ListFault::BadRule(1)),
+        ("\u{FEFF}*.ck", ListFault::BadRule(1)),
     ] {
         match read(alloc, text)? {
             Ok(_) => assert!(rt; false, "{text}"),
@@ -100,6 +102,28 @@ fn first_fault_of_a_text(rt: HostRuntime) -> Result<(), Fail> {
         shown.as_str(),
         "list line 2: bad rule; list line 3: too many rules; list: too long"
     );
+    Ok(())
+}
+
+// A list of one rule, a host, and its registrable domain.
+#[test]
+fn rules_that_are_not_what_they_look_like(rt: HostRuntime) -> Result<(), Fail> {
+    let alloc = rt.alloc();
+    for (rule, host, domain) in [
+        ("＊.com", "a.b.com", "a.b.com"),
+        ("\u{FEFF}uk.com", "a.b.uk.com", "b.uk.com"),
+        ("\u{FEFF}!uk.com", "a.b.uk.com", "uk.com"),
+        ("com", "a.b.telecom", "b.telecom"),
+        ("*.ck", "a.b.c.ck", "b.c.ck"),
+        ("", "a.b.xn--a", "b.xn--a"),
+    ] {
+        let list = read(alloc, rule)??;
+        assert_eq!(rt;
+            list.registrable(host).unwrap_or(""),
+            domain,
+            "{host} under {rule}"
+        );
+    }
     Ok(())
 }
 

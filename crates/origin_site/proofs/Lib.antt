@@ -1,6 +1,7 @@
 pub mod SameLemmas
-pub mod DomainLemmas
 pub mod ReadsBackLemmas
 pub mod OriginLemmas
+pub mod SuffixLemmas
+pub mod SiteLemmas
 pub mod TextLemmas
 pub mod StandardFacts

@@ -48,7 +48,7 @@ empty_text (Ipv4 address) some = refl
 empty_text (Ipv6 address) some = refl
 
 -- a web URL has a host that is not empty
-has_host_is : (url : Parts) → IsValid url → kind_of url ≡ SpecialNotFile → has_host url ≡ true
+pub has_host_is : (url : Parts) → IsValid url → kind_of url ≡ SpecialNotFile → has_host url ≡ true
 has_host_is url valid kind =
     let authority = special_has_authority url valid.head (ap is_special kind) in
     let is_host = subst (λ k. IsHostOf k (host_or_empty url)) kind (own_host url valid.head authority) in
@@ -72,7 +72,7 @@ port_tail : (https : Bool) (scheme host : List ℕ) (port : Option ℕ) (own : �
 port_tail https scheme host None own is same valid = rw (is, same, eq-eqb own own refl) (sym (append-nil host))
 port_tail https scheme host (Some n) own is same valid = cond-false _ host _ (ne_eqb n (cond https 443 80) (λ e. valid.1 (is ∙ ap Some (sym (e ∙ same)))))
 
-default_port_is : (https : Bool) → default_port (scheme_text https) ≡ Some (cond https 443 80)
+pub default_port_is : (https : Bool) → default_port (scheme_text https) ≡ Some (cond https 443 80)
 unfolding default_port
 default_port_is true = refl
 default_port_is false = refl
@@ -94,7 +94,7 @@ text_by https url read scheme =
     let tail = port_tail https url.scheme (host_of url) url.port (cond https 443 80) own refl read.valid.head.port in
     (λ i. sym scheme i ++ (codes "://" ++ tail i)) ∙ ap (λ h. url.scheme ++ (codes "://" ++ (h ++ port_text url.port))) (host_of_is url read.valid (web_kind url read.web))
 
-https_is : (url : Parts) → IsWeb url → (https : Bool) × (bytes_eq url.scheme (codes "https") ≡ https) × (url.scheme ≡ scheme_text https)
+pub https_is : (url : Parts) → IsWeb url → (https : Bool) × (bytes_eq url.scheme (codes "https") ≡ https) × (url.scheme ≡ scheme_text https)
 https_is url web =
     ⊎_elim
     (λ e. (true, (bytes_eq-Decides url.scheme (codes "https")).1 e, e))
@@ -108,10 +108,10 @@ web_test url web =
     (λ e. ap (λ s. not (bytes_eq s (codes "https") || bytes_eq s (codes "http"))) e)
     web
 
-serialize_bare : (url : Parts) → has_authority url ≡ true → serialize (bare_url url) ≡ origin_text_of url ++ 47 ∷ []
+pub serialize_bare : (url : Parts) → has_authority url ≡ true → serialize (bare_url url) ≡ origin_text_of url ++ 47 ∷ []
 serialize_bare url authority = rw authority (simp (append_assoc, append-nil))
 
-bare_shorter : (url : Parts) → IsValid url → kind_of url ≡ SpecialNotFile → length (serialize (bare_url url)) ≤ length (serialize url)
+pub bare_shorter : (url : Parts) → IsValid url → kind_of url ≡ SpecialNotFile → length (serialize (bare_url url)) ≤ length (serialize url)
 bare_shorter url valid kind =
     let authority = special_has_authority url valid.head (ap is_special kind) in
     let path = hierarchical url valid.path (base_from_authority url authority) in

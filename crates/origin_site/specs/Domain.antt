@@ -1,20 +1,15 @@
 -- The domain of a host: what a site has in place of the host.
--- Source: HTML, "Sites" (registrable domain); Public Suffix List, "Formal Algorithm", whose rule
--- without a matching rule is `*`. The list is empty here, so the public suffix is the last label.
--- Our own choice: a host is divided at every dot, so a label may be empty.
-use Rattle.std.specs.Prelude.{ℕ, Bool, ◌==◌, ◌-◌, List, length, drop, if◌then◌else◌}
-use Rattle.std.specs.List.{join_with_byte, slice_split}
-use Rattle.std.specs.Str.{byte}
+-- Source: HTML, "Sites"; URL Standard, "Host miscellaneous" (an IP address has no registrable
+-- domain). The registrable domain of another host is the Public Suffix List's.
+use Rattle.std.specs.Prelude.{◌≡◌, ℕ, ◌⊎◌, Bool, false, List, ◌∷◌, ◌++◌, if◌then◌else◌}
+use Rattle.suffix_list.specs.Suffix.{Rule, domain}
 
--- the parts of a host between its dots
-abbrev pub labels_of : List ℕ → List (List ℕ)
-labels_of host = slice_split (λ b. b == byte ".") host
+-- the domain of a host under a list of rules: the registrable domain, or the host itself
+abbrev pub host_domain : List Rule → Bool → List ℕ → List ℕ
+host_domain rules ip host = if ip then host else domain rules host
 
--- the host's last labels, with the dots between them, or all where it has no more
-abbrev pub last_labels : ℕ → List ℕ → List ℕ
-last_labels count host =
-    join_with_byte (byte ".") (drop (length (labels_of host) - count) (labels_of host))
-
--- the public suffix, which is one label, and one label more. An IP address is its own domain.
-abbrev pub plain_domain : Bool → List ℕ → List ℕ
-plain_domain ip host = if ip then host else last_labels 2 host
+-- a label suffix of a host: the host itself, or what stands behind one of its dots. An IP address
+-- has no labels, so it has itself alone.
+abbrev pub IsLabelSuffix : Bool → List ℕ → List ℕ → Type 0
+IsLabelSuffix ip host suffix =
+    (suffix ≡ host) ⊎ ((ip ≡ false) × ((front : List ℕ) × (host ≡ front ++ 46 ∷ suffix)))

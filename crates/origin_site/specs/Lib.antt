@@ -1,6 +1,6 @@
 -- What the public clauses rest on.
 pub mod Address
-pub mod Origin
 pub mod Domain
+pub mod Origin
 pub mod Site
 pub mod Plain

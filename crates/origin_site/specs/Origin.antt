@@ -4,6 +4,7 @@ use Rattle.std.specs.Prelude.{◌≡◌, ℕ, Bool, ◌&&◌, ◌==◌, List, �
 use Rattle.std.specs.Prelude.{if◌then◌else◌}
 use Rattle.std.proofs.Math.Bool.{beq}
 use Rattle.origin_site.specs.Address.{PlainAddress, address_of}
+use Rattle.origin_site.specs.Domain.{IsLabelSuffix}
 
 -- an origin, as contracts see it; whether the host is an IP address follows from the host
 pub record PlainOrigin : Type 0 where
@@ -27,9 +28,13 @@ same_plain_origin a b =
 abbrev pub scheme_text : Bool → List ℕ
 scheme_text https = if https then codes "https" else codes "http"
 
+-- the scheme's default port
+abbrev pub default_port_of : Bool → ℕ
+default_port_of https = if https then 443 else 80
+
 -- the port is the scheme's default
 abbrev pub is_default : Bool → ℕ → Bool
-is_default https port = port == (if https then 443 else 80)
+is_default https port = port == default_port_of https
 
 -- `scheme://host`, with `:port` where it is not the default
 abbrev pub origin_text : PlainOrigin → List ℕ
@@ -52,3 +57,13 @@ root_address origin = record {
 -- the origin's text is the text of an address, which is its root
 abbrev pub ReadsBack : PlainOrigin → Type 0
 ReadsBack origin = address_of (origin_text origin) ≡ Ok (root_address origin)
+
+-- the origin of a host at the scheme's default port, whose text is that of a site
+abbrev pub default_origin : Bool → Bool → List ℕ → PlainOrigin
+default_origin https ip host =
+    record { https = https; ip = ip; host = host; port = default_port_of https }
+
+-- each label suffix of the host is a host of the same kind: with the scheme, its text reads back
+abbrev pub SuffixesReadBack : Bool → Bool → List ℕ → Type 0
+SuffixesReadBack https ip host =
+    (suffix : List ℕ) → IsLabelSuffix ip host suffix → ReadsBack (default_origin https ip suffix)

@@ -2,7 +2,7 @@
 ghost use Rattle.std.specs.Prelude.{◌≡◌, ◌≤◌, IfOk, false, length, string_bytes, true};
 ghost use Rattle.url.specs.Parts.{serialize};
 ghost use Rattle.origin_site.specs.Address as spec;
-ghost use Rattle.origin_site.specs.Origin.{ReadsBack};
+ghost use Rattle.origin_site.specs.Origin.{ReadsBack, SuffixesReadBack};
 
 use agent_base::NoMemory;
 use std::alloc::{AllocError, Global};
@@ -21,6 +21,8 @@ pub struct Address {
     // the text of the address's origin is the text of an address
     ghost reads: { ReadsBack
         (record { https = https; ip = ip; host = string_bytes host; port = port }) },
+    // each label suffix of the host is a host, whose site's text reads back
+    ghost suffixes: { SuffixesReadBack https ip (string_bytes host) },
 }
 
 /// Why a text is no address.

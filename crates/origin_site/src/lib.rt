@@ -6,11 +6,13 @@
 #![tactic(auto)]
 
 mod address;
+mod domain;
 mod origin;
 mod site;
 #[cfg(test)]
 mod tests;
 
 pub use address::{Address, AddressFault};
+pub use domain::{domain_of, site_of};
 pub use origin::{Origin, same_origin};
-pub use site::{Site, same_site, site_plain};
+pub use site::{Site, SiteFault, same_site};

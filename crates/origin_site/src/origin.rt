@@ -1,6 +1,6 @@
 //! Origins.
 ghost use Rattle.std.specs.Prelude.{◌≡◌, IfOk, string_bytes};
-ghost use Rattle.origin_site.specs.Origin.{ReadsBack};
+ghost use Rattle.origin_site.specs.Origin.{ReadsBack, SuffixesReadBack};
 
 mod same;
 
@@ -19,10 +19,29 @@ pub struct Origin {
     // the origin's text is the text of an address
     ghost reads: { ReadsBack
         (record { https = https; ip = ip; host = string_bytes host; port = port }) },
+    // each label suffix of the host is a host, whose site's text reads back
+    ghost suffixes: { SuffixesReadBack https ip (string_bytes host) },
 }
 
 impl Origin {
+    ghost use Rattle.origin_site.specs.Origin.{origin_text};
     ghost use Rattle.origin_site.specs.Plain.{plain_origin};
+
+    /// The text `scheme://host`, with `:port` where it is not the scheme's default. It is the text
+    /// of an address, which is the origin's root.
+    pub fn text(&self, alloc: Global) -> Result<String, NoMemory>
+        ensures value { IfOk result (λ t. string_bytes t ≡ origin_text (plain_origin self.now)) }
+        ensures reads { ReadsBack (plain_origin self.now) }
+    {
+        let scheme = if self.https { "https" } else { "http" };
+        let host = self.host.as_str();
+        let port = self.port;
+        if port == (if self.https { 443 } else { 80 }) {
+            Ok(format!(in alloc; "{scheme}://{host}")?)
+        } else {
+            Ok(format!(in alloc; "{scheme}://{host}:{port}")?)
+        }
+    }
 
     /// The same origin, over memory of its own.
     pub fn copy(&self, alloc: Global) -> Result<Origin, NoMemory>

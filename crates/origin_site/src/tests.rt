@@ -1,25 +1,96 @@
 //! Addresses, origins and sites from outside, and calls that take memory where there is enough.
 use super::*;
+use agent_base::MemSource;
+use std::alloc::Global;
 use std::test::Fail;
+use suffix_list::SuffixList;
+
+// The list that a text is.
+fn list(alloc: Global, text: &str) -> Result<SuffixList, Fail> {
+    let bytes = Vec::from_slice(alloc, text.as_bytes())?;
+    let mut source = MemSource::new(bytes, Vec::new(alloc));
+    Ok(SuffixList::read(alloc, &mut source)?)
+}
+
+// A list, an address, and the site of its origin.
+const SITES: [(&str, &str, &str); 14] = [
+    ("", "https://user@x.a.test:8443/p?q#f", "https://a.test"),
+    ("", "HTTP://LOCALHOST", "http://localhost"),
+    ("", "http://1.2.3./", "http://1.2.0.3"),
+    ("", "https://[1:0::1]", "https://[1::1]"),
+    ("", "https://a..test/", "https://.test"),
+    ("", "https://食狮.test/", "https://xn--85x722f.test"),
+    ("*.ck\n!www.ck", "https://www.ck/", "https://www.ck"),
+    ("*.ck\n!www.ck", "https://x.www.ck/", "https://www.ck"),
+    ("*.ck\n!www.ck", "https://x.a.b.ck/", "https://a.b.ck"),
+    ("*.ck\n!www.ck", "https://b.ck/", "https://b.ck"),
+    (
+        "食狮.test",
+        "https://x.a.食狮.test/",
+        "https://a.xn--85x722f.test",
+    ),
+    ("7\n2.7", "https://192.0.2.7:8443/", "https://192.0.2.7"),
+    ("com", "https://a.b.telecom", "https://b.telecom"),
+    ("*.test", "https://a..test/", "https://a..test"),
+];
 
 #[test]
 fn sites_of_addresses(rt: HostRuntime) -> Result<(), Fail> {
     let alloc = rt.alloc();
-    for (text, site) in [
-        ("https://user@x.a.test:8443/p?q#f", "https://a.test"),
-        ("HTTP://LOCALHOST", "http://localhost"),
-        ("http://1.2.3./", "http://1.2.0.3"),
-        ("https://[1:0::1]", "https://[1::1]"),
-        ("https://a..test/", "https://.test"),
-        ("https://食狮.test/", "https://xn--85x722f.test"),
-    ] {
+    for (rules, text, site) in SITES {
+        let list = list(alloc, rules)?;
         let address = Address::read(alloc, text)?.copy(alloc)?;
         let origin = address.origin(alloc)?.copy(alloc)?;
-        let found = site_plain(alloc, &origin)?.copy(alloc)?;
+        let found = site_of(alloc, &origin, &list)?.copy(alloc)?;
         let shown = found.text(alloc)?;
-        assert_eq!(rt; shown.as_str(), site, "{text}");
+        assert_eq!(rt; shown.as_str(), site, "{text} under {rules}");
         let again = Address::read(alloc, shown.as_str())?.origin(alloc)?;
-        assert!(rt; same_site(&found, &site_plain(alloc, &again)?));
+        assert!(rt;
+            same_site(&found, &site_of(alloc, &again, &list)?),
+            "{text} under {rules}"
+        );
+        assert!(rt;
+            same_site(&found, &Site::read(alloc, site)?),
+            "{text} under {rules}"
+        );
+    }
+    Ok(())
+}
+
+#[test]
+fn texts_of_origins(rt: HostRuntime) -> Result<(), Fail> {
+    let alloc = rt.alloc();
+    for (text, shown) in [
+        ("https://a.test:443/p", "https://a.test"),
+        ("http://a.test:443/p", "http://a.test:443"),
+        ("https://a.test:80/p", "https://a.test:80"),
+        ("http://[::1]:80", "http://[::1]"),
+    ] {
+        let origin = Address::read(alloc, text)?.origin(alloc)?;
+        assert_eq!(rt; origin.text(alloc)?.as_str(), shown, "{text}");
+    }
+    Ok(())
+}
+
+#[test]
+fn texts_that_are_no_site(rt: HostRuntime) -> Result<(), Fail> {
+    let alloc = rt.alloc();
+    for text in [
+        "",
+        "a.test",
+        "https://a.test/",
+        "https://a.test:443",
+        "https://a.test:8443",
+        "https://A.test",
+        "https://a.test.",
+        "ftp://a.test",
+        " https://a.test",
+        "https://user@a.test",
+        "http://1.2.3",
+        "https://食狮.test",
+    ] {
+        let read = Site::read(alloc, text);
+        assert!(rt; matches!(read, Err(SiteFault::NotSite)), "{text}");
     }
     Ok(())
 }

@@ -1,7 +1,7 @@
 //! Scripts and replies from outside, and each call that takes memory where there is enough.
 use super::*;
 use agent_base::MemSource;
-use origin_site::{Address, Site, site_plain};
+use origin_site::Site;
 use std::alloc::Global;
 use std::test::Fail;
 
@@ -104,18 +104,15 @@ fn source_fails_in_mid_stream(rt: HostRuntime) -> Result<(), Fail> {
     Ok(())
 }
 
-// The line of a reply, with the site of this address.
+// The line of a reply, with the site of this text.
 fn printed(
     alloc: Global,
     name: &'static str,
-    address: Option<&str>,
+    site: Option<&str>,
     body: ReplyBody,
 ) -> Result<Vec<u8>, Fail> {
-    let site = match address {
-        Some(text) => {
-            let origin = Address::read(alloc, text)?.origin(alloc)?;
-            Some(site_plain(alloc, &origin)?)
-        }
+    let site = match site {
+        Some(text) => Some(Site::read(alloc, text)?),
         None => None,
     };
     let reply = Reply { name, site, body };
@@ -134,7 +131,7 @@ fn lines_of_replies(rt: HostRuntime) -> Result<(), Fail> {
             printed(
                 alloc,
                 "set",
-                Some("https://x.a.test:1/"),
+                Some("https://a.test"),
                 ReplyBody::Plain { is: "ok" },
             )?,
             "{\"do\":\"set\",\"is\":\"ok\",\"site\":\"https://a.test\"}\n",

@@ -1,13 +1,17 @@
-use Rattle.origin_site.proofs.OriginLemmas.{reads_back, web_from_test, same_reads}
+use Rattle.origin_site.proofs.OriginLemmas.{IsRead, reads_back, web_from_test, same_reads}
+use Rattle.origin_site.proofs.SuffixLemmas.{same_suffixes, suffixes_read_back}
 use Rattle.std.proofs.Common.{rules}
 use Rattle.origin_site.proofs.address.Address.copied.Goals as goal
 
 pub invariant_of-result : goal.invariant_of-result
-invariant_of-result c = record {
-  reads = same_reads (search rules) (search rules) (search rules) (search rules) (reads_back c.args.url.now (record {
-    valid = c.as_str.ensures.valid;
-    web = web_from_test c.args.url.now c.requires.web;
-    no_dot = c.requires.no_dot;
-    short = c.requires.short;
-  }));
-}
+invariant_of-result c =
+    let read : IsRead c.args.url.now = record {
+      valid = c.as_str.ensures.valid;
+      web = web_from_test c.args.url.now c.requires.web;
+      no_dot = c.requires.no_dot;
+      short = c.requires.short;
+    } in
+    record {
+      reads = same_reads (search rules) (search rules) (search rules) (search rules) (reads_back c.args.url.now read);
+      suffixes = same_suffixes (search rules) (search rules) (search rules) (suffixes_read_back c.args.url.now read);
+    }

@@ -1,14 +1,18 @@
 -- Where an area stands among the rows, and what a put into it makes of them.
-use Rattle.std.proofs.Common.{◌≡◌, ◌<◌, ℕ, ◌+◌, Bool, true, false, cond, List, [], ◌∷◌, ◌++◌, Option, Some, None, map, length, refl, sym, ap, subst, ◌∙◌, arith, slice_set, slice_index_or, add-one}
-use Rattle.std.specs.Prelude.{option_map}
+use Rattle.std.proofs.Common.{◌≡◌, ◌<◌, ◌≤◌, ℕ, ◌+◌, Bool, true, false, cond, List, [], ◌∷◌, ◌++◌, Option, Some, None, map, length, refl, sym, ap, subst, ◌∙◌, arith, slice_set, slice_index_or, add-one}
+use Rattle.std.specs.Prelude.{option_map, codes}
+use Rattle.std.proofs.lemmas.Bool.{cond-true, cond-false, le-ltb, lt-ltb}
 use Rattle.std.proofs.lemmas.List.{map-set, get_or-map}
 use Rattle.origin_site.specs.Origin.{PlainOrigin}
 use Rattle.origin_site.specs.Site.{PlainSite}
-use Rattle.local_area.specs.Area.{Pair}
+use Rattle.local_area.specs.Area.{Pair, quota, area_put, area_weight}
+use Rattle.local_area.specs.Put.{PutView, same, added, changed, put_answer}
+use Rattle.script_lines.specs.Reply.{Plain}
 use Rattle.agent_core.specs.declared.rows.AreaRow.{AreaRow as Row}
 use Rattle.agent_core.specs.Plain.{plain_row}
-use Rattle.agent_core.specs.Standing.{AreaRow}
-use Rattle.agent_core.specs.Rows.{is_at, row_place, pairs_in, pairs_put, rows_put}
+use Rattle.agent_core.specs.Standing.{AreaRow, OpenTab}
+use Rattle.agent_core.specs.Rows.{IsOver, is_at, row_place, pairs_in, pairs_put, rows_put}
+use Rattle.agent_core.specs.Steps.{is_over, is_over_by, pairs_of_tab, replied, reply_set, rows_set}
 
 -- a row whose area is written stands for that row with its pairs replaced
 pub row_written : (rows : List Row) (place : ℕ) (row : Row) (pairs : List Pair) (d : AreaRow) → place < length rows → row ≡ slice_index_or rows place row
@@ -88,3 +92,34 @@ module _ (site : PlainSite) (origin : PlainOrigin) where
         at true later ih is = cc
         at false None ih is = ap (λ rs. row ∷ rs) (ih refl)
         at false (Some j) ih is = cc
+
+-- a weight within the quota is not over it
+within_by : (put : PutView) (pairs : List Pair) → area_weight pairs ≤ quota → is_over_by put pairs ≡ false
+within_by same pairs within = refl
+within_by added pairs within = le-ltb quota (area_weight pairs) within
+within_by (changed before) pairs within = le-ltb quota (area_weight pairs) within
+
+pub within_quota : (name value : List ℕ) (pairs : List Pair) → area_weight (area_put name value pairs) ≤ quota → is_over name value pairs ≡ false
+within_quota name value pairs within = within_by (put_answer name value pairs) (area_put name value pairs) within
+
+over_by : (put : PutView) (pairs : List Pair) → quota < area_weight pairs → (put ≡ same → ⊥) → is_over_by put pairs ≡ true
+over_by same pairs over other = absurd (other refl)
+over_by added pairs over other = lt-ltb quota (area_weight pairs) over
+over_by (changed before) pairs over other = lt-ltb quota (area_weight pairs) over
+
+pub over_quota : (name value : List ℕ) (pairs : List Pair) → IsOver name value pairs → is_over name value pairs ≡ true
+over_quota name value pairs is = over_by (put_answer name value pairs) (area_put name value pairs) is.over is.other
+
+-- a `set` within the quota, and one past it
+module _ (tab : OpenTab) (name value : List ℕ) (rows : List AreaRow) where
+  pub rows_within : area_weight (area_put name value (pairs_of_tab tab rows)) ≤ quota → rows_set tab name value rows ≡ rows_put tab.site tab.origin name value rows
+  rows_within within = cond-false _ _ _ (within_quota name value (pairs_of_tab tab rows) within)
+
+  pub reply_within : area_weight (area_put name value (pairs_of_tab tab rows)) ≤ quota → reply_set tab name value rows ≡ replied (codes "set") (Some tab.site) (Plain (codes "ok"))
+  reply_within within = ap (λ b. replied (codes "set") (Some tab.site) (Plain (cond b (codes "quota") (codes "ok")))) (within_quota name value (pairs_of_tab tab rows) within)
+
+  pub rows_over : IsOver name value (pairs_of_tab tab rows) → rows_set tab name value rows ≡ rows
+  rows_over over = cond-true _ _ _ (over_quota name value (pairs_of_tab tab rows) over)
+
+  pub reply_over : IsOver name value (pairs_of_tab tab rows) → reply_set tab name value rows ≡ replied (codes "set") (Some tab.site) (Plain (codes "quota"))
+  reply_over over = ap (λ b. replied (codes "set") (Some tab.site) (Plain (cond b (codes "quota") (codes "ok")))) (over_quota name value (pairs_of_tab tab rows) over)

@@ -1,56 +1,63 @@
 -- What the agent's lists stand for: the tabs and the areas of each site.
 use Rattle.std.proofs.Common.{◌≡◌, ℕ, Bool, true, false, cond, ◌&&◌, List, [], ◌∷◌, ◌++◌, Option, Some, map, refl, sym, ap, ◌∙◌}
-use Rattle.std.specs.Prelude.{option_map, find, ◌==◌}
+use Rattle.std.specs.Prelude.{option_map, filter, find, ◌==◌}
 use Rattle.origin_site.specs.Origin.{PlainOrigin, same_plain_origin}
 use Rattle.origin_site.specs.Site.{PlainSite, same_plain_site}
 use Rattle.origin_site.proofs.SameLemmas.{same_plain_site-Decides, same_plain_origin-Decides}
 use Rattle.unwinding.proofs.Tests.{and_true, true_false}
-use Rattle.agent_model.specs.Partition.{Tab, area_of, with_area, origin_shown}
+use Rattle.agent_model.specs.Partition.{area_of, with_area, origin_shown}
 use Rattle.agent_model.specs.Lines.{site_at}
 use Rattle.agent_model.proofs.Areas.{area_put_get, same_areas, area_none}
-use Rattle.agent_core.specs.Standing.{AreaRow, site_of_tab, tabs_at, areas_at, place_of}
+use Rattle.agent_core.specs.Standing.{AreaRow, OpenTab, shown, tabs_at, areas_at, place_of}
 use Rattle.agent_core.specs.Rows.{tab_named, is_at, pairs_in, pairs_put, rows_put}
 
 -- where a tab is
-pub place_found : (tabs : List Tab) (n : ℕ) → site_at (map place_of tabs) n ≡ option_map site_of_tab (tab_named n tabs)
+pub place_found : (tabs : List OpenTab) (n : ℕ) → site_at (map place_of tabs) n ≡ option_map (λ tab. tab.site) (tab_named n tabs)
 place_found [] n = refl
 place_found (tab ∷ tabs) n = at (tab.number == n) (place_found tabs n)
   where
-    at : (b : Bool) → site_at (map place_of tabs) n ≡ option_map site_of_tab (tab_named n tabs)
-        → option_map (λ place. place.site) (cond b (Some (place_of tab)) (find (λ place. place.tab == n) (map place_of tabs))) ≡ option_map site_of_tab (cond b (Some tab) (tab_named n tabs))
+    at : (b : Bool) → site_at (map place_of tabs) n ≡ option_map (λ tab. tab.site) (tab_named n tabs)
+        → option_map (λ place. place.site) (cond b (Some (place_of tab)) (find (λ place. place.tab == n) (map place_of tabs))) ≡ option_map (λ tab. tab.site) (cond b (Some tab) (tab_named n tabs))
     at true later = refl
     at false later = later
 
 -- the tabs of a site, with one tab more
-pub tabs_at_push : (site : PlainSite) (tabs : List Tab) (tab : Tab) → tabs_at site (tabs ++ tab ∷ []) ≡ tabs_at site tabs ++ cond (same_plain_site site (site_of_tab tab)) (tab ∷ []) []
-tabs_at_push site [] tab = refl
-tabs_at_push site (t ∷ tabs) tab = at (same_plain_site site (site_of_tab t)) (tabs_at_push site tabs tab)
+pub tabs_at_push : (site : PlainSite) (tabs : List OpenTab) (tab : OpenTab) → tabs_at site (tabs ++ tab ∷ []) ≡ tabs_at site tabs ++ cond (same_plain_site site tab.site) (shown tab ∷ []) []
+tabs_at_push site [] tab = at (same_plain_site site tab.site)
   where
-    at : (b : Bool) → tabs_at site (tabs ++ tab ∷ []) ≡ tabs_at site tabs ++ cond (same_plain_site site (site_of_tab tab)) (tab ∷ []) []
-        → cond b (t ∷ tabs_at site (tabs ++ tab ∷ [])) (tabs_at site (tabs ++ tab ∷ [])) ≡ cond b (t ∷ tabs_at site tabs) (tabs_at site tabs) ++ cond (same_plain_site site (site_of_tab tab)) (tab ∷ []) []
-    at true later = ap (λ ts. t ∷ ts) later
+    at : (b : Bool) → map shown (cond b (tab ∷ []) []) ≡ cond b (shown tab ∷ []) []
+    at true = refl
+    at false = refl
+tabs_at_push site (t ∷ tabs) tab = at (same_plain_site site t.site) (tabs_at_push site tabs tab)
+  where
+    is_here : OpenTab → Bool
+    is_here u = same_plain_site site u.site
+
+    at : (b : Bool) → tabs_at site (tabs ++ tab ∷ []) ≡ tabs_at site tabs ++ cond (same_plain_site site tab.site) (shown tab ∷ []) []
+        → map shown (cond b (t ∷ filter is_here (tabs ++ tab ∷ [])) (filter is_here (tabs ++ tab ∷ []))) ≡ map shown (cond b (t ∷ filter is_here tabs) (filter is_here tabs)) ++ cond (same_plain_site site tab.site) (shown tab ∷ []) []
+    at true later = ap (λ ts. shown t ∷ ts) later
     at false later = later
 
 -- among the tabs of its site, a tab shows its origin
-pub origin_found : (tabs : List Tab) (n : ℕ) (tab : Tab) → tab_named n tabs ≡ Some tab → origin_shown (tabs_at (site_of_tab tab) tabs) n ≡ Some tab.origin
+pub origin_found : (tabs : List OpenTab) (n : ℕ) (tab : OpenTab) → tab_named n tabs ≡ Some tab → origin_shown (tabs_at tab.site tabs) n ≡ Some tab.origin
 origin_found [] n tab is = cc
 origin_found (t ∷ tabs) n tab is = at (t.number == n) refl is (origin_found tabs n tab)
   where
-    shown : (b : Bool) → (t.number == n) ≡ b → List Tab → Option PlainOrigin
-    shown b named ts = option_map (λ u. u.origin) (cond b (Some t) (find (λ u. u.number == n) ts))
+    at_site : List OpenTab
+    at_site = filter (λ u. same_plain_site tab.site u.site) tabs
 
-    skips : (c : Bool) → (t.number == n) ≡ false → origin_shown (tabs_at (site_of_tab tab) tabs) n ≡ Some tab.origin
-        → origin_shown (cond c (t ∷ tabs_at (site_of_tab tab) tabs) (tabs_at (site_of_tab tab) tabs)) n ≡ Some tab.origin
+    skips : (c : Bool) → (t.number == n) ≡ false → origin_shown (tabs_at tab.site tabs) n ≡ Some tab.origin
+        → origin_shown (map shown (cond c (t ∷ at_site) at_site)) n ≡ Some tab.origin
     skips true named later = rw named later
     skips false named later = later
 
     at : (b : Bool) → (t.number == n) ≡ b → cond b (Some t) (tab_named n tabs) ≡ Some tab
-        → (tab_named n tabs ≡ Some tab → origin_shown (tabs_at (site_of_tab tab) tabs) n ≡ Some tab.origin)
-        → origin_shown (tabs_at (site_of_tab tab) (t ∷ tabs)) n ≡ Some tab.origin
+        → (tab_named n tabs ≡ Some tab → origin_shown (tabs_at tab.site tabs) n ≡ Some tab.origin)
+        → origin_shown (tabs_at tab.site (t ∷ tabs)) n ≡ Some tab.origin
     at true named e later =
         let first : t ≡ tab = cc in
-        rw (← first, (same_plain_site-Decides (site_of_tab t) (site_of_tab t)).1 refl, named) refl
-    at false named e later = skips (same_plain_site (site_of_tab tab) (site_of_tab t)) named (later e)
+        rw (← first, (same_plain_site-Decides t.site t.site).1 refl, named) refl
+    at false named e later = skips (same_plain_site tab.site t.site) named (later e)
 
 -- an area among the rows is that area of its site
 pub area_found : (site : PlainSite) (origin : PlainOrigin) (rows : List AreaRow) → area_of origin (areas_at site rows) ≡ pairs_in site origin rows

@@ -7,19 +7,19 @@ use Rattle.unwinding.specs.World.{line_reply, world_step}
 use Rattle.agent_base.specs.declared.refusals.Label.{Label}
 use Rattle.origin_site.specs.Address.{PlainAddress}
 use Rattle.origin_site.specs.Origin.{PlainOrigin, origin_of_address}
-use Rattle.origin_site.specs.Site.{PlainSite, same_plain_site}
+use Rattle.origin_site.specs.Site.{PlainSite, same_plain_site, site_of_address}
 use Rattle.origin_site.proofs.SameLemmas.{same_plain_site-Decides}
 use Rattle.local_area.specs.Area.{Pair, quota, area_put, area_weight}
 use Rattle.local_area.specs.Put.{PutView, same, added, changed, put_answer}
 use Rattle.script_lines.specs.Script.{Open, Set, Get}
 use Rattle.script_lines.specs.Reply.{Plain}
-use Rattle.agent_model.specs.Partition.{Tab, Partition, area_of, with_area}
+use Rattle.agent_model.specs.Partition.{Partition, area_of, with_area}
 use Rattle.agent_model.specs.SiteStep.{site_step, answers, set_item_by, set_item}
 use Rattle.agent_model.specs.Lines.{Place, AgentWorld, main_event, refusal, rest_after}
 use Rattle.agent_model.specs.TheMachine.{machine}
 use Rattle.agent_model.specs.Isolation.{printed}
 use Rattle.agent_model.proofs.Areas.{area_kept}
-use Rattle.agent_core.specs.Standing.{AgentState, site_of_tab, tabs_at, areas_at, place_of, partition_at, world_of}
+use Rattle.agent_core.specs.Standing.{AgentState, OpenTab, shown, tabs_at, areas_at, place_of, partition_at, world_of}
 use Rattle.agent_core.specs.Rows.{tab_named, pairs_by, pairs_put, rows_put}
 use Rattle.agent_core.specs.Steps.{open_state_by, open_state, open_reply_by, open_reply, pairs_of_tab, is_over_by, is_over, set_state_by, set_state, set_reply_by, set_reply, get_reply_by, get_reply}
 use Rattle.agent_core.proofs.StandingLemmas.{place_found, tabs_at_push, origin_found, area_found, areas_put, areas_others}
@@ -39,36 +39,36 @@ module _ (state : AgentState) where
   -- ---- open
 
   -- a tab more is a tab more of its site
-  with_tab : (tab : Tab) (site : PlainSite) → partition_at (record state { tabs = state.tabs ++ tab ∷ [] }) site
-      ≡ cond (same_plain_site site (site_of_tab tab)) (record (partition_at state (site_of_tab tab)) { tabs = tabs_at (site_of_tab tab) state.tabs ++ tab ∷ [] }) (partition_at state site)
+  with_tab : (tab : OpenTab) (site : PlainSite) → partition_at (record state { tabs = state.tabs ++ tab ∷ [] }) site
+      ≡ cond (same_plain_site site tab.site) (record (partition_at state tab.site) { tabs = tabs_at tab.site state.tabs ++ shown tab ∷ [] }) (partition_at state site)
   unfolding partition_at
-  with_tab tab site = at (same_plain_site site (site_of_tab tab)) refl
+  with_tab tab site = at (same_plain_site site tab.site) refl
     where
-      at : (b : Bool) → same_plain_site site (site_of_tab tab) ≡ b → partition_at (record state { tabs = state.tabs ++ tab ∷ [] }) site
-          ≡ cond (same_plain_site site (site_of_tab tab)) (record (partition_at state (site_of_tab tab)) { tabs = tabs_at (site_of_tab tab) state.tabs ++ tab ∷ [] }) (partition_at state site)
+      at : (b : Bool) → same_plain_site site tab.site ≡ b → partition_at (record state { tabs = state.tabs ++ tab ∷ [] }) site
+          ≡ cond (same_plain_site site tab.site) (record (partition_at state tab.site) { tabs = tabs_at tab.site state.tabs ++ shown tab ∷ [] }) (partition_at state site)
       at true is =
-          let same_site : site ≡ site_of_tab tab = (same_plain_site-Decides site (site_of_tab tab)).0 is in
+          let same_site : site ≡ tab.site = (same_plain_site-Decides site tab.site).0 is in
           rw (tabs_at_push site state.tabs tab, is)
-          (λ i. record { site = same_site i; tabs = tabs_at (same_site i) state.tabs ++ tab ∷ []; areas = areas_at (same_site i) state.rows })
+          (λ i. record { site = same_site i; tabs = tabs_at (same_site i) state.tabs ++ shown tab ∷ []; areas = areas_at (same_site i) state.rows })
       at false is = rw (tabs_at_push site state.tabs tab, is, append-nil (tabs_at site state.tabs)) refl
 
-  open_world_by : (n : ℕ) (url : PlainAddress) (found : Option Tab) → tab_named n state.tabs ≡ found → world_of (open_state_by found n url state) ≡ world_step machine (world_of state) (Open n url)
+  open_world_by : (n : ℕ) (url : PlainAddress) (found : Option OpenTab) → tab_named n state.tabs ≡ found → world_of (open_state_by found n url state) ≡ world_step (machine state.rules) (world_of state) (Open n url)
   unfolding world_of world_step machine main_event rest_after site_step partition_at world_by
   open_world_by n url (Some tab) is = rw (place_found state.tabs n, is) refl
   open_world_by n url None is =
-      let tab : Tab = record { number = n; origin = origin_of_address url } in
+      let tab : OpenTab = record { number = n; origin = origin_of_address url; site = site_of_address state.rules url } in
       rw (place_found state.tabs n, is, map-append place_of state.tabs (tab ∷ []))
       (ap (λ p. world_by state p (map place_of state.tabs ++ place_of tab ∷ [])) (fun_ext (with_tab tab)))
 
-  pub open_world : (n : ℕ) (url : PlainAddress) → world_of (open_state n url state) ≡ world_step machine (world_of state) (Open n url)
+  pub open_world : (n : ℕ) (url : PlainAddress) → world_of (open_state n url state) ≡ world_step (machine state.rules) (world_of state) (Open n url)
   open_world n url = open_world_by n url (tab_named n state.tabs) refl
 
-  open_told_by : (n : ℕ) (url : PlainAddress) (found : Option Tab) → tab_named n state.tabs ≡ found → open_reply_by found url ≡ printed (line_reply machine (world_of state) (Open n url))
+  open_told_by : (n : ℕ) (url : PlainAddress) (found : Option OpenTab) → tab_named n state.tabs ≡ found → open_reply_by found url state ≡ printed (line_reply (machine state.rules) (world_of state) (Open n url))
   unfolding world_of line_reply machine main_event refusal site_step
   open_told_by n url (Some tab) is = rw (place_found state.tabs n, is) refl
   open_told_by n url None is = rw (place_found state.tabs n, is) refl
 
-  pub open_told : (n : ℕ) (url : PlainAddress) → open_reply n url state ≡ printed (line_reply machine (world_of state) (Open n url))
+  pub open_told : (n : ℕ) (url : PlainAddress) → open_reply n url state ≡ printed (line_reply (machine state.rules) (world_of state) (Open n url))
   open_told n url = open_told_by n url (tab_named n state.tabs) refl
 
   -- ---- get
@@ -81,47 +81,47 @@ module _ (state : AgentState) where
       at true is = ap (partition_at state) ((same_plain_site-Decides t site).0 is)
       at false is = refl
 
-  get_world_by : (at : Label) (name : List ℕ) (found : Option Tab) → tab_named at.tab state.tabs ≡ found → world_of state ≡ world_step machine (world_of state) (Get at name)
+  get_world_by : (at : Label) (name : List ℕ) (found : Option OpenTab) → tab_named at.tab state.tabs ≡ found → world_of state ≡ world_step (machine state.rules) (world_of state) (Get at name)
   unfolding world_of world_step machine main_event rest_after site_step partition_at world_by
   get_world_by at name None is = rw (place_found state.tabs at.tab, is) refl
   get_world_by at name (Some tab) is =
       rw (place_found state.tabs at.tab, is, origin_found state.tabs at.tab tab is)
-      (ap (λ p. world_by state p (map place_of state.tabs)) (fun_ext (partition_kept (site_of_tab tab))))
+      (ap (λ p. world_by state p (map place_of state.tabs)) (fun_ext (partition_kept tab.site)))
 
-  pub get_world : (at : Label) (name : List ℕ) → world_of state ≡ world_step machine (world_of state) (Get at name)
+  pub get_world : (at : Label) (name : List ℕ) → world_of state ≡ world_step (machine state.rules) (world_of state) (Get at name)
   get_world at name = get_world_by at name (tab_named at.tab state.tabs) refl
 
-  get_told_by : (at : Label) (name : List ℕ) (found : Option Tab) → tab_named at.tab state.tabs ≡ found → get_reply_by found name state ≡ printed (line_reply machine (world_of state) (Get at name))
+  get_told_by : (at : Label) (name : List ℕ) (found : Option OpenTab) → tab_named at.tab state.tabs ≡ found → get_reply_by found name state ≡ printed (line_reply (machine state.rules) (world_of state) (Get at name))
   unfolding world_of line_reply machine main_event refusal site_step partition_at
   get_told_by at name None is = rw (place_found state.tabs at.tab, is) refl
   get_told_by at name (Some tab) is =
-      rw (place_found state.tabs at.tab, is, origin_found state.tabs at.tab tab is, area_found (site_of_tab tab) tab.origin state.rows) refl
+      rw (place_found state.tabs at.tab, is, origin_found state.tabs at.tab tab is, area_found tab.site tab.origin state.rows) refl
 
-  pub get_told : (at : Label) (name : List ℕ) → get_reply at.tab name state ≡ printed (line_reply machine (world_of state) (Get at name))
+  pub get_told : (at : Label) (name : List ℕ) → get_reply at.tab name state ≡ printed (line_reply (machine state.rules) (world_of state) (Get at name))
   get_told at name = get_told_by at name (tab_named at.tab state.tabs) refl
 
   -- ---- set
 
-  module _ (tab : Tab) (name value : List ℕ) where
+  module _ (tab : OpenTab) (name value : List ℕ) where
     -- a put changes the areas of its site alone
-    with_put : (t : PlainSite) → partition_at (record state { rows = rows_put (site_of_tab tab) tab.origin name value state.rows }) t
-        ≡ cond (same_plain_site t (site_of_tab tab))
-        (record (partition_at state (site_of_tab tab)) { areas = with_area tab.origin (pairs_put name value (area_of tab.origin (areas_at (site_of_tab tab) state.rows))) (areas_at (site_of_tab tab) state.rows) })
+    with_put : (t : PlainSite) → partition_at (record state { rows = rows_put tab.site tab.origin name value state.rows }) t
+        ≡ cond (same_plain_site t tab.site)
+        (record (partition_at state tab.site) { areas = with_area tab.origin (pairs_put name value (area_of tab.origin (areas_at tab.site state.rows))) (areas_at tab.site state.rows) })
         (partition_at state t)
     unfolding partition_at
-    with_put t = at (same_plain_site t (site_of_tab tab)) refl
+    with_put t = at (same_plain_site t tab.site) refl
       where
-        at : (b : Bool) → same_plain_site t (site_of_tab tab) ≡ b → partition_at (record state { rows = rows_put (site_of_tab tab) tab.origin name value state.rows }) t
+        at : (b : Bool) → same_plain_site t tab.site ≡ b → partition_at (record state { rows = rows_put tab.site tab.origin name value state.rows }) t
             ≡ cond b
-            (record (partition_at state (site_of_tab tab)) { areas = with_area tab.origin (pairs_put name value (area_of tab.origin (areas_at (site_of_tab tab) state.rows))) (areas_at (site_of_tab tab) state.rows) })
+            (record (partition_at state tab.site) { areas = with_area tab.origin (pairs_put name value (area_of tab.origin (areas_at tab.site state.rows))) (areas_at tab.site state.rows) })
             (partition_at state t)
         at true is =
-            let same_site : t ≡ site_of_tab tab = (same_plain_site-Decides t (site_of_tab tab)).0 is in
-            let areas = areas_put (site_of_tab tab) tab.origin name value state.rows in
-            ap (partition_at (record state { rows = rows_put (site_of_tab tab) tab.origin name value state.rows })) same_site
-            ∙ (λ i. record { site = site_of_tab tab; tabs = tabs_at (site_of_tab tab) state.tabs; areas = areas i })
+            let same_site : t ≡ tab.site = (same_plain_site-Decides t tab.site).0 is in
+            let areas = areas_put tab.site tab.origin name value state.rows in
+            ap (partition_at (record state { rows = rows_put tab.site tab.origin name value state.rows })) same_site
+            ∙ (λ i. record { site = tab.site; tabs = tabs_at tab.site state.tabs; areas = areas i })
         at false is =
-            let areas = areas_others (site_of_tab tab) tab.origin name value t state.rows is in
+            let areas = areas_others tab.site tab.origin name value t state.rows is in
             λ i. record { site = t; tabs = tabs_at t state.tabs; areas = areas i }
 
   -- the site step of a `set`, by whether the pair is refused
@@ -135,63 +135,44 @@ module _ (state : AgentState) where
   item_by partition origin name value added = store_by partition origin (area_put name value (area_of origin partition.areas)) (nat_lt quota (area_weight (area_put name value (area_of origin partition.areas))))
   item_by partition origin name value (changed old) = store_by partition origin (area_put name value (area_of origin partition.areas)) (nat_lt quota (area_weight (area_put name value (area_of origin partition.areas))))
 
-  module _ (tab : Tab) (name value : List ℕ) where
+  module _ (tab : OpenTab) (name value : List ℕ) where
     -- the site's partition after a `set`
-    item_partition : (set_item (partition_at state (site_of_tab tab)) tab.origin name value).partition
-        ≡ cond (is_over name value (pairs_of_tab tab state)) (partition_at state (site_of_tab tab))
-        (record (partition_at state (site_of_tab tab)) { areas = with_area tab.origin (pairs_put name value (area_of tab.origin (areas_at (site_of_tab tab) state.rows))) (areas_at (site_of_tab tab) state.rows) })
+    item_partition : (set_item (partition_at state tab.site) tab.origin name value).partition
+        ≡ cond (is_over name value (pairs_of_tab tab state.rows)) (partition_at state tab.site)
+        (record (partition_at state tab.site) { areas = with_area tab.origin (pairs_put name value (area_of tab.origin (areas_at tab.site state.rows))) (areas_at tab.site state.rows) })
     unfolding partition_at
     item_partition =
-        ap (λ o. o.partition) (item_by (partition_at state (site_of_tab tab)) tab.origin name value (put_answer name value (area_of tab.origin (areas_at (site_of_tab tab) state.rows))))
-        ∙ ap (λ pairs. cond (is_over name value pairs) (partition_at state (site_of_tab tab))
-        (record (partition_at state (site_of_tab tab)) { areas = with_area tab.origin (pairs_put name value (area_of tab.origin (areas_at (site_of_tab tab) state.rows))) (areas_at (site_of_tab tab) state.rows) }))
-        (area_found (site_of_tab tab) tab.origin state.rows)
+        ap (λ o. o.partition) (item_by (partition_at state tab.site) tab.origin name value (put_answer name value (area_of tab.origin (areas_at tab.site state.rows))))
+        ∙ ap (λ pairs. cond (is_over name value pairs) (partition_at state tab.site)
+        (record (partition_at state tab.site) { areas = with_area tab.origin (pairs_put name value (area_of tab.origin (areas_at tab.site state.rows))) (areas_at tab.site state.rows) }))
+        (area_found tab.site tab.origin state.rows)
 
     -- each partition after it
     set_partition : (t : PlainSite) → partition_at (set_state_by (Some tab) name value state) t
-        ≡ cond (same_plain_site t (site_of_tab tab)) (set_item (partition_at state (site_of_tab tab)) tab.origin name value).partition (partition_at state t)
-    set_partition t = at (is_over name value (pairs_of_tab tab state)) refl ∙ ap (λ p. cond (same_plain_site t (site_of_tab tab)) p (partition_at state t)) (sym item_partition)
+        ≡ cond (same_plain_site t tab.site) (set_item (partition_at state tab.site) tab.origin name value).partition (partition_at state t)
+    set_partition t = at (is_over name value (pairs_of_tab tab state.rows)) refl ∙ ap (λ p. cond (same_plain_site t tab.site) p (partition_at state t)) (sym item_partition)
       where
-        at : (b : Bool) → is_over name value (pairs_of_tab tab state) ≡ b → partition_at (set_state_by (Some tab) name value state) t
-            ≡ cond (same_plain_site t (site_of_tab tab)) (cond (is_over name value (pairs_of_tab tab state)) (partition_at state (site_of_tab tab))
-            (record (partition_at state (site_of_tab tab)) { areas = with_area tab.origin (pairs_put name value (area_of tab.origin (areas_at (site_of_tab tab) state.rows))) (areas_at (site_of_tab tab) state.rows) })) (partition_at state t)
-        at true is = rw is (partition_kept (site_of_tab tab) t)
+        at : (b : Bool) → is_over name value (pairs_of_tab tab state.rows) ≡ b → partition_at (set_state_by (Some tab) name value state) t
+            ≡ cond (same_plain_site t tab.site) (cond (is_over name value (pairs_of_tab tab state.rows)) (partition_at state tab.site)
+            (record (partition_at state tab.site) { areas = with_area tab.origin (pairs_put name value (area_of tab.origin (areas_at tab.site state.rows))) (areas_at tab.site state.rows) })) (partition_at state t)
+        at true is = rw is (partition_kept tab.site t)
         at false is = rw is (with_put tab name value t)
 
-    -- the clock and the places stay
-    set_rest : (set_state_by (Some tab) name value state).now ≡ state.now
-    set_rest = at (is_over name value (pairs_of_tab tab state))
-      where
-        at : (b : Bool) → (if b then state else record state { rows = rows_put (site_of_tab tab) tab.origin name value state.rows }).now ≡ state.now
-        at true = refl
-        at false = refl
-
-    set_places : (set_state_by (Some tab) name value state).tabs ≡ state.tabs
-    set_places = at (is_over name value (pairs_of_tab tab state))
-      where
-        at : (b : Bool) → (if b then state else record state { rows = rows_put (site_of_tab tab) tab.origin name value state.rows }).tabs ≡ state.tabs
-        at true = refl
-        at false = refl
-
-  set_world_by : (at : Label) (name value : List ℕ) (found : Option Tab) → tab_named at.tab state.tabs ≡ found → world_of (set_state_by found name value state) ≡ world_step machine (world_of state) (Set at name value)
-  unfolding world_of world_step machine main_event rest_after site_step partition_at
+  set_world_by : (at : Label) (name value : List ℕ) (found : Option OpenTab) → tab_named at.tab state.tabs ≡ found → world_of (set_state_by found name value state) ≡ world_step (machine state.rules) (world_of state) (Set at name value)
+  unfolding world_of world_step machine main_event rest_after site_step partition_at world_by
   set_world_by at name value None is = rw (place_found state.tabs at.tab, is) refl
   set_world_by at name value (Some tab) is =
       rw (place_found state.tabs at.tab, is, origin_found state.tabs at.tab tab is)
-      (λ i. record {
-        partition = fun_ext (set_partition tab name value) i;
-        cells = tt;
-        rest = record { now = set_rest tab name value i; places = map place_of (set_places tab name value i) };
-      })
+      (ap (λ p. world_by state p (map place_of state.tabs)) (fun_ext (set_partition tab name value)))
 
-  pub set_world : (at : Label) (name value : List ℕ) → world_of (set_state at.tab name value state) ≡ world_step machine (world_of state) (Set at name value)
+  pub set_world : (at : Label) (name value : List ℕ) → world_of (set_state at.tab name value state) ≡ world_step (machine state.rules) (world_of state) (Set at name value)
   set_world at name value = set_world_by at name value (tab_named at.tab state.tabs) refl
 
-  set_told_by : (at : Label) (name value : List ℕ) (found : Option Tab) → tab_named at.tab state.tabs ≡ found → set_reply_by found name value state ≡ printed (line_reply machine (world_of state) (Set at name value))
+  set_told_by : (at : Label) (name value : List ℕ) (found : Option OpenTab) → tab_named at.tab state.tabs ≡ found → set_reply_by found name value state ≡ printed (line_reply (machine state.rules) (world_of state) (Set at name value))
   unfolding world_of line_reply machine main_event refusal site_step partition_at
   set_told_by at name value None is = rw (place_found state.tabs at.tab, is) refl
   set_told_by at name value (Some tab) is =
-      rw (place_found state.tabs at.tab, is, origin_found state.tabs at.tab tab is, item_by (partition_at state (site_of_tab tab)) tab.origin name value (put_answer name value (area_of tab.origin (areas_at (site_of_tab tab) state.rows))), area_found (site_of_tab tab) tab.origin state.rows) refl
+      rw (place_found state.tabs at.tab, is, origin_found state.tabs at.tab tab is, item_by (partition_at state tab.site) tab.origin name value (put_answer name value (area_of tab.origin (areas_at tab.site state.rows))), area_found tab.site tab.origin state.rows) refl
 
-  pub set_told : (at : Label) (name value : List ℕ) → set_reply at.tab name value state ≡ printed (line_reply machine (world_of state) (Set at name value))
+  pub set_told : (at : Label) (name value : List ℕ) → set_reply at.tab name value state ≡ printed (line_reply (machine state.rules) (world_of state) (Set at name value))
   set_told at name value = set_told_by at name value (tab_named at.tab state.tabs) refl

@@ -7,11 +7,10 @@ use Rattle.local_area.specs.Put.{PutView, same, added, changed, put_answer}
 use Rattle.local_area.specs.declared.area.Put.{Put}
 use Rattle.local_area.specs.declared.area.AreaFault.{AreaFault}
 use Rattle.local_area.specs.declared.area.AreaFault.TheVariants.{NoMemory}
-use Rattle.agent_model.specs.Partition.{Tab}
-use Rattle.agent_core.specs.Standing.{AreaRow}
+use Rattle.agent_core.specs.Standing.{AreaRow, OpenTab}
 
 -- the tab of a number
-abbrev pub tab_named : ℕ → List Tab → Option Tab
+abbrev pub tab_named : ℕ → List OpenTab → Option OpenTab
 tab_named number tabs = find (λ tab. tab.number == number) tabs
 
 -- whether a row is the area of an origin under a site

@@ -1,9 +1,10 @@
 -- The state of the agent, as contracts see it, and the world that it stands for.
 -- The agent keeps one list of tabs and one list of areas for all sites; the world has a partition
--- for each site.
+-- for each site. The agent's list of rules says of which site an opened tab is.
 use Rattle.std.specs.Prelude.{ℕ, List, [], ◌∷◌, filter, map, if◌then◌else◌}
+use Rattle.suffix_list.specs.Suffix.{Rule}
 use Rattle.origin_site.specs.Origin.{PlainOrigin}
-use Rattle.origin_site.specs.Site.{PlainSite, site_of_origin, same_plain_site}
+use Rattle.origin_site.specs.Site.{PlainSite, same_plain_site}
 use Rattle.local_area.specs.Area.{Pair}
 use Rattle.agent_model.specs.Partition.{Tab, Partition, Areas, no_areas, with_area}
 use Rattle.agent_model.specs.Lines.{Place, AgentWorld}
@@ -14,19 +15,27 @@ pub record AreaRow : Type 0 where
   pub origin : PlainOrigin
   pub pairs : List Pair
 
--- the agent: the clock, the open tabs in the order of their opening, and the areas
+-- an open tab: its number, the origin of the document that it shows, and the site that it is at
+pub record OpenTab : Type 0 where
+  pub number : ℕ
+  pub origin : PlainOrigin
+  pub site : PlainSite
+
+-- the agent: the rules of its suffix list, the clock, the open tabs in the order of their opening,
+-- and the areas
 pub record AgentState : Type 0 where
+  pub rules : List Rule
   pub now : ℕ
-  pub tabs : List Tab
+  pub tabs : List OpenTab
   pub rows : List AreaRow
 
--- the site that a tab is at
-abbrev pub site_of_tab : Tab → PlainSite
-site_of_tab tab = site_of_origin tab.origin
+-- a tab as its site has it
+abbrev pub shown : OpenTab → Tab
+shown tab = record { number = tab.number; origin = tab.origin }
 
 -- the tabs that are at a site
-abbrev pub tabs_at : PlainSite → List Tab → List Tab
-tabs_at site tabs = filter (λ tab. same_plain_site site (site_of_tab tab)) tabs
+abbrev pub tabs_at : PlainSite → List OpenTab → List Tab
+tabs_at site tabs = map shown (filter (λ tab. same_plain_site site tab.site) tabs)
 
 -- the areas under a site
 abbrev pub areas_at : PlainSite → List AreaRow → Areas
@@ -36,8 +45,8 @@ areas_at site (row ∷ rows) =
     else areas_at site rows
 
 -- where a tab is
-abbrev pub place_of : Tab → Place
-place_of tab = record { tab = tab.number; site = site_of_tab tab }
+abbrev pub place_of : OpenTab → Place
+place_of tab = record { tab = tab.number; site = tab.site }
 
 -- what a site has
 unfoldable pub partition_at : AgentState → PlainSite → Partition

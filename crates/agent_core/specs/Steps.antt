@@ -2,12 +2,11 @@
 use Rattle.std.specs.Prelude.{ℕ, Bool, false, nat_lt, List, [], ◌∷◌, ◌++◌, Option, Some, None, codes, if◌then◌else◌}
 use Rattle.origin_site.specs.Address.{PlainAddress}
 use Rattle.origin_site.specs.Origin.{origin_of_address}
-use Rattle.origin_site.specs.Site.{PlainSite, site_of_origin}
+use Rattle.origin_site.specs.Site.{PlainSite, site_of_address}
 use Rattle.local_area.specs.Area.{Pair, quota, area_get, area_put, area_weight}
 use Rattle.local_area.specs.Put.{PutView, same, added, changed, put_answer}
 use Rattle.script_lines.specs.Reply.{PlainReply, PlainBody, Plain, Load, Text}
-use Rattle.agent_model.specs.Partition.{Tab}
-use Rattle.agent_core.specs.Standing.{AgentState, site_of_tab}
+use Rattle.agent_core.specs.Standing.{AgentState, AreaRow, OpenTab}
 use Rattle.agent_core.specs.Rows.{tab_named, pairs_in, rows_put}
 
 -- a reply
@@ -15,26 +14,30 @@ abbrev pub replied : List ℕ → Option PlainSite → PlainBody → PlainReply
 replied name site body = record { name = name; site = site; body = body }
 
 -- the agent after an `open`, by the tab that has the number
-abbrev pub open_state_by : Option Tab → ℕ → PlainAddress → AgentState → AgentState
+abbrev pub open_state_by : Option OpenTab → ℕ → PlainAddress → AgentState → AgentState
 open_state_by None number url state =
-    let tab : Tab = record { number = number; origin = origin_of_address url } in
+    let tab : OpenTab = record {
+      number = number;
+      origin = origin_of_address url;
+      site = site_of_address state.rules url;
+    } in
     record state { tabs = state.tabs ++ tab ∷ [] }
 open_state_by (Some tab) number url state = state
 
 abbrev pub open_state : ℕ → PlainAddress → AgentState → AgentState
 open_state number url state = open_state_by (tab_named number state.tabs) number url state
 
-abbrev pub open_reply_by : Option Tab → PlainAddress → PlainReply
-open_reply_by None url =
-    replied (codes "open") (Some (site_of_origin (origin_of_address url))) (Load None [])
-open_reply_by (Some tab) url = replied (codes "open") None (Plain (codes "tab-exists"))
+abbrev pub open_reply_by : Option OpenTab → PlainAddress → AgentState → PlainReply
+open_reply_by None url state =
+    replied (codes "open") (Some (site_of_address state.rules url)) (Load None [])
+open_reply_by (Some tab) url state = replied (codes "open") None (Plain (codes "tab-exists"))
 
 abbrev pub open_reply : ℕ → PlainAddress → AgentState → PlainReply
-open_reply number url state = open_reply_by (tab_named number state.tabs) url
+open_reply number url state = open_reply_by (tab_named number state.tabs) url state
 
 -- the pairs of the area of a tab's document
-abbrev pub pairs_of_tab : Tab → AgentState → List Pair
-pairs_of_tab tab state = pairs_in (site_of_tab tab) tab.origin state.rows
+abbrev pub pairs_of_tab : OpenTab → List AreaRow → List Pair
+pairs_of_tab tab rows = pairs_in tab.site tab.origin rows
 
 -- whether a pair is refused: the area would weigh more than its quota, and it is not there already
 abbrev pub is_over_by : PutView → List Pair → Bool
@@ -45,30 +48,39 @@ is_over_by (changed before) pairs = nat_lt quota (area_weight pairs)
 abbrev pub is_over : List ℕ → List ℕ → List Pair → Bool
 is_over name value pairs = is_over_by (put_answer name value pairs) (area_put name value pairs)
 
+-- the areas after a `set` in a tab
+abbrev pub rows_set : OpenTab → List ℕ → List ℕ → List AreaRow → List AreaRow
+rows_set tab name value rows =
+    if is_over name value (pairs_of_tab tab rows) then rows
+    else rows_put tab.site tab.origin name value rows
+
 -- the agent after a `set`, by the tab that has the number
-abbrev pub set_state_by : Option Tab → List ℕ → List ℕ → AgentState → AgentState
+abbrev pub set_state_by : Option OpenTab → List ℕ → List ℕ → AgentState → AgentState
 set_state_by None name value state = state
 set_state_by (Some tab) name value state =
-    if is_over name value (pairs_of_tab tab state) then state
-    else record state { rows = rows_put (site_of_tab tab) tab.origin name value state.rows }
+    record state { rows = rows_set tab name value state.rows }
 
 abbrev pub set_state : ℕ → List ℕ → List ℕ → AgentState → AgentState
 set_state number name value state = set_state_by (tab_named number state.tabs) name value state
 
-abbrev pub set_reply_by : Option Tab → List ℕ → List ℕ → AgentState → PlainReply
+-- the reply to a `set` in a tab
+abbrev pub reply_set : OpenTab → List ℕ → List ℕ → List AreaRow → PlainReply
+reply_set tab name value rows =
+    replied (codes "set") (Some tab.site)
+    (Plain (if is_over name value (pairs_of_tab tab rows) then codes "quota" else codes "ok"))
+
+abbrev pub set_reply_by : Option OpenTab → List ℕ → List ℕ → AgentState → PlainReply
 set_reply_by None name value state = replied (codes "set") None (Plain (codes "no-tab"))
-set_reply_by (Some tab) name value state =
-    replied (codes "set") (Some (site_of_tab tab))
-    (Plain (if is_over name value (pairs_of_tab tab state) then codes "quota" else codes "ok"))
+set_reply_by (Some tab) name value state = reply_set tab name value state.rows
 
 abbrev pub set_reply : ℕ → List ℕ → List ℕ → AgentState → PlainReply
 set_reply number name value state = set_reply_by (tab_named number state.tabs) name value state
 
 -- the reply to a `get`, by the tab that has the number
-abbrev pub get_reply_by : Option Tab → List ℕ → AgentState → PlainReply
+abbrev pub get_reply_by : Option OpenTab → List ℕ → AgentState → PlainReply
 get_reply_by None name state = replied (codes "get") None (Plain (codes "no-tab"))
 get_reply_by (Some tab) name state =
-    replied (codes "get") (Some (site_of_tab tab)) (Text (area_get name (pairs_of_tab tab state)))
+    replied (codes "get") (Some tab.site) (Text (area_get name (pairs_of_tab tab state.rows)))
 
 abbrev pub get_reply : ℕ → List ℕ → AgentState → PlainReply
 get_reply number name state = get_reply_by (tab_named number state.tabs) name state

@@ -6,7 +6,8 @@ ghost use Rattle.agent_model.specs.Isolation.{printed};
 ghost use Rattle.agent_model.specs.TheMachine.{machine, beginning};
 ghost use Rattle.origin_site.specs.Plain.{plain_address};
 ghost use Rattle.agent_core.specs.Standing.{AgentState, world_of};
-ghost use Rattle.agent_core.specs.Steps.{open_state, open_reply, set_state, set_reply, get_reply};
+ghost use Rattle.agent_core.specs.Plain.{plain_row, plain_tab};
+ghost use Rattle.agent_core.specs.Steps.{open_state, open_reply, set_state, set_reply, rows_set, reply_set, get_reply};
 
 use crate::replies::{load, plain, text};
 use crate::rows::{AreaRow, put_pair, value_in};
@@ -14,37 +15,42 @@ use crate::tab::Tab;
 use crate::tabs::tab_named;
 use agent_base::{Label, NoMemory};
 use local_area::AreaFault;
-use origin_site::{Address, site_plain};
+use origin_site::{Address, site_of};
 use script_lines::{Action, Reply};
 use std::alloc::Global;
 use std::marker::Model;
+use suffix_list::SuffixList;
 
-/// The storage of a browser: the tabs that are open, and the areas of all sites.
+/// The storage of a browser: the tabs that are open, and the areas of all sites under a suffix list.
 #[derive(Debug, Drop)]
-pub struct Agent {
+pub struct Agent<'l> {
     alloc: Global,
+    list: &'l SuffixList,
     now: u64,
     tabs: Vec<Tab>,
     rows: Vec<AreaRow>,
 }
 
-impl Model for Agent {
+impl<'l> Model for Agent<'l> {
     ghost use Rattle.std.specs.Prelude.{map};
     ghost use Rattle.agent_core.specs.Plain.{plain_tab, plain_row};
     ghost use Rattle.agent_core.specs.Standing.{AgentState};
 
     ghost Value = { AgentState };
 
-    ghost view = { λ a. record { now = a.now; tabs = map plain_tab a.tabs.items; rows = map plain_row a.rows.items } };
+    ghost view = { λ a. record { rules = a.list.now.rules; now = a.now; tabs = map plain_tab a.tabs.items; rows = map plain_row a.rows.items } };
 }
 
-impl Agent {
-    /// An agent without tabs and areas, whose clock stands at `start`, in seconds since 1970.
-    pub fn new(alloc: Global, start: u64) -> Agent
+impl<'l> Agent<'l> {
+    /// An agent without tabs and areas, whose clock stands at `start`, in seconds since 1970. The list
+    /// says of which site an address is, for as long as the agent lives.
+    pub fn new(alloc: Global, list: &'l SuffixList, start: u64) -> Agent<'l>
         ensures beginning { world_of result ≡ beginning start }
+        ensures rules { result.rules ≡ list.now.rules }
     {
         Agent {
             alloc,
+            list,
             now: start,
             tabs: Vec::new(alloc),
             rows: Vec::new(alloc),
@@ -53,9 +59,11 @@ impl Agent {
 
     /// Runs one line, and gives its reply. Want of memory leaves the agent as it was.
     pub fn line(&mut self, action: &Action) -> Result<Reply, NoMemory>
-        ensures reply { let told = line_reply machine (world_of self.old) (action_of action.now) in
+        ensures reply { let told = line_reply (machine self.old.rules) (world_of self.old) (action_of action.now) in
             IfOk result (λ r. reply_of r ≡ printed told) }
-        ensures world { OnOk result (world_of self.new ≡ world_step machine (world_of self.old) (action_of action.now)) }
+        ensures world { let here = world_of self.old in
+            OnOk result (world_of self.new ≡ world_step (machine self.old.rules) here (action_of action.now)) }
+        ensures rules { self.new.rules ≡ self.old.rules }
         ensures unchanged { OnErr result (self.new ≡ self.old) }
     {
         match action {
@@ -74,7 +82,7 @@ impl Agent {
             return Ok(plain("open", "tab-exists", None));
         }
         let origin = url.origin(self.alloc)?;
-        let site = site_plain(self.alloc, &origin)?;
+        let site = site_of(self.alloc, &origin, self.list)?;
         let reply = load(self.alloc, "open", site.copy(self.alloc)?);
         let Ok(()) = self.tabs.push(Tab {
             number: tab,
@@ -92,16 +100,9 @@ impl Agent {
         ensures state { OnOk result (self.new ≡ set_state at.now.tab key.now value.now self.old) }
         ensures unchanged { OnErr result (self.new ≡ self.old) }
     {
-        let Some(tab) = tab_named(&self.tabs, at.tab) else {
-            return Ok(plain("set", "no-tab", None));
-        };
-        let site = tab.site.copy(self.alloc)?;
-        let key = String::from_str(self.alloc, key)?;
-        let value = String::from_str(self.alloc, value)?;
-        match put_pair(self.alloc, &mut self.rows, tab, key, value) {
-            Ok(_) => Ok(plain("set", "ok", Some(site))),
-            Err(AreaFault::Quota(_)) => Ok(plain("set", "quota", Some(site))),
-            Err(AreaFault::NoMemory) => Err(NoMemory),
+        match tab_named(&self.tabs, at.tab) {
+            Some(tab) => set_in(self.alloc, &mut self.rows, tab, key, value),
+            None => Ok(plain("set", "no-tab", None)),
         }
     }
 
@@ -115,5 +116,29 @@ impl Agent {
         let site = tab.site.copy(self.alloc)?;
         let value = value_in(self.alloc, &self.rows, tab, key)?;
         Ok(text("get", site, value))
+    }
+}
+
+// Sets a value in the area of a tab's document.
+fn set_in(
+    alloc: Global,
+    rows: &mut Vec<AreaRow>,
+    tab: &Tab,
+    key: &str,
+    value: &str,
+) -> Result<Reply, NoMemory>
+    ensures reply { let before = map plain_row rows.old.items in
+        IfOk result (λ r. reply_of r ≡ reply_set (plain_tab tab.now) key.now value.now before) }
+    ensures rows { let before = map plain_row rows.old.items in
+        OnOk result (map plain_row rows.new.items ≡ rows_set (plain_tab tab.now) key.now value.now before) }
+    ensures unchanged { OnErr result (rows.new.items ≡ rows.old.items) }
+{
+    let site = tab.site.copy(alloc)?;
+    let key = String::from_str(alloc, key)?;
+    let value = String::from_str(alloc, value)?;
+    match put_pair(alloc, rows, tab, key, value) {
+        Ok(_) => Ok(plain("set", "ok", Some(site))),
+        Err(AreaFault::Quota(_)) => Ok(plain("set", "quota", Some(site))),
+        Err(AreaFault::NoMemory) => Err(NoMemory),
     }
 }

@@ -6,6 +6,7 @@ use Rattle.unwinding.specs.World.{SiteReply, world_step, line_reply}
 use Rattle.unwinding.specs.LocalEntries.{line_entries, line_touched}
 use Rattle.unwinding.specs.FiniteCells.{get_cell, set_cell}
 use Rattle.agent_base.specs.declared.refusals.Label.{Label}
+use Rattle.suffix_list.specs.Suffix.{Rule}
 use Rattle.origin_site.specs.Address.{PlainAddress}
 use Rattle.origin_site.specs.Origin.{PlainOrigin, origin_of_address}
 use Rattle.origin_site.specs.Site.{PlainSite}
@@ -53,17 +54,26 @@ abbrev v : List ℕ
 v = codes "v"
 
 -- a number that is taken, and one that is not open
-refused : replies_to 0 (Open 1 (address a) ∷ Open 1 (address b) ∷ Get (top 2) k ∷ [])
+refused : replies_to [] 0 (Open 1 (address a) ∷ Open 1 (address b) ∷ Get (top 2) k ∷ [])
     ≡ told (Some a) (codes "open") (Load None []) ∷ told None (codes "open") (Plain (codes "tab-exists"))
     ∷ told None (codes "get") (Plain (codes "no-tab")) ∷ []
 unfolding replies_to machine beginning world_step line_reply main_event refusal rest_after site_step empty_partition no_areas origin_order get_cell set_cell
 refused = refl
 
 -- lines of another site leave no trace in a local script
-nothing_of_others : local_script (record { https = true; host = a }) 0 (Open 2 (address b) ∷ Open 1 (address a) ∷ Set (top 2) k v ∷ Get (top 1) k ∷ [])
-    ≡ local_script (record { https = true; host = a }) 0 (Open 1 (address a) ∷ Get (top 1) k ∷ [])
+nothing_of_others : local_script [] (record { https = true; host = a }) 0 (Open 2 (address b) ∷ Open 1 (address a) ∷ Set (top 2) k v ∷ Get (top 1) k ∷ [])
+    ≡ local_script [] (record { https = true; host = a }) 0 (Open 1 (address a) ∷ Get (top 1) k ∷ [])
 unfolding local_script line_entries line_touched replies_to machine beginning world_step line_reply main_event refusal rest_after site_step empty_partition no_areas origin_order get_cell set_cell
 nothing_of_others = refl
+
+-- under the rule `a.test` its host is a site of its own, and so is each host of one label more
+abbrev private_suffix : List Rule
+private_suffix = record { is_exception = false; labels = codes "a" ∷ codes "test" ∷ [] } ∷ []
+
+apart : replies_to private_suffix 0 (Open 1 (address (codes "x.y.a.test")) ∷ Open 2 (address a) ∷ [])
+    ≡ told (Some (codes "y.a.test")) (codes "open") (Load None []) ∷ told (Some a) (codes "open") (Load None []) ∷ []
+unfolding replies_to machine beginning world_step line_reply main_event refusal rest_after site_step empty_partition no_areas origin_order get_cell set_cell
+apart = refl
 
 -- the site of `a.test`, in which that origin has one pair
 abbrev origin : List ℕ → PlainOrigin

@@ -1,8 +1,10 @@
 -- The promise: the replies to a site are those of its own machine, given its local script alone.
--- So two runs that give a site the same local script give it the same replies.
+-- So two runs that give a site the same local script give it the same replies. All is read under the
+-- rules of one suffix list, whichever they are.
 use Rattle.std.specs.Prelude.{◌≡◌, ℕ, Bool, false, List, Option, Some, None, map, filter, flat_map}
 use Rattle.unwinding.specs.World.{SiteReply, replies, of_site}
 use Rattle.unwinding.specs.OneSite.{EpochScript, epoch_script, epoch_run}
+use Rattle.suffix_list.specs.Suffix.{Rule}
 use Rattle.origin_site.specs.Site.{PlainSite, same_plain_site}
 use Rattle.script_lines.specs.Script.{PlainAction}
 use Rattle.script_lines.specs.Reply.{PlainReply, reply_text}
@@ -11,24 +13,24 @@ use Rattle.agent_model.specs.SiteStep.{TimedEvent, Answer, Nothing}
 use Rattle.agent_model.specs.TheMachine.{machine, beginning}
 
 -- the replies to the lines of a script, each with the site that it belongs to
-unfoldable pub replies_to : ℕ → List PlainAction → List (SiteReply PlainSite Answer)
-replies_to start lines = replies machine (beginning start) lines
+unfoldable pub replies_to : List Rule → ℕ → List PlainAction → List (SiteReply PlainSite Answer)
+replies_to rules start lines = replies (machine rules) (beginning start) lines
 
 -- the answers that belong to a site
-unfoldable pub answers_of : PlainSite → List (SiteReply PlainSite Answer) → List Answer
-answers_of site told = of_site machine site told
+unfoldable pub answers_of : List Rule → PlainSite → List (SiteReply PlainSite Answer) → List Answer
+answers_of rules site told = of_site (machine rules) site told
 
 -- what a run gives a site: where it begins, the events at the site with their moments, and no more
 abbrev pub SiteScript : Type 0
 SiteScript = EpochScript Nothing Nothing Partition Nothing TimedEvent
 
 -- the local script of a site
-unfoldable pub local_script : PlainSite → ℕ → List PlainAction → SiteScript
-local_script site start lines = epoch_script machine site (beginning start) lines
+unfoldable pub local_script : List Rule → PlainSite → ℕ → List PlainAction → SiteScript
+local_script rules site start lines = epoch_script (machine rules) site (beginning start) lines
 
 -- the answers of the site's own machine, which is given a local script
-unfoldable pub site_run : PlainSite → SiteScript → List Answer
-site_run site script = epoch_run machine site script
+unfoldable pub site_run : List Rule → PlainSite → SiteScript → List Answer
+site_run rules site script = epoch_run (machine rules) site script
 
 -- a reply as it is printed
 abbrev pub printed : SiteReply PlainSite Answer → PlainReply
@@ -39,8 +41,8 @@ unfoldable pub text_of : List (SiteReply PlainSite Answer) → List ℕ
 text_of told = flat_map (λ one. reply_text (printed one)) told
 
 -- the text of a run, from the moment at which it starts and the actions of its script
-unfoldable pub transcript : ℕ → List PlainAction → List ℕ
-transcript start lines = text_of (replies_to start lines)
+unfoldable pub transcript : List Rule → ℕ → List PlainAction → List ℕ
+transcript rules start lines = text_of (replies_to rules start lines)
 
 -- whether a reply belongs to a site
 abbrev pub is_of : PlainSite → Option PlainSite → Bool
@@ -57,11 +59,12 @@ lines_alone site answers = text_of (map (λ answer. record { site = Some site; r
 
 -- the answers to each site are those of its own machine
 abbrev pub IsIsolated : Type 0
-IsIsolated = (site : PlainSite) (start : ℕ) (lines : List PlainAction)
-    → answers_of site (replies_to start lines) ≡ site_run site (local_script site start lines)
+IsIsolated = (rules : List Rule) (site : PlainSite) (start : ℕ) (lines : List PlainAction)
+    → answers_of rules site (replies_to rules start lines)
+    ≡ site_run rules site (local_script rules site start lines)
 
 -- the lines of each site are the text of what its own machine answers
 abbrev pub HasIsolatedLines : Type 0
-HasIsolatedLines = (site : PlainSite) (start : ℕ) (lines : List PlainAction)
-    → lines_of_site site (replies_to start lines)
-    ≡ lines_alone site (site_run site (local_script site start lines))
+HasIsolatedLines = (rules : List Rule) (site : PlainSite) (start : ℕ) (lines : List PlainAction)
+    → lines_of_site site (replies_to rules start lines)
+    ≡ lines_alone site (site_run rules site (local_script rules site start lines))

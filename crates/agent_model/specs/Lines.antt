@@ -1,11 +1,12 @@
 -- How a line of a script becomes an event of one site, or is refused.
 -- Our own choice: a script names its tabs by numbers. An opened tab belongs to the site of its
--- address, and every line in it is an event of that site. A refused line is of no site.
+-- address, and every line in it is an event of that site. A refused line is of no site. Which site
+-- an address has depends on the rules of a suffix list; one run has one list.
 use Rattle.std.specs.Prelude.{ℕ, ◌==◌, List, [], ◌∷◌, ◌++◌, Option, Some, None, codes, option_map, find}
 use Rattle.unwinding.specs.Machine.{World, Occurrence}
+use Rattle.suffix_list.specs.Suffix.{Rule}
 use Rattle.origin_site.specs.Address.{PlainAddress}
-use Rattle.origin_site.specs.Origin.{origin_of_address}
-use Rattle.origin_site.specs.Site.{PlainSite, site_of_origin}
+use Rattle.origin_site.specs.Site.{PlainSite, site_of_address}
 use Rattle.script_lines.specs.Script.{PlainAction, Open, Set, Get}
 use Rattle.script_lines.specs.Reply.{Plain}
 use Rattle.agent_model.specs.Partition.{Partition}
@@ -25,10 +26,6 @@ pub record Rest : Type 0 where
 abbrev pub AgentWorld : Type 0
 AgentWorld = World PlainSite Nothing Partition Rest
 
--- the site of an address
-abbrev pub site_of_address : PlainAddress → PlainSite
-site_of_address url = site_of_origin (origin_of_address url)
-
 -- the site that a tab is at, where the tab is open
 abbrev pub site_at : List Place → ℕ → Option PlainSite
 site_at places tab = option_map (λ place. place.site) (find (λ place. place.tab == tab) places)
@@ -39,18 +36,20 @@ occurs world event site =
     record { site = site; event = record { moment = world.rest.now; event = event } }
 
 -- an opened tab reaches its site, where its number is free
-abbrev pub arrival : AgentWorld → ℕ → PlainAddress → Option PlainSite
+abbrev pub arrival : List Rule → AgentWorld → ℕ → PlainAddress → Option PlainSite
     → Option (Occurrence PlainSite TimedEvent)
-arrival world tab url None = Some (occurs world (Arrives tab url) (site_of_address url))
-arrival world tab url (Some site) = None
+arrival rules world tab url None =
+    Some (occurs world (Arrives tab url) (site_of_address rules url))
+arrival rules world tab url (Some site) = None
 
 -- the event of a line; a line other than `open` is one of the site that its tab is at. A tab has
 -- its top document alone, so the frame of a document's name is not looked at.
-unfoldable pub main_event : AgentWorld → PlainAction → Option (Occurrence PlainSite TimedEvent)
-main_event world (Open tab url) = arrival world tab url (site_at world.rest.places tab)
-main_event world (Set at key value) =
+unfoldable pub main_event : List Rule → AgentWorld → PlainAction
+    → Option (Occurrence PlainSite TimedEvent)
+main_event rules world (Open tab url) = arrival rules world tab url (site_at world.rest.places tab)
+main_event rules world (Set at key value) =
     option_map (occurs world (Acts (Set at key value))) (site_at world.rest.places at.tab)
-main_event world (Get at key) =
+main_event rules world (Get at key) =
     option_map (occurs world (Acts (Get at key))) (site_at world.rest.places at.tab)
 
 -- the answer to a line that has no event
@@ -60,14 +59,15 @@ refusal world (Set at key value) = record { name = codes "set"; body = Plain (co
 refusal world (Get at key) = record { name = codes "get"; body = Plain (codes "no-tab") }
 
 -- the places with an opened tab more, where its number is free
-abbrev pub placed : Option PlainSite → List Place → ℕ → PlainAddress → List Place
-placed None places tab url = places ++ record { tab = tab; site = site_of_address url } ∷ []
-placed (Some site) places tab url = places
+abbrev pub placed : List Rule → Option PlainSite → List Place → ℕ → PlainAddress → List Place
+placed rules None places tab url =
+    places ++ record { tab = tab; site = site_of_address rules url } ∷ []
+placed rules (Some site) places tab url = places
 
 -- the clock and the places after a line
-unfoldable pub rest_after : AgentWorld → PlainAction → Rest
-rest_after world (Open tab url) =
+unfoldable pub rest_after : List Rule → AgentWorld → PlainAction → Rest
+rest_after rules world (Open tab url) =
     let places = world.rest.places in
-    record { now = world.rest.now; places = placed (site_at places tab) places tab url }
-rest_after world (Set at key value) = world.rest
-rest_after world (Get at key) = world.rest
+    record { now = world.rest.now; places = placed rules (site_at places tab) places tab url }
+rest_after rules world (Set at key value) = world.rest
+rest_after rules world (Get at key) = world.rest

@@ -1,15 +1,17 @@
 -- The machine of one site as the general law takes it, and the world in which a run begins.
-use Rattle.std.specs.Prelude.{ℕ, true, false, [], None}
+use Rattle.std.specs.Prelude.{ℕ, true, false, List, [], None}
 use Rattle.unwinding.specs.Machine.{Machine}
+use Rattle.suffix_list.specs.Suffix.{Rule}
 use Rattle.origin_site.specs.Site.{PlainSite, same_plain_site}
 use Rattle.script_lines.specs.Script.{PlainAction}
 use Rattle.agent_model.specs.Partition.{Partition, empty_partition}
 use Rattle.agent_model.specs.SiteStep.{TimedEvent, Answer, Nothing, site_step}
 use Rattle.agent_model.specs.Lines.{Rest, AgentWorld, main_event, refusal, rest_after}
 
--- No event consults a cell, and no line has an event beside its main one.
-unfoldable pub machine : Machine PlainSite Nothing Nothing Partition Nothing Rest PlainAction TimedEvent Answer Nothing
-machine =
+-- The machine under the rules of a suffix list, which say of which site an address is. No event
+-- consults a cell, and no line has an event beside its main one.
+unfoldable pub machine : List Rule → Machine PlainSite Nothing Nothing Partition Nothing Rest PlainAction TimedEvent Answer Nothing
+machine rules =
     record {
       same_site = same_plain_site;
       same_cell = λ a b. true;
@@ -26,9 +28,9 @@ machine =
       sweeps = λ partition event. false;
       step = site_step;
       side = λ world line site. None;
-      main = main_event;
+      main = main_event rules;
       refusal = refusal;
-      later = rest_after;
+      later = rest_after rules;
       moment = λ rest. rest.now;
     }
 

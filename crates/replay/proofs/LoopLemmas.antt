@@ -1,12 +1,11 @@
 -- One line more: the world, the text so far, and what a stop leaves of the whole text.
 use Rattle.std.proofs.Common.{◌≡◌, ℕ, ◌+◌, ◌<◌, List, [], ◌∷◌, ◌++◌, Option, take, drop, length, get_or, refl, sym, ap, subst, ◌∙◌, append_assoc, append-nil, arith, length-append}
-use Rattle.std.proofs.lemmas.List.{take_more, map-append, take-append-drop, take-append-le}
+use Rattle.std.proofs.lemmas.List.{take_more, map-append, take-append-drop}
 use Rattle.std.proofs.lemmas.Grind.{flat_map-append}
-use Rattle.std.proofs.Math.Seq.{take-append-add, take-append_seam}
 use Rattle.unwinding.specs.World.{SiteReply, line_reply, world_step, world_after, replies}
 use Rattle.unwinding.proofs.Fronts.{replies_append, world_append}
 use Rattle.agent_base.specs.Streams.{Takes, TakesPrefix}
-use Rattle.agent_base.proofs.Pieces.{takes_append}
+use Rattle.suffix_list.specs.Suffix.{Rule}
 use Rattle.origin_site.specs.Site.{PlainSite}
 use Rattle.script_lines.specs.declared.script.Line.{Line}
 use Rattle.script_lines.specs.Script.{PlainAction}
@@ -17,88 +16,76 @@ use Rattle.agent_model.specs.Lines.{AgentWorld}
 use Rattle.agent_model.specs.TheMachine.{machine, beginning, default_start}
 use Rattle.agent_model.specs.Isolation.{printed, text_of, replies_to, transcript}
 use Rattle.replay.specs.Loop.{acted}
-
--- the world after some lines
-pub world_at : List PlainAction → AgentWorld
-world_at actions = world_after machine (beginning default_start) actions
-
--- the text of the reply to a line
-abbrev pub line_text : AgentWorld → PlainAction → List ℕ
-line_text world action = reply_text (printed (line_reply machine world action))
+use Rattle.replay.proofs.PrefixLemmas.{prefix_front, prefix_then}
 
 acted_more : (lines : List Line) (i : ℕ) (d : Line) → i < length lines → acted (take (i + 1) lines) ≡ acted (take i lines) ++ action_of (get_or lines i d).action ∷ []
 acted_more lines i d h = ap acted (take_more lines i d h) ∙ map-append (λ line. action_of line.action) (take i lines) (get_or lines i d ∷ [])
-
-pub world_begins : world_at [] ≡ beginning default_start
-unfolding world_at
-world_begins = refl
-
-pub world_more : (lines : List Line) (i : ℕ) (d : Line) → i < length lines → world_at (acted (take (i + 1) lines)) ≡ world_step machine (world_at (acted (take i lines))) (action_of (get_or lines i d).action)
-unfolding world_at
-world_more lines i d h = ap world_at (acted_more lines i d h) ∙ world_append machine (beginning default_start) (acted (take i lines)) (action_of (get_or lines i d).action ∷ [])
 
 text_append : (a b : List (SiteReply PlainSite Answer)) → text_of (a ++ b) ≡ text_of a ++ text_of b
 unfolding text_of
 text_append a b = flat_map-append (λ one. reply_text (printed one)) a b
 
--- the text of some lines, and then of others
-text_split : (first more : List PlainAction) → transcript default_start (first ++ more) ≡ transcript default_start first ++ text_of (replies machine (world_at first) more)
-unfolding transcript replies_to world_at
-text_split first more = ap text_of (replies_append machine (beginning default_start) first more) ∙ text_append (replies machine (beginning default_start) first) (replies machine (world_at first) more)
+module _ (rules : List Rule) where
+  -- the world after some lines
+  pub world_at : List PlainAction → AgentWorld
+  world_at actions = world_after (machine rules) (beginning default_start) actions
 
-one_text : (world : AgentWorld) (action : PlainAction) → text_of (replies machine world (action ∷ [])) ≡ line_text world action
-unfolding text_of
-one_text world action = append-nil (line_text world action)
+  -- the text of the reply to a line
+  abbrev pub line_text : AgentWorld → PlainAction → List ℕ
+  line_text world action = reply_text (printed (line_reply (machine rules) world action))
 
-pub text_begins : transcript default_start [] ≡ []
-unfolding transcript replies_to text_of
-text_begins = refl
+  pub world_begins : world_at [] ≡ beginning default_start
+  unfolding world_at
+  world_begins = refl
 
-pub text_more : (lines : List Line) (i : ℕ) (d : Line) → i < length lines
-    → transcript default_start (acted (take (i + 1) lines)) ≡ transcript default_start (acted (take i lines)) ++ line_text (world_at (acted (take i lines))) (action_of (get_or lines i d).action)
-text_more lines i d h =
-    ap (transcript default_start) (acted_more lines i d h)
-    ∙ text_split (acted (take i lines)) (action_of (get_or lines i d).action ∷ [])
-    ∙ ap (λ t. transcript default_start (acted (take i lines)) ++ t) (one_text (world_at (acted (take i lines))) (action_of (get_or lines i d).action))
+  pub world_more : (lines : List Line) (i : ℕ) (d : Line) → i < length lines → world_at (acted (take (i + 1) lines)) ≡ world_step (machine rules) (world_at (acted (take i lines))) (action_of (get_or lines i d).action)
+  unfolding world_at
+  world_more lines i d h = ap world_at (acted_more lines i d h) ∙ world_append (machine rules) (beginning default_start) (acted (take i lines)) (action_of (get_or lines i d).action ∷ [])
 
--- the whole text begins with the text so far
-pub text_rest : List Line → ℕ → List ℕ
-text_rest lines i = text_of (replies machine (world_at (acted (take i lines))) (acted (drop i lines)))
+  -- the text of some lines, and then of others
+  text_split : (first more : List PlainAction) → transcript rules default_start (first ++ more) ≡ transcript rules default_start first ++ text_of (replies (machine rules) (world_at first) more)
+  unfolding transcript replies_to world_at
+  text_split first more = ap text_of (replies_append (machine rules) (beginning default_start) first more) ∙ text_append (replies (machine rules) (beginning default_start) first) (replies (machine rules) (world_at first) more)
 
-pub text_whole : (lines : List Line) (i : ℕ) → transcript default_start (acted lines) ≡ transcript default_start (acted (take i lines)) ++ text_rest lines i
-unfolding text_rest
-text_whole lines i =
-    ap (λ ls. transcript default_start (acted ls)) (sym (take-append-drop i lines))
-    ∙ ap (transcript default_start) (map-append (λ line. action_of line.action) (take i lines) (drop i lines))
-    ∙ text_split (acted (take i lines)) (acted (drop i lines))
+  one_text : (world : AgentWorld) (action : PlainAction) → text_of (replies (machine rules) world (action ∷ [])) ≡ line_text world action
+  unfolding text_of
+  one_text world action = append-nil (line_text world action)
 
--- what was taken in front of a longer text is a prefix of it
-pub prefix_front : (a b : Option (List ℕ)) (front rest : List ℕ) → Takes a b front → TakesPrefix a b (front ++ rest)
-prefix_front a b front rest takes =
-    (length front, omega (arith, length-append front rest), subst (Takes a b) (sym (take-append_seam front rest)) takes)
+  pub text_begins : transcript rules default_start [] ≡ []
+  unfolding transcript replies_to text_of
+  text_begins = refl
 
--- a prefix of a piece, after what stands in front of it
-pub prefix_then : (a b c : Option (List ℕ)) (front piece rest : List ℕ) → Takes a b front → TakesPrefix b c piece → TakesPrefix a c (front ++ (piece ++ rest))
-prefix_then a b c front piece rest takes (count, within, more) = (
-  length front + count,
-  omega (arith, length-append front (piece ++ rest), length-append piece rest),
-  subst (Takes a c) (sym (take-append-add front (piece ++ rest) count ∙ ap (λ x. front ++ x) (take-append-le count piece rest within)))
-      (takes_append a b c front (take count piece) takes more),
-)
+  pub text_more : (lines : List Line) (i : ℕ) (d : Line) → i < length lines
+      → transcript rules default_start (acted (take (i + 1) lines)) ≡ transcript rules default_start (acted (take i lines)) ++ line_text (world_at (acted (take i lines))) (action_of (get_or lines i d).action)
+  text_more lines i d h =
+      ap (transcript rules default_start) (acted_more lines i d h)
+      ∙ text_split (acted (take i lines)) (action_of (get_or lines i d).action ∷ [])
+      ∙ ap (λ t. transcript rules default_start (acted (take i lines)) ++ t) (one_text (world_at (acted (take i lines))) (action_of (get_or lines i d).action))
 
--- where a line's text was taken in part, the whole text was
-pub stopped_in_line : (lines : List Line) (i : ℕ) (d : Line) (a b c : Option (List ℕ)) → i < length lines
-    → Takes a b (transcript default_start (acted (take i lines)))
-    → TakesPrefix b c (line_text (world_at (acted (take i lines))) (action_of (get_or lines i d).action))
-    → TakesPrefix a c (transcript default_start (acted lines))
-stopped_in_line lines i d a b c h takes prefix =
-    let front = transcript default_start (acted (take i lines)) in
-    let piece = line_text (world_at (acted (take i lines))) (action_of (get_or lines i d).action) in
-    subst (TakesPrefix a c)
-    (sym (text_whole lines (i + 1) ∙ ap (λ t. t ++ text_rest lines (i + 1)) (text_more lines i d h) ∙ append_assoc front piece (text_rest lines (i + 1))))
-    (prefix_then a b c front piece (text_rest lines (i + 1)) takes prefix)
+  -- the whole text begins with the text so far
+  pub text_rest : List Line → ℕ → List ℕ
+  text_rest lines i = text_of (replies (machine rules) (world_at (acted (take i lines))) (acted (drop i lines)))
 
--- where no more was taken, the text so far is a prefix of the whole
-pub stopped_between : (lines : List Line) (i : ℕ) (a b : Option (List ℕ)) → Takes a b (transcript default_start (acted (take i lines))) → TakesPrefix a b (transcript default_start (acted lines))
-stopped_between lines i a b takes =
-    subst (TakesPrefix a b) (sym (text_whole lines i)) (prefix_front a b (transcript default_start (acted (take i lines))) (text_rest lines i) takes)
+  pub text_whole : (lines : List Line) (i : ℕ) → transcript rules default_start (acted lines) ≡ transcript rules default_start (acted (take i lines)) ++ text_rest lines i
+  unfolding text_rest
+  text_whole lines i =
+      ap (λ ls. transcript rules default_start (acted ls)) (sym (take-append-drop i lines))
+      ∙ ap (transcript rules default_start) (map-append (λ line. action_of line.action) (take i lines) (drop i lines))
+      ∙ text_split (acted (take i lines)) (acted (drop i lines))
+
+  -- where a line's text was taken in part, the whole text was
+  pub stopped_in_line : (lines : List Line) (i : ℕ) (d : Line) (a b c : Option (List ℕ)) → i < length lines
+      → Takes a b (transcript rules default_start (acted (take i lines)))
+      → TakesPrefix b c (line_text (world_at (acted (take i lines))) (action_of (get_or lines i d).action))
+      → TakesPrefix a c (transcript rules default_start (acted lines))
+  stopped_in_line lines i d a b c h takes prefix =
+      let front = transcript rules default_start (acted (take i lines)) in
+      let piece = line_text (world_at (acted (take i lines))) (action_of (get_or lines i d).action) in
+      subst (TakesPrefix a c)
+      (sym (text_whole lines (i + 1) ∙ ap (λ t. t ++ text_rest lines (i + 1)) (text_more lines i d h) ∙ append_assoc front piece (text_rest lines (i + 1))))
+      (prefix_then a b c front piece (text_rest lines (i + 1)) takes prefix)
+
+  -- where no more was taken, the text so far is a prefix of the whole
+  pub stopped_between : (lines : List Line) (i : ℕ) (a b : Option (List ℕ)) → Takes a b (transcript rules default_start (acted (take i lines))) → TakesPrefix a b (transcript rules default_start (acted lines))
+  stopped_between lines i a b takes =
+      subst (TakesPrefix a b) (sym (text_whole lines i)) (prefix_front a b (transcript rules default_start (acted (take i lines))) (text_rest lines i) takes)

@@ -1,16 +1,26 @@
 -- What a run reads and writes, and what each of its answers means.
 -- A clause on bytes speaks of a source or sink that tells its bytes; one that tells none has `None`.
-use Rattle.std.specs.Prelude.{◌≡◌, ◌≢◌, ◌⊎◌, ℕ, List, [], map, Option, IfSome, Ok, IsErr}
+use Rattle.std.specs.Prelude.{◌≡◌, ◌⊎◌, ℕ, List, [], map, Option, Some, IfSome, Ok, Err, IsOk, IsErr}
 use Rattle.agent_base.specs.Counts.{Rose}
 use Rattle.agent_base.specs.Streams.{Gives, Takes, TakesPrefix}
+use Rattle.suffix_list.specs.Suffix.{Rule}
+use Rattle.suffix_list.specs.ListText.{RuleList, list_of}
 use Rattle.origin_site.specs.Site.{PlainSite}
 use Rattle.script_lines.specs.Script.{PlainAction, PlainScript}
 use Rattle.script_lines.specs.Grammar.{script_of_bytes}
 use Rattle.agent_model.specs.TheMachine.{default_start}
 use Rattle.agent_model.specs.Isolation.{transcript, replies_to, lines_of_site, lines_alone, local_script, site_run}
 use Rattle.replay.specs.FaultLines.{fault_line}
+use Rattle.replay.specs.Hosts.{HasLeft}
 use Rattle.replay.specs.declared.status.Status.{Status}
 use Rattle.replay.specs.declared.status.Status.TheVariants.{Done, Usage, Script, List as ListStatus, Read, Write, Memory}
+
+-- The list that the words name, read to its end: the one that the host told, where it told one.
+pub record ListRead (told : Option (List ℕ)) : Type 0 where
+  pub bytes : List ℕ
+  pub list : RuleList
+  pub given : HasLeft told (Some bytes)
+  pub grammar : list_of bytes ≡ Ok list
 
 -- The script that a source gave, read to its end.
 pub record ScriptRead (before after : Option (List ℕ)) : Type 0 where
@@ -24,54 +34,60 @@ pub record ScriptRead (before after : Option (List ℕ)) : Type 0 where
 abbrev pub actions_of : PlainScript → List PlainAction
 actions_of script = map (λ line. line.action) script.lines
 
--- the transcript of a script: the text of the replies of the world of all sites
-abbrev pub transcript_of : PlainScript → List ℕ
-transcript_of script = transcript default_start (actions_of script)
+-- the transcript of a script: the text of the replies of the world of all sites under these rules
+abbrev pub transcript_of : List Rule → PlainScript → List ℕ
+transcript_of rules script = transcript rules default_start (actions_of script)
 
 -- what the sink took of a run that ended so: at the end the whole transcript; where writing or
 -- memory stopped the run, nothing or a part of the transcript from its start; else nothing
-abbrev pub WritesText : Status → (before after taken_before taken_after : Option (List ℕ)) → Type 0
-WritesText Done before after taken_before taken_after =
-    (read : ScriptRead before after) × Takes taken_before taken_after (transcript_of read.script)
-WritesText Write before after taken_before taken_after =
-    (read : ScriptRead before after) × TakesPrefix taken_before taken_after (transcript_of read.script)
-WritesText Memory before after taken_before taken_after =
+abbrev pub WritesText : Status → (told before after taken_before taken_after : Option (List ℕ))
+    → Type 0
+WritesText Done told before after taken_before taken_after =
+    (list : ListRead told) × ((read : ScriptRead before after)
+    × Takes taken_before taken_after (transcript_of list.list.rules read.script))
+WritesText Write told before after taken_before taken_after =
+    (list : ListRead told) × ((read : ScriptRead before after)
+    × TakesPrefix taken_before taken_after (transcript_of list.list.rules read.script))
+WritesText Memory told before after taken_before taken_after =
     Takes taken_before taken_after []
-    ⊎ ((read : ScriptRead before after) × TakesPrefix taken_before taken_after (transcript_of read.script))
-WritesText _ before after taken_before taken_after = Takes taken_before taken_after []
+    ⊎ ((list : ListRead told) × ((read : ScriptRead before after)
+    × TakesPrefix taken_before taken_after (transcript_of list.list.rules read.script)))
+WritesText _ told before after taken_before taken_after = Takes taken_before taken_after []
 
 -- the lines of each site are those of its own machine, which is given the site's local script alone
-abbrev pub HasSiteLines : PlainScript → Type 0
-HasSiteLines script = (site : PlainSite)
+abbrev pub HasSiteLines : List Rule → PlainScript → Type 0
+HasSiteLines rules script = (site : PlainSite)
     → let actions = actions_of script in
-    lines_of_site site (replies_to default_start actions)
-    ≡ lines_alone site (site_run site (local_script site default_start actions))
+    lines_of_site site (replies_to rules default_start actions)
+    ≡ lines_alone site (site_run rules site (local_script rules site default_start actions))
 
 -- why the script is refused: it is none, by the script grammar
 abbrev pub ScriptCause : Status → Option (List ℕ) → Type 0
 ScriptCause Script before = IfSome before (λ bytes. IsErr (script_of_bytes bytes))
 ScriptCause _ before = Unit {0}
 
--- why the list is refused: it is not empty. Every answer after that step shows that it is empty.
+-- why the list is refused: this is its first fault. Every answer after that step shows that it has
+-- none.
 abbrev pub ListCause : Status → Option (List ℕ) → Type 0
-ListCause ListStatus told = IfSome told (λ bytes. bytes ≢ [])
-ListCause Done told = IfSome told (λ bytes. bytes ≡ [])
-ListCause Script told = IfSome told (λ bytes. bytes ≡ [])
-ListCause Write told = IfSome told (λ bytes. bytes ≡ [])
+ListCause (ListStatus why) told = IfSome told (λ bytes. list_of bytes ≡ Err why)
+ListCause Done told = IfSome told (λ bytes. IsOk (list_of bytes))
+ListCause Script told = IfSome told (λ bytes. IsOk (list_of bytes))
+ListCause Write told = IfSome told (λ bytes. IsOk (list_of bytes))
 ListCause _ told = Unit {0}
 
 -- why reading failed, where the host tells the list: a call on an opened list failed, or the list
--- is empty and a call on the script failed
+-- has no fault and a call on the script failed
 abbrev pub ReadCause : Status → (told : Option (List ℕ))
     → (reads_before reads_after script_before script_after : ℕ) → Type 0
 ReadCause Read told reads_before reads_after script_before script_after =
-    IfSome told (λ bytes. Rose reads_before reads_after ⊎ ((bytes ≡ []) × Rose script_before script_after))
+    IfSome told (λ bytes. Rose reads_before reads_after
+    ⊎ (IsOk (list_of bytes) × Rose script_before script_after))
 ReadCause _ told reads_before reads_after script_before script_after = Unit {0}
 
 -- the script stands as it stood where the words or the list are refused
 abbrev pub LeavesScript : Status → (before after : Option (List ℕ)) → Type 0
 LeavesScript Usage before after = after ≡ before
-LeavesScript ListStatus before after = after ≡ before
+LeavesScript (ListStatus why) before after = after ≡ before
 LeavesScript _ before after = Unit {0}
 
 -- standard error took the line of the status, or a prefix of it where its count of faults rose

@@ -10,10 +10,12 @@ mod memory_host;
 mod real_host;
 mod runs;
 mod status;
+mod told;
 mod words;
 
 pub use host::Host;
 pub use memory_host::MemHost;
 pub use real_host::RealHost;
-pub use runs::{START, run, tell};
+pub use runs::{START, run};
 pub use status::Status;
+pub use told::tell;

@@ -1,5 +1,5 @@
 //! The run of a script.
-ghost use Rattle.std.specs.Prelude.{◌≡◌, ◌≤◌, ◌≢◌, ◌⊎◌, ◌↔◌, [], map, Some, None, Ok, Err, IfOk, IfErr, OnOk, IfSome, IsErrOf, option_and_then, string_bytes};
+ghost use Rattle.std.specs.Prelude.{◌≡◌, ◌≤◌, ◌⊎◌, ◌↔◌, [], map, Some, None, Ok, Err, IfOk, IfErr, OnOk, IfSome, IsErrOf, option_and_then, string_bytes};
 ghost use Rattle.agent_base.specs.Counts.{Rose};
 ghost use Rattle.agent_base.specs.Streams.{Takes, TakesPrefix};
 ghost use Rattle.unwinding.specs.World.{line_reply, world_step};
@@ -8,17 +8,18 @@ ghost use Rattle.script_lines.specs.Reply.{reply_text};
 ghost use Rattle.agent_model.specs.Isolation.{printed, transcript};
 ghost use Rattle.agent_model.specs.TheMachine.{machine, default_start};
 ghost use Rattle.agent_core.specs.Standing.{world_of};
-ghost use Rattle.replay.specs.Runs.{ScriptRead, WritesText, HasSiteLines, ScriptCause, ListCause, ReadCause, LeavesScript, TellsFault};
+ghost use Rattle.replay.specs.Runs.{ListRead, ScriptRead, WritesText, HasSiteLines, ScriptCause, ListCause, ReadCause, LeavesScript, TellsFault};
 ghost use Rattle.replay.specs.Words.{list_path};
-ghost use Rattle.replay.specs.Loop.{WritesLines, ListRefusal, ListUnread, acted};
+ghost use Rattle.replay.specs.Loop.{WritesLines, WritesScript, IsListOf, ListRefusal, ListUnread, acted};
 
 use crate::words::list_path;
-use crate::{Host, Status};
-use agent_base::{Fault, NoMemory, ReadAll, Sink, Source, read_all, write_all};
+use crate::{Host, Status, tell};
+use agent_base::{Fault, NoMemory, Sink, Source, write_all};
 use agent_core::Agent;
 use agent_model::isolation;
 use script_lines::{Action, Line, Script, ScriptFault, print};
 use std::alloc::Global;
+use suffix_list::{ListFault, SuffixList};
 
 /// Where the clock stands as a run begins: 2026-01-01 00:00:00 UTC, in seconds since 1970.
 pub const START: u64 = 1_767_225_600;
@@ -36,8 +37,11 @@ pub fn run<H: Host, I: Source, O: Sink, E: Sink>(
     out: &mut O,
     err: &mut E,
 ) -> Status
-    ensures text { WritesText result (I.left script.old) (I.left script.new) (O.taken out.old) (O.taken out.new) }
-    ensures sites { (read : ScriptRead (I.left script.old) (I.left script.new)) → HasSiteLines read.script }
+    ensures text { let told = option_and_then (H.lists host.old) (list_path (map string_bytes words.now)) in
+        WritesText result told (I.left script.old) (I.left script.new) (O.taken out.old) (O.taken out.new) }
+    ensures sites { let told = option_and_then (H.lists host.old) (list_path (map string_bytes words.now)) in
+        (list : ListRead told) (read : ScriptRead (I.left script.old) (I.left script.new))
+        → HasSiteLines list.list.rules read.script }
     ensures usage { (result ≡ Status.Usage) ↔ (list_path (map string_bytes words.now) ≡ None) }
     ensures script { ScriptCause result (I.left script.old) }
     ensures list { let told = option_and_then (H.lists host.old) (list_path (map string_bytes words.now)) in
@@ -56,13 +60,6 @@ pub fn run<H: Host, I: Source, O: Sink, E: Sink>(
     status
 }
 
-/// Writes the line of a status to `err`, and nothing where the run is done.
-pub fn tell<E: Sink>(err: &mut E, status: Status)
-    ensures told { TellsFault status (E.taken err.old) (E.taken err.new) (E.faults err.old) (E.faults err.new) }
-{
-    let _ = write_all(err, status.fault_line().as_bytes());
-}
-
 // The run without its line to standard error.
 fn replay<H: Host, I: Source, O: Sink>(
     alloc: Global,
@@ -71,7 +68,8 @@ fn replay<H: Host, I: Source, O: Sink>(
     script: &mut I,
     out: &mut O,
 ) -> Status
-    ensures text { WritesText result (I.left script.old) (I.left script.new) (O.taken out.old) (O.taken out.new) }
+    ensures text { let told = option_and_then (H.lists host.old) (list_path (map string_bytes words.now)) in
+        WritesText result told (I.left script.old) (I.left script.new) (O.taken out.old) (O.taken out.new) }
     ensures usage { (result ≡ Status.Usage) ↔ (list_path (map string_bytes words.now) ≡ None) }
     ensures script { ScriptCause result (I.left script.old) }
     ensures list { let told = option_and_then (H.lists host.old) (list_path (map string_bytes words.now)) in
@@ -87,14 +85,14 @@ fn replay<H: Host, I: Source, O: Sink>(
         return Status::Usage;
     };
     match read_list(alloc, host, path) {
-        Ok(()) => run_script(alloc, script, out),
+        Ok(list) => run_script(alloc, &list, script, out),
         Err(status) => status,
     }
 }
 
-// Reads the list, which has to be empty.
-fn read_list<H: Host>(alloc: Global, host: &mut H, path: &str) -> Result<(), Status>
-    ensures empty { OnOk result (IfSome (H.lists host.old path.now) (λ bytes. bytes ≡ [])) }
+// Reads the list to its end.
+fn read_list<H: Host>(alloc: Global, host: &mut H, path: &str) -> Result<SuffixList, Status>
+    ensures list { IfOk result (λ list. IsListOf (H.lists host.old path.now) list) }
     ensures refused { IfErr result (λ why. ListRefusal why (H.lists host.old path.now) (H.faults host.old) (H.faults host.new)) }
     ensures unread { IfErr result (λ why. ListUnread why (H.lists host.old path.now) (H.reads host.old) (H.reads host.new)) }
 {
@@ -103,26 +101,32 @@ fn read_list<H: Host>(alloc: Global, host: &mut H, path: &str) -> Result<(), Sta
         Err(Fault::Failed) => return Err(Status::Read),
         Err(Fault::NoMemory) => return Err(Status::Memory),
     };
-    let bytes = read_all(alloc, &mut list, 0);
+    let read = SuffixList::read(alloc, &mut list);
     host.close_list(list);
-    match bytes {
-        Ok(_) => Ok(()),
-        Err(ReadAll::TooLong) => Err(Status::List),
-        Err(ReadAll::Failed) => Err(Status::Read),
-        Err(ReadAll::NoMemory) => Err(Status::Memory),
+    match read {
+        Ok(list) => Ok(list),
+        Err(ListFault::ReadFault) => Err(Status::Read),
+        Err(ListFault::NoMemory) => Err(Status::Memory),
+        Err(why) => Err(Status::List(why)),
     }
 }
 
 // Reads the script to its end, and runs its lines.
-fn run_script<I: Source, O: Sink>(alloc: Global, script: &mut I, out: &mut O) -> Status
-    ensures text { WritesText result (I.left script.old) (I.left script.new) (O.taken out.old) (O.taken out.new) }
+fn run_script<I: Source, O: Sink>(
+    alloc: Global,
+    list: &SuffixList,
+    script: &mut I,
+    out: &mut O,
+) -> Status
+    ensures text { let rules = list.now.rules in
+        WritesScript result rules (I.left script.old) (I.left script.new) (O.taken out.old) (O.taken out.new) }
     ensures script { ScriptCause result (I.left script.old) }
     ensures read { result ≡ Status.Read → Rose (I.faults script.old) (I.faults script.new) }
     ensures write { result ≡ Status.Write → Rose (O.faults out.old) (O.faults out.new) }
-    ensures other { (result ≡ Status.Usage → ⊥) × (result ≡ Status.List → ⊥) }
+    ensures other { (result ≡ Status.Usage → ⊥) × ((why : ListFault) → result ≡ Status.List why → ⊥) }
 {
     match Script::read(alloc, script) {
-        Ok(script) => run_lines(alloc, &script.lines, out),
+        Ok(script) => run_lines(alloc, list, &script.lines, out),
         Err(ScriptFault::ReadFault) => Status::Read,
         Err(ScriptFault::NoMemory) => Status::Memory,
         Err(_) => Status::Script,
@@ -131,20 +135,27 @@ fn run_script<I: Source, O: Sink>(alloc: Global, script: &mut I, out: &mut O) ->
 
 // Runs one line, and gives the text of its reply.
 fn answer(alloc: Global, agent: &mut Agent, action: &Action) -> Result<Vec<u8>, NoMemory>
-    ensures text { let told = line_reply machine (world_of agent.old) (action_of action.now) in
+    ensures text { let told = line_reply (machine agent.old.rules) (world_of agent.old) (action_of action.now) in
         IfOk result (λ text. text.items ≡ reply_text (printed told)) }
-    ensures world { OnOk result (world_of agent.new ≡ world_step machine (world_of agent.old) (action_of action.now)) }
+    ensures world { let here = world_of agent.old in
+        OnOk result (world_of agent.new ≡ world_step (machine agent.old.rules) here (action_of action.now)) }
+    ensures rules { agent.new.rules ≡ agent.old.rules }
 {
     let reply = agent.line(action)?;
     print(alloc, &reply)
 }
 
 // Runs the lines, and writes the text of each reply.
-fn run_lines<O: Sink>(alloc: Global, lines: &[Line], out: &mut O) -> Status
-    ensures written { WritesLines result (acted lines.now) (O.taken out.old) (O.taken out.new) }
+fn run_lines<O: Sink>(
+    alloc: Global,
+    list: &SuffixList,
+    lines: &[Line],
+    out: &mut O,
+) -> Status
+    ensures written { WritesLines result list.now.rules (acted lines.now) (O.taken out.old) (O.taken out.new) }
     ensures write { result ≡ Status.Write → Rose (O.faults out.old) (O.faults out.new) }
 {
-    let mut agent = Agent::new(alloc, START);
+    let mut agent = Agent::new(alloc, list, START);
     for line in lines {
         let Ok(text) = answer(alloc, &mut agent, &line.action) else {
             return Status::Memory;

@@ -10,7 +10,8 @@ use Rattle.replay.proofs.runs.run_lines.Given as goal
 -- the agent stands for the world after the lines so far, and their text was written
 abbrev pub invariant-loop-line : goal.invariant-loop-line
 invariant-loop-line g l = record {
-  world : world_of l.agent ≡ world_at (acted (take l.line-index l.lines));
-  text : Takes (g.O.Sink.taken l.fn.out) (g.O.Sink.taken l.out) (transcript default_start (acted (take l.line-index l.lines)));
+  rules : l.agent.rules ≡ l.list.rules;
+  world : world_of l.agent ≡ world_at l.list.rules (acted (take l.line-index l.lines));
+  text : Takes (g.O.Sink.taken l.fn.out) (g.O.Sink.taken l.out) (transcript l.list.rules default_start (acted (take l.line-index l.lines)));
   later : g.O.Sink.faults l.fn.out ≤ g.O.Sink.faults l.out;
 }

@@ -6,4 +6,4 @@ use Rattle.agent_core.proofs.agent.Agent.new.Goals as goal
 
 pub returns : goal.returns
 unfolding world_of partition_at beginning empty_partition
-returns c = record { beginning = rw (c.new.ensures.items, c.new-2.ensures.items) refl }
+returns c = record { beginning = rw (c.new.ensures.items, c.new-2.ensures.items) refl; rules = refl }

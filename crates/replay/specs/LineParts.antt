@@ -1,0 +1,12 @@
+-- The parts of a fault line. Only private functions see it.
+use Rattle.std.specs.Prelude.{ℕ, List, [], ◌++◌, Option, Some, None, decimal}
+use Rattle.replay.specs.declared.told.FaultLine.{FaultLine}
+
+-- a number's digits, if there is one
+abbrev pub number_text : Option ℕ → List ℕ
+number_text None = []
+number_text (Some number) = decimal number
+
+-- the whole line
+abbrev pub line_text : FaultLine → List ℕ
+line_text line = line.front.now ++ (number_text line.number ++ line.back.now)

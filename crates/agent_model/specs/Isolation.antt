@@ -1,6 +1,6 @@
 -- The promise: the replies to a site are those of its own machine, given its local script alone.
--- So two runs that give a site the same local script give it the same replies. All is read under the
--- rules of one suffix list, whichever they are.
+-- So two runs that give a site the same local script give it the same replies. A local script holds
+-- the rules of the run's suffix list, whichever they are.
 use Rattle.std.specs.Prelude.{◌≡◌, ℕ, Bool, false, List, Option, Some, None, map, filter, flat_map}
 use Rattle.unwinding.specs.World.{SiteReply, replies, of_site}
 use Rattle.unwinding.specs.OneSite.{EpochScript, epoch_script, epoch_run}
@@ -20,17 +20,20 @@ replies_to rules start lines = replies (machine rules) (beginning start) lines
 unfoldable pub answers_of : List Rule → PlainSite → List (SiteReply PlainSite Answer) → List Answer
 answers_of rules site told = of_site (machine rules) site told
 
--- what a run gives a site: where it begins, the events at the site with their moments, and no more
-abbrev pub SiteScript : Type 0
-SiteScript = EpochScript Nothing Nothing Partition Nothing TimedEvent
+-- what a run gives a site: the rules of the list, where the site begins, the events at the site with
+-- their moments, and no more
+pub record SiteScript : Type 0 where
+  pub rules : List Rule
+  pub epoch : EpochScript Nothing Nothing Partition Nothing TimedEvent
 
 -- the local script of a site
 unfoldable pub local_script : List Rule → PlainSite → ℕ → List PlainAction → SiteScript
-local_script rules site start lines = epoch_script (machine rules) site (beginning start) lines
+local_script rules site start lines =
+    record { rules = rules; epoch = epoch_script (machine rules) site (beginning start) lines }
 
 -- the answers of the site's own machine, which is given a local script
-unfoldable pub site_run : List Rule → PlainSite → SiteScript → List Answer
-site_run rules site script = epoch_run (machine rules) site script
+unfoldable pub site_run : PlainSite → SiteScript → List Answer
+site_run site script = epoch_run (machine script.rules) site script.epoch
 
 -- a reply as it is printed
 abbrev pub printed : SiteReply PlainSite Answer → PlainReply
@@ -61,10 +64,10 @@ lines_alone site answers = text_of (map (λ answer. record { site = Some site; r
 abbrev pub IsIsolated : Type 0
 IsIsolated = (rules : List Rule) (site : PlainSite) (start : ℕ) (lines : List PlainAction)
     → answers_of rules site (replies_to rules start lines)
-    ≡ site_run rules site (local_script rules site start lines)
+    ≡ site_run site (local_script rules site start lines)
 
 -- the lines of each site are the text of what its own machine answers
 abbrev pub HasIsolatedLines : Type 0
 HasIsolatedLines = (rules : List Rule) (site : PlainSite) (start : ℕ) (lines : List PlainAction)
     → lines_of_site site (replies_to rules start lines)
-    ≡ lines_alone site (site_run rules site (local_script rules site start lines))
+    ≡ lines_alone site (site_run site (local_script rules site start lines))

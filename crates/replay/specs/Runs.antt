@@ -59,7 +59,7 @@ abbrev pub HasSiteLines : List Rule → PlainScript → Type 0
 HasSiteLines rules script = (site : PlainSite)
     → let actions = actions_of script in
     lines_of_site site (replies_to rules default_start actions)
-    ≡ lines_alone site (site_run rules site (local_script rules site default_start actions))
+    ≡ lines_alone site (site_run site (local_script rules site default_start actions))
 
 -- why the script is refused: it is none, by the script grammar
 abbrev pub ScriptCause : Status → Option (List ℕ) → Type 0

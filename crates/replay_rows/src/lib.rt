@@ -8,6 +8,8 @@ mod faults;
 #[cfg(test)]
 mod first_path;
 #[cfg(test)]
+mod lists;
+#[cfg(test)]
 mod quota;
 #[cfg(test)]
 mod real_host;

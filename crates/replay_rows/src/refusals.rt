@@ -50,9 +50,9 @@ const SCRIPTS: [(&str, &str); 9] = [
 
 const LISTS: [Row; 2] = [
     Row {
-        name: "a list of one byte",
+        name: "a list at fault, before a script at fault",
         words: REPLAY,
-        list: "\n",
+        list: "a..b",
         script: "x",
         out: "",
         err: "list line 1: bad rule\n",

@@ -1,0 +1,4 @@
+-- What the public clauses rest on.
+pub mod Context
+pub mod Key
+pub mod Plain

@@ -1,0 +1,4 @@
+mod StandardFacts
+pub mod ShapeLemmas
+pub mod ApartLemmas
+pub mod SetLemmas

@@ -1,0 +1,15 @@
+use Rattle.std.proofs.Common.{rules, ◌≡◌, true, List, map, reverse, ◌∙◌, ap}
+use Rattle.frame_tree.specs.Calls.{begins_with_site}
+use Rattle.frame_tree.specs.Plain.{plain_frame}
+use Rattle.frame_tree.specs.Tree.{chain_back, has_frame}
+use Rattle.frame_tree.specs.declared.frames.Frame.{Frame}
+use Rattle.frame_tree.proofs.ShapeLemmas.{chain-begins, has-reversed}
+use Rattle.frame_tree.proofs.tab.Tab.chain.Goals as goal
+
+pub returns-clause-top : goal.returns-clause-top
+returns-clause-top c =
+    let fs = map plain_frame c.self.inside.frames.items in
+    let there : has_frame c.args.frame fs ≡ true = search rules in
+    ap begins_with_site c.in_ok-sites_of.ensures.sites
+    ∙ ap (λ (xs : List Frame). begins_with_site (map (λ f. f.document.site) (chain_back c.args.frame (reverse (map plain_frame xs))))) c.as_slice-2.ensures.value
+    ∙ chain-begins c.args.frame (reverse fs) c.self.invariant (has-reversed c.args.frame fs ∙ there)

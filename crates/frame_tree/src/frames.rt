@@ -1,0 +1,142 @@
+//! The list of frames of a tab.
+ghost use Rattle.std.specs.Prelude.{◌≡◌, ◌<◌, ◌+◌, ◌&&◌, ◌==◌, IfOk, MatchOption, map, reverse, vec_len, true, false, length, option_map, option_copied, slice_get};
+ghost use Rattle.std.specs.List.{list_all, list_any};
+ghost use Rattle.origin_site.specs.Plain.{plain_origin};
+ghost use Rattle.frame_tree.specs.Calls.{origin_of};
+ghost use Rattle.frame_tree.specs.Plain.{plain_chain_site, plain_document, plain_frame};
+ghost use Rattle.frame_tree.specs.Tree.{chain_back, document_of, has_frame};
+
+use crate::Document;
+use crate::document::copy_of_site;
+use agent_base::NoMemory;
+use origin_site::{Origin, Site};
+use std::alloc::Global;
+
+/// A frame of a tab, its parent and its document.
+#[derive(Debug, Drop)]
+pub struct Frame {
+    pub frame: u8,
+    pub parent: u8,
+    pub document: Document,
+}
+
+impl Frame {
+    /// The same frame, over memory of its own.
+    pub fn copy(&self, alloc: Global) -> Result<Frame, NoMemory>
+        ensures { IfOk result (λ frame. plain_frame frame ≡ plain_frame self.now) }
+    {
+        Ok(Frame {
+            frame: self.frame,
+            parent: self.parent,
+            document: self.document.copy(alloc)?,
+        })
+    }
+}
+
+/// The place of a frame in the list.
+pub fn place_of(frames: &[Frame], frame: u8) -> Option<usize>
+    ensures place { MatchOption result (has_frame frame (map plain_frame frames.now) ≡ false)
+        (λ place. (place < length frames.now) × (option_map (λ f. f.frame) (slice_get frames.now place) ≡ Some frame)) }
+{
+    for (place, f) in frames.iter().enumerate() {
+        if f.frame == frame {
+            return Some(place);
+        }
+    }
+    None
+}
+
+/// Whether there is a frame of this number.
+pub fn has_frame(frames: &[Frame], frame: u8) -> bool
+    ensures has { result ≡ has_frame frame (map plain_frame frames.now) }
+{
+    for f in frames {
+        if f.frame == frame {
+            return true;
+        }
+    }
+    false
+}
+
+/// The document of a frame.
+pub fn document_of(frames: &[Frame], frame: u8) -> Option<&Document>
+    ensures document { option_map plain_document (option_copied result)
+        ≡ document_of frame (map plain_frame frames.now) }
+{
+    for f in frames {
+        if f.frame == frame {
+            return Some(&f.document);
+        }
+    }
+    None
+}
+
+/// Copies of the sites of a frame's chain, from the top.
+pub fn sites_of(alloc: Global, frames: &[Frame], frame: u8) -> Result<Vec<Option<Site>>, NoMemory>
+    ensures sites { IfOk result (λ sites. map plain_chain_site sites.items
+        ≡ map (λ f. f.document.site) (chain_back frame (reverse (map plain_frame frames.now)))) }
+{
+    match frames.split_last() {
+        Some((newest, older)) if newest.frame == frame => {
+            let mut sites = sites_of(alloc, older, newest.parent)?;
+            let site = copy_of_site(alloc, &newest.document.site)?;
+            let Ok(()) = sites.push(site) else {
+                return Err(NoMemory);
+            };
+            Ok(sites)
+        }
+        Some((_, older)) => sites_of(alloc, older, frame),
+        None => Ok(Vec::new(alloc)),
+    }
+}
+
+/// Whether each document of a frame's chain has an https address.
+pub fn is_https_chain(frames: &[Frame], frame: u8) -> bool
+    ensures https { result ≡ list_all (λ f. f.document.address.https)
+        (chain_back frame (reverse (map plain_frame frames.now))) }
+{
+    match frames.split_last() {
+        Some((newest, older)) if newest.frame == frame => {
+            newest.document.address.https && is_https_chain(older, newest.parent)
+        }
+        Some((_, older)) => is_https_chain(older, frame),
+        None => true,
+    }
+}
+
+/// Whether a frame is on the chain of another.
+pub fn is_on_chain(frames: &[Frame], ancestor: u8, frame: u8) -> bool
+    ensures on { result ≡ list_any (λ f. f.frame == ancestor)
+        (chain_back frame (reverse (map plain_frame frames.now))) }
+{
+    match frames.split_last() {
+        Some((newest, older)) if newest.frame == frame => {
+            frame == ancestor || is_on_chain(older, ancestor, newest.parent)
+        }
+        Some((_, older)) => is_on_chain(older, ancestor, frame),
+        None => false,
+    }
+}
+
+/// The origin of a frame's document.
+pub fn origin_of(frames: &[Frame], frame: u8) -> Option<&Origin>
+    ensures origin { option_map plain_origin (option_copied result) ≡ origin_of frame (map plain_frame frames.now) }
+{
+    match document_of(frames, frame) {
+        Some(document) => document.origin.as_ref(),
+        None => None,
+    }
+}
+
+/// Copies of frames, in their order.
+pub fn copies_of(alloc: Global, frames: &[Frame]) -> Result<Vec<Frame>, NoMemory>
+    ensures copies { IfOk result (λ copies. map plain_frame copies.items ≡ map plain_frame frames.now) }
+{
+    let mut copies = Vec::new(alloc);
+    for f in frames {
+        let Ok(()) = copies.push(f.copy(alloc)?) else {
+            return Err(NoMemory);
+        };
+    }
+    Ok(copies)
+}

@@ -1,0 +1,19 @@
+//! The frames of a tab: documents, their sandboxes and activations, and the chain above each.
+//!
+//! A [`Tab`] is a top document, frame 0, and frames 1 to 255, each under a parent. A [`Document`] has
+//! the restrictions of its frame and of the documents above it. The chain of a frame is the list of
+//! documents from the top to it.
+#![tactic(auto)]
+
+mod document;
+mod frames;
+mod marks;
+mod sandbox;
+mod sets;
+mod tab;
+#[cfg(test)]
+mod tests;
+
+pub use document::Document;
+pub use sandbox::Sandbox;
+pub use tab::{NoFrame, Tab, TreeFault};

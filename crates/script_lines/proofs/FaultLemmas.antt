@@ -1,18 +1,20 @@
 -- The grammar answers only faults of the text: neither a fault of the source nor want of memory.
 use Rattle.std.proofs.Common.{ℕ, ◌+◌, Bool, true, false, cond, not, List, [], ◌∷◌, Option}
-use Rattle.std.proofs.Common.{Some, None, Result, Ok, Err, IfErr, map, find, bytes_eq, length}
-use Rattle.std.proofs.Common.{option_and_then}
+use Rattle.std.proofs.Common.{Some, None, Result, Ok, Err, IfErr, map, length, option_and_then}
 use Rattle.std.specs.Prelude.{codes, nat_lt}
 use Rattle.std.specs.Str.{is_utf8}
 use Rattle.serde_json.specs.Data.{Data}
 use Rattle.serde_json.specs.Find.{get, as_str}
 use Rattle.serde_json.specs.Read.{read}
-use Rattle.script_lines.specs.Script.{PlainFault, NotJson, UnknownAction}
-use Rattle.script_lines.specs.Script.{BadField, LineTooLong, TooLong, NotUtf8, ReadFault, NoMemory}
-use Rattle.script_lines.specs.Grammar.{Field, Row, action_by, action_named, action_of_bytes}
-use Rattle.script_lines.specs.Grammar.{field_by, fields_of, first_unknown, is_blank, json_of}
-use Rattle.script_lines.specs.Grammar.{line_limit, line_of_bytes, lines_from, lines_of, meaning}
-use Rattle.script_lines.specs.Grammar.{refused, script_limit, script_of_bytes, table, then_ok}
+use Rattle.script_lines.specs.Script.{PlainAction, PlainFault, NotJson, UnknownAction, BadField}
+use Rattle.script_lines.specs.Script.{LineTooLong, TooLong, NotUtf8, ReadFault, BadHeader, NoMemory}
+use Rattle.script_lines.specs.Fields.{Field, Mark, built, not_built, built_fields, Meanings, formed}
+use Rattle.script_lines.specs.Fields.{field_of, fields_of, given, has_headers, then_ok}
+use Rattle.script_lines.specs.Actions.{Row, When}
+use Rattle.script_lines.specs.Grammar.{action_by, action_by_fields, action_by_mark, action_named}
+use Rattle.script_lines.specs.Grammar.{action_of_bytes, first_unknown, is_blank, json_of, line_limit}
+use Rattle.script_lines.specs.Grammar.{line_of_bytes, lines_from, lines_of, refused, row_named}
+use Rattle.script_lines.specs.Grammar.{script_limit, script_of_bytes}
 
 -- a fault of the text
 abbrev pub IsOfText : PlainFault → Type 0
@@ -23,6 +25,7 @@ IsOfText (LineTooLong line) = Unit {0}
 IsOfText TooLong = Unit {0}
 IsOfText (NotUtf8 line) = Unit {0}
 IsOfText ReadFault = ⊥
+IsOfText (BadHeader line) = Unit {0}
 IsOfText NoMemory = ⊥
 
 then_of_text : {A B : Type 0} (first : Result A PlainFault) (next : A → Result B PlainFault) → IfErr first IsOfText → ((value : A) → IfErr (next value) IsOfText) → IfErr (then_ok first next) IsOfText
@@ -33,29 +36,41 @@ if_of_text : {A : Type 0} (b : Bool) (one other : Result A PlainFault) → IfErr
 if_of_text true one other first second = first
 if_of_text false one other first second = second
 
-field_of_text : {A : Type 0} (number : ℕ) (name : List ℕ) (value : Option A) → IfErr (field_by number name value) IsOfText
-field_of_text number name (Some value) = tt
-field_of_text number name None = tt
+formed_of_text : {A : Type 0} (number : ℕ) (name : List ℕ) (value : Option A) → IfErr (formed number name value) IsOfText
+formed_of_text number name (Some value) = tt
+formed_of_text number name None = tt
+
+field_of_text : (number : ℕ) (field : Field) (line : Data) → IfErr (field_of number field line) IsOfText
+field_of_text number field line =
+    then_of_text _ _ (formed_of_text number field.name (given field.kind field.absent (get field.name line)))
+    (λ value. if_of_text (has_headers field.kind value) _ _ tt tt)
 
 fields_of_text : (number : ℕ) (fields : List Field) (line : Data) → IfErr (fields_of number fields line) IsOfText
 fields_of_text number [] line = tt
 fields_of_text number (field ∷ fields) line =
-    then_of_text _ _ (field_of_text number field.name (option_and_then (meaning field.kind) (get field.name line)))
+    then_of_text _ _ (field_of_text number field line)
     (λ value. then_of_text _ _ (fields_of_text number fields line) (λ values. tt))
 
 refused_of_text : (number : ℕ) (name : Option (List ℕ)) → IfErr (refused number name) IsOfText
 refused_of_text number (Some name) = tt
 refused_of_text number None = tt
 
+by_fields_of_text : (number : ℕ) (fields : List Field) (action : Meanings fields → PlainAction) (line : Data) → IfErr (action_by_fields number fields action line) IsOfText
+by_fields_of_text number fields action line =
+    then_of_text _ _ (fields_of_text number fields line)
+    (λ values. then_of_text _ _ (refused_of_text number (first_unknown (map (λ field. field.name) fields) line)) (λ _. tt))
+
+by_mark_of_text : (number : ℕ) (mark : Mark) (fields : List Field) (action : When mark (Meanings (built_fields fields) → PlainAction)) (line : Data) → IfErr (action_by_mark number mark fields action line) IsOfText
+by_mark_of_text number built fields action line = by_fields_of_text number (built_fields fields) action line
+by_mark_of_text number not_built fields action line = tt
+
 row_of_text : (number : ℕ) (row : Option Row) (line : Data) → IfErr (action_by number row line) IsOfText
 row_of_text number None line = tt
-row_of_text number (Some row) line =
-    then_of_text _ _ (fields_of_text number row.fields line)
-    (λ values. then_of_text _ _ (refused_of_text number (first_unknown (map (λ field. field.name) row.fields) line)) (λ _. tt))
+row_of_text number (Some row) line = by_mark_of_text number row.mark row.fields row.action line
 
 named_of_text : (number : ℕ) (name : Option (List ℕ)) (line : Data) → IfErr (action_named number name line) IsOfText
 named_of_text number None line = tt
-named_of_text number (Some name) line = row_of_text number (find (λ row. bytes_eq row.name name) table) line
+named_of_text number (Some name) line = row_of_text number (row_named name) line
 
 json_of_text : (number : ℕ) (line : Option Data) → IfErr (json_of number line) IsOfText
 json_of_text number (Some line) = tt

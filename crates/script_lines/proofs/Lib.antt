@@ -1,5 +1,9 @@
 pub mod StandardFacts
+pub mod FieldFacts
+pub mod ReplyFacts
 pub mod LineLemmas
 pub mod MemberLemmas
 pub mod ReplyLemmas
 pub mod FaultLemmas
+pub mod PairLemmas
+pub mod RowLemmas

@@ -11,7 +11,8 @@ use Rattle.std.proofs.lemmas.List.Sums.{fails_before_first}
 use Rattle.script_lines.specs.Script.{PlainLine, PlainFault}
 use Rattle.std.proofs.lemmas.List.{map-append}
 use Rattle.script_lines.specs.declared.script.Line.{Line}
-use Rattle.script_lines.specs.Grammar.{then_ok, line_of_bytes, lines_from, lines_of}
+use Rattle.script_lines.specs.Fields.{then_ok}
+use Rattle.script_lines.specs.Grammar.{line_of_bytes, lines_from, lines_of}
 use Rattle.script_lines.specs.Plain.{line_of}
 
 -- where an element passes first, the first part ends

@@ -7,11 +7,12 @@ use Rattle.std.specs.Str.{is_utf8, chars}
 use Rattle.url.proofs.OnLiterals.{url_on_literals}
 use Rattle.serde_json.proofs.OnLiterals.{serde_json_on_literals}
 use Rattle.serde_json.specs.Read.{read}
-use Rattle.script_lines.specs.Script.{PlainAction, Open, Set, Get, PlainFault, NotJson}
+use Rattle.script_lines.specs.Script.{PlainAction, Tick, Open, Set, Get, PlainFault, NotJson}
 use Rattle.script_lines.specs.Script.{UnknownAction, BadField, LineTooLong, TooLong, NotUtf8}
-use Rattle.script_lines.specs.Grammar.{then_ok, json_of, action_of_bytes, action_of_data}
-use Rattle.script_lines.specs.Grammar.{lines_from, line_of_bytes, lines_of, script_of_bytes, top}
-use Rattle.script_lines.specs.Reply.{Plain, Load, Text, reply_text}
+use Rattle.script_lines.specs.Fields.{then_ok}
+use Rattle.script_lines.specs.Actions.{table, top}
+use Rattle.script_lines.specs.Grammar.{json_of, action_of_bytes, action_of_data}
+use Rattle.script_lines.specs.Grammar.{lines_from, line_of_bytes, lines_of, script_of_bytes}
 
 -- what a line of valid UTF-8 reads as, with the number 1
 abbrev line : List ℕ → Result PlainAction PlainFault
@@ -25,58 +26,75 @@ opens : line (codes "{\"do\":\"open\",\"tab\":1,\"url\":\"https://a.test\"}") �
   port = 443;
   path = codes "/";
 }))
-unfolding serde_json_on_literals url_on_literals
+unfolding table serde_json_on_literals url_on_literals
 opens = refl
+
+ticks : line (codes "{\"do\":\"tick\",\"s\":1000000000}") ≡ Ok (Tick 1000000000)
+unfolding table serde_json_on_literals
+ticks = refl
+
+ticks_too_far : line (codes "{\"do\":\"tick\",\"s\":1000000001}") ≡ Err (BadField 1 (codes "s"))
+unfolding table serde_json_on_literals
+ticks_too_far = refl
 
 -- members may stand in any order, and of two of one name the later counts
 sets : line (codes "{\"value\":\"v\",\"key\":\"k\",\"tab\":1,\"do\":\"set\",\"tab\":65535}") ≡ Ok (Set (top 65535) (codes "k") (codes "v"))
-unfolding serde_json_on_literals
+unfolding table serde_json_on_literals
 sets = refl
 
 gets : line (codes " {\"do\":\"get\",\"tab\":2,\"key\":\"\"}\r") ≡ Ok (Get (top 2) [])
-unfolding serde_json_on_literals
+unfolding table serde_json_on_literals
 gets = refl
 
 tab_too_large : line (codes "{\"do\":\"get\",\"tab\":65536,\"key\":\"\"}") ≡ Err (BadField 1 (codes "tab"))
-unfolding serde_json_on_literals
+unfolding table serde_json_on_literals
 tab_too_large = refl
 
 tab_zero : line (codes "{\"do\":\"get\",\"tab\":0,\"key\":\"\"}") ≡ Err (BadField 1 (codes "tab"))
-unfolding serde_json_on_literals
+unfolding table serde_json_on_literals
 tab_zero = refl
 
 with_point : line (codes "{\"do\":\"get\",\"tab\":1.0,\"key\":\"\"}") ≡ Err (BadField 1 (codes "tab"))
-unfolding serde_json_on_literals
+unfolding table serde_json_on_literals
 with_point = refl
 
 -- the fields come in the order of their row, before any member that is not known
 first_field : line (codes "{\"do\":\"open\",\"url\":\"ftp://a\",\"a\":0}") ≡ Err (BadField 1 (codes "tab"))
-unfolding serde_json_on_literals
+unfolding table serde_json_on_literals
 first_field = refl
 
 no_address : line (codes "{\"do\":\"open\",\"url\":\"ftp://a\",\"a\":0,\"tab\":1}") ≡ Err (BadField 1 (codes "url"))
-unfolding serde_json_on_literals url_on_literals
+unfolding table serde_json_on_literals url_on_literals
 no_address = refl
 
 -- members that are not known come in byte order
 unknown_members : line (codes "{\"z\":0,\"do\":\"get\",\"tab\":1,\"key\":\"k\",\"a\":0}") ≡ Err (BadField 1 (codes "a"))
-unfolding serde_json_on_literals
+unfolding table serde_json_on_literals
 unknown_members = refl
 
+-- a row that is not built, and a field that is not built
+not_built_row : line (codes "{\"do\":\"evict\",\"site\":\"https://a.test\"}") ≡ Err (UnknownAction 1)
+unfolding table serde_json_on_literals
+not_built_row = refl
+
+not_built_field : line (codes "{\"do\":\"get\",\"tab\":1,\"key\":\"k\",\"frame\":0}") ≡ Err (BadField 1 (codes "frame"))
+unfolding table serde_json_on_literals
+not_built_field = refl
+
 unknown_action : line (codes "{\"do\":\"tock\",\"a\":0}") ≡ Err (UnknownAction 1)
-unfolding serde_json_on_literals
+unfolding table serde_json_on_literals
 unknown_action = refl
 
 no_object : line (codes "[]") ≡ Err (BadField 1 (codes "do"))
-unfolding serde_json_on_literals
+unfolding table serde_json_on_literals
 no_object = refl
 
 do_is_no_text : line (codes "{\"do\":1}") ≡ Err (BadField 1 (codes "do"))
-unfolding serde_json_on_literals
+unfolding table serde_json_on_literals
 do_is_no_text = refl
 
 no_json : line (codes "{\"do\":\"get\"") ≡ Err (NotJson 1)
-unfolding serde_json_on_literals
+unfolding table serde_json_on_literals
 no_json = refl
 
 -- blank lines are skipped and counted
@@ -103,18 +121,3 @@ script_of_16777217 bytes many = cond-true _ _ _ (ap (nat_lt 16777216) many)
 empty_script : script_of_bytes [] ≡ Ok (record { lines = [] })
 unfolding lines_from
 empty_script = refl
-
-load : reply_text (record { name = codes "open"; site = Some (record { https = true; host = codes "a.test" }); body = Load None [] })
-    ≡ codes "{\"cookie\":null,\"do\":\"open\",\"is\":\"ok\",\"set\":[],\"site\":\"https://a.test\"}\n"
-unfolding serde_json_on_literals
-load = refl
-
-found : reply_text (record { name = codes "get"; site = Some (record { https = true; host = codes "a.test" }); body = Text (Some (codes "v")) })
-    ≡ codes "{\"do\":\"get\",\"is\":\"ok\",\"site\":\"https://a.test\",\"value\":\"v\"}\n"
-unfolding serde_json_on_literals
-found = refl
-
-refused : reply_text (record { name = codes "open"; site = None; body = Plain (codes "tab-exists") })
-    ≡ codes "{\"do\":\"open\",\"is\":\"tab-exists\",\"site\":null}\n"
-unfolding serde_json_on_literals
-refused = refl

@@ -1,5 +1,9 @@
 -- What the public clauses rest on.
 pub mod Script
+pub mod Words
+pub mod Pairs
+pub mod Fields
+pub mod Actions
 pub mod Grammar
 pub mod Reply
 pub mod Plain

@@ -3,29 +3,72 @@ use Rattle.std.specs.Prelude.{◌≡◌, ◌⊎◌, map, option_map, string_byte
 use Rattle.std.specs.Prelude.{ℕ, List, Option}
 use Rattle.agent_base.specs.Streams.{Gives}
 use Rattle.origin_site.specs.Plain.{plain_address, plain_site}
-use Rattle.script_lines.specs.Script.{PlainAction, PlainLine, PlainScript, PlainFault}
+use Rattle.storage_events.specs.Event.{plain_event}
+use Rattle.script_lines.specs.Script.{PlainAction, PlainHeadPair, PlainLine, PlainScript}
+use Rattle.script_lines.specs.Script.{PlainFault}
 use Rattle.script_lines.specs.Script as plain
+use Rattle.script_lines.specs.Actions as table
+use Rattle.script_lines.specs.Actions.{Row}
 use Rattle.script_lines.specs.Grammar.{script_of_bytes}
 use Rattle.script_lines.specs.Reply.{PlainBody, PlainReply}
 use Rattle.script_lines.specs.Reply as plain_reply
+use Rattle.script_lines.specs.declared.actions.ActionName.{ActionName}
+use Rattle.script_lines.specs.declared.actions.ActionName.TheVariants as name
 use Rattle.script_lines.specs.declared.script.Action.{Action}
-use Rattle.script_lines.specs.declared.script.Action.TheVariants.{Open, Set, Get}
+use Rattle.script_lines.specs.declared.script.Action.TheVariants.{Tick, Open, Set, Get}
+use Rattle.script_lines.specs.declared.script.HeadPair.{HeadPair}
 use Rattle.script_lines.specs.declared.script.Line.{Line}
 use Rattle.script_lines.specs.declared.script.Script.{Script}
 use Rattle.script_lines.specs.declared.script.ScriptFault.{ScriptFault}
 use Rattle.script_lines.specs.declared.script.ScriptFault.TheVariants.{NotJson, UnknownAction}
 use Rattle.script_lines.specs.declared.script.ScriptFault.TheVariants.{BadField, LineTooLong}
 use Rattle.script_lines.specs.declared.script.ScriptFault.TheVariants.{TooLong, NotUtf8, ReadFault}
-use Rattle.script_lines.specs.declared.script.ScriptFault.TheVariants.{NoMemory}
+use Rattle.script_lines.specs.declared.script.ScriptFault.TheVariants.{BadHeader, NoMemory}
 use Rattle.script_lines.specs.declared.reply.Reply.{Reply}
 use Rattle.script_lines.specs.declared.reply.ReplyBody.{ReplyBody}
-use Rattle.script_lines.specs.declared.reply.ReplyBody.TheVariants.{Plain, Load, Text}
+use Rattle.script_lines.specs.declared.reply.ReplyBody.TheVariants.{Plain, Now, Kept, Load, Text}
+use Rattle.script_lines.specs.declared.reply.ReplyBody.TheVariants.{Number, Truth, Events, Cookie}
+use Rattle.script_lines.specs.declared.reply.ReplyBody.TheVariants.{SetOne, Estimate, Cleared}
+
+-- a header field
+abbrev pub head_pair_of : HeadPair → PlainHeadPair
+head_pair_of pair = record { name = string_bytes pair.name; value = string_bytes pair.value }
 
 -- an action
 abbrev pub action_of : Action → PlainAction
+action_of (Tick s) = plain.Tick s
 action_of (Open tab url) = plain.Open tab (plain_address url)
 action_of (Set at key value) = plain.Set at (string_bytes key) (string_bytes value)
 action_of (Get at key) = plain.Get at (string_bytes key)
+
+-- the row of the table that a name stands for
+abbrev pub row_of : ActionName → Row
+row_of name.Disk = table.disk_row
+row_of name.Tick = table.tick_row
+row_of name.Restart = table.restart_row
+row_of name.Open = table.open_row
+row_of name.Close = table.close_row
+row_of name.Go = table.go_row
+row_of name.Frame = table.frame_row
+row_of name.Nav = table.nav_row
+row_of name.Drop = table.drop_row
+row_of name.Click = table.document_row
+row_of name.Fetch = table.fetch_row
+row_of name.Set = table.set_row
+row_of name.Get = table.get_row
+row_of name.Del = table.del_row
+row_of name.Clear = table.whole_area_row
+row_of name.Len = table.whole_area_row
+row_of name.Key = table.key_row
+row_of name.Events = table.document_row
+row_of name.Cookie = table.document_row
+row_of name.Has = table.document_row
+row_of name.Persisted = table.document_row
+row_of name.Estimate = table.document_row
+row_of name.SetCookie = table.setcookie_row
+row_of name.Request = table.request_row
+row_of name.Persist = table.persist_row
+row_of name.Evict = table.evict_row
 
 -- a line
 abbrev pub line_of : Line → PlainLine
@@ -44,6 +87,7 @@ fault_of (LineTooLong line) = plain.LineTooLong line
 fault_of TooLong = plain.TooLong
 fault_of (NotUtf8 line) = plain.NotUtf8 line
 fault_of ReadFault = plain.ReadFault
+fault_of (BadHeader line) = plain.BadHeader line
 fault_of NoMemory = plain.NoMemory
 
 -- a reader answers the expected value, seen by `plain`, or its fault, or want of memory
@@ -70,6 +114,15 @@ body_of (Plain answer) = plain_reply.Plain answer.now
 body_of (Load cookie answers) =
     plain_reply.Load (option_map string_bytes cookie) (map (λ t. t.now) answers.items)
 body_of (Text value) = plain_reply.Text (option_map string_bytes value)
+body_of (Now now) = plain_reply.Now now
+body_of (Kept kept) = plain_reply.Kept kept
+body_of (Number value) = plain_reply.Number value
+body_of (Truth value) = plain_reply.Truth value
+body_of (Events events lost) = plain_reply.Events (map plain_event events.items) lost
+body_of (Cookie cookie) = plain_reply.Cookie (string_bytes cookie)
+body_of (SetOne answer) = plain_reply.SetOne answer.now
+body_of (Estimate usage) = plain_reply.Estimate usage
+body_of (Cleared cleared) = plain_reply.Cleared cleared
 
 -- a reply
 abbrev pub reply_of : Reply → PlainReply

@@ -3,9 +3,15 @@ use Rattle.std.specs.Prelude.{ℕ, List}
 use Rattle.agent_base.specs.declared.refusals.Label.{Label}
 use Rattle.origin_site.specs.Address.{PlainAddress}
 
--- what a line asks for. A top document is opened by its tab and address, and an area of a document,
--- which is named by its tab and frame, is written and read.
+-- a header field that a load's response has: its name and its value, as they are written
+pub record PlainHeadPair : Type 0 where
+  pub name : List ℕ
+  pub value : List ℕ
+
+-- what a line asks for. The clock is moved by so many seconds, a top document is opened by its tab
+-- and address, and an area of a document, which is named by its tab and frame, is written and read.
 pub data PlainAction : Type 0 where
+  Tick : (s : ℕ) → PlainAction
   Open : (tab : ℕ) (url : PlainAddress) → PlainAction
   Set : (at : Label) (key value : List ℕ) → PlainAction
   Get : (at : Label) (key : List ℕ) → PlainAction
@@ -29,4 +35,5 @@ pub data PlainFault : Type 0 where
   TooLong : PlainFault
   NotUtf8 : (line : ℕ) → PlainFault
   ReadFault : PlainFault
+  BadHeader : (line : ℕ) → PlainFault
   NoMemory : PlainFault

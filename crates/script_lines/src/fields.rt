@@ -1,70 +1,21 @@
-//! The members of a line, each by what it has to be.
-ghost use Rattle.std.specs.Prelude.{◌≡◌, ◌⊎◌, bytes_eq, find, map, not, option_copied};
-ghost use Rattle.std.specs.Prelude.{option_map, string_bytes};
-ghost use Rattle.std.specs.BTreeMap.{keys};
-ghost use Rattle.std.specs.List.{list_any};
+//! The members of a line, each by the kind of its field.
+ghost use Rattle.std.specs.Prelude.{◌≡◌, ◌≤◌, ◌⊎◌, IfSome, None, Some, option_map, string_bytes};
 ghost use Rattle.serde_json.specs.View.{view};
 ghost use Rattle.origin_site.specs.Plain.{plain_address};
-ghost use Rattle.script_lines.specs.Grammar as spec;
-ghost use Rattle.script_lines.specs.Grammar.{address_text, any_text, field_named, field_of};
-ghost use Rattle.script_lines.specs.Grammar.{refused, tab_number};
+ghost use Rattle.script_lines.specs.Fields as spec;
+ghost use Rattle.script_lines.specs.Fields.{built, defaulted, field_of, required};
 ghost use Rattle.script_lines.specs.Plain.{Reads, fault_of};
 ghost use Rattle.script_lines.specs.Script as plain;
 
 use crate::ScriptFault;
+use crate::words::{
+    Method, Prompt, area_named, consent_named, loader_named, method_named, navigator_named,
+    prompt_named,
+};
 use origin_site::{Address, AddressFault};
-use serde_json::{Map, Value};
+use serde_json::Value;
 use std::alloc::Global;
-
-pub fn tab(alloc: Global, line: &Value, number: u32, name: &str) -> Result<u16, ScriptFault>
-    ensures { Reads (λ n. n)
-        (field_of number (field_named name.now tab_number) (view line.now)) result }
-{
-    match line.get(name).and_then(Value::as_u64) {
-        Some(n) if 1 <= n && n < 65536 => Ok(n as u16),
-        _ => Err(bad_field(alloc, number, name)),
-    }
-}
-
-pub fn text(alloc: Global, line: &Value, number: u32, name: &str) -> Result<String, ScriptFault>
-    ensures { Reads string_bytes
-        (field_of number (field_named name.now any_text) (view line.now)) result }
-{
-    match line.get(name).and_then(Value::as_str) {
-        Some(text) => Ok(String::from_str(alloc, text)?),
-        None => Err(bad_field(alloc, number, name)),
-    }
-}
-
-pub fn address(alloc: Global, line: &Value, number: u32, name: &str) -> Result<Address, ScriptFault>
-    ensures { Reads plain_address
-        (field_of number (field_named name.now address_text) (view line.now)) result }
-{
-    let Some(text) = line.get(name).and_then(Value::as_str) else {
-        return Err(bad_field(alloc, number, name));
-    };
-    match Address::read(alloc, text) {
-        Ok(address) => Ok(address),
-        Err(AddressFault::NoMemory) => Err(ScriptFault::NoMemory),
-        Err(_) => Err(bad_field(alloc, number, name)),
-    }
-}
-
-/// Refuses the first member in byte order that is neither `do` nor one of these.
-pub fn no_others(
-    alloc: Global,
-    line: &Value,
-    number: u32,
-    known: &[&str],
-) -> Result<(), ScriptFault>
-    ensures { let unknown = spec.first_unknown (map (λ k. k.now) known.now) (view line.now) in
-        Reads (λ _. tt) (refused number unknown) result }
-{
-    match first_unknown(line, known) {
-        Some(name) => Err(bad_field(alloc, number, name.as_str())),
-        None => Ok(()),
-    }
-}
+use storage_events::AreaKind;
 
 /// The fault of this member, or want of memory for its name.
 pub fn bad_field(alloc: Global, number: u32, name: &str) -> ScriptFault
@@ -76,32 +27,272 @@ pub fn bad_field(alloc: Global, number: u32, name: &str) -> ScriptFault
     }
 }
 
-fn first_unknown<'a>(line: &'a Value, known: &[&str]) -> Option<&'a String>
-    ensures { option_map string_bytes (option_copied result)
-        ≡ spec.first_unknown (map (λ k. k.now) known.now) (view line.now) }
+// ---- numbers
+
+/// The number of a tab.
+pub fn tab_number(alloc: Global, line: &Value, number: u32, name: &str) -> Result<u16, ScriptFault>
+    ensures { let field = required built name.now (spec.whole 1 65535) in
+        Reads (λ n. n) (field_of number field (view line.now)) result }
 {
-    match line.as_object() {
-        Some(members) => unknown_member(members, known),
-        None => None,
+    match line.get(name).and_then(Value::as_u64) {
+        Some(n) if 1 <= n && n <= 65535 => Ok(n as u16),
+        _ => Err(bad_field(alloc, number, name)),
     }
 }
 
-fn unknown_member<'a>(members: &'a Map<String, Value>, known: &[&str]) -> Option<&'a String>
-    ensures { option_copied result
-        ≡ find (λ s. not (spec.is_known (map (λ k. k.now) known.now) (string_bytes s)))
-        (keys members.now) }
+/// The number of a tab, if there is one.
+pub fn optional_tab(
+    alloc: Global,
+    line: &Value,
+    number: u32,
+    name: &str,
+) -> Result<Option<u16>, ScriptFault>
+    ensures { let field = defaulted built name.now (spec.optional (spec.whole 1 65535)) None in
+        Reads (λ n. n) (field_of number field (view line.now)) result }
 {
-    members.keys().find(|name| !is_known(known, name.as_str()))
+    let Some(value) = line.get(name) else {
+        return Ok(None);
+    };
+    match whole_in(value, 1, 65535) {
+        Some(n) => Ok(Some(n as u16)),
+        None => Err(bad_field(alloc, number, name)),
+    }
 }
 
-fn is_known(known: &[&str], name: &str) -> bool
-    ensures { result ≡ spec.is_known (map (λ k. k.now) known.now) name.now }
+/// The number of a frame, from 0.
+pub fn frame_number(
+    alloc: Global,
+    line: &Value,
+    number: u32,
+    name: &str,
+    absent: u8,
+) -> Result<u8, ScriptFault>
+    ensures { let field = defaulted built name.now (spec.whole 0 255) absent in
+        Reads (λ n. n) (field_of number field (view line.now)) result }
 {
-    name == "do" || is_among(known, name)
+    let Some(value) = line.get(name) else {
+        return Ok(absent);
+    };
+    match whole_in(value, 0, 255) {
+        Some(n) => Ok(n as u8),
+        None => Err(bad_field(alloc, number, name)),
+    }
 }
 
-fn is_among(known: &[&str], name: &str) -> bool
-    ensures { result ≡ list_any (λ k. bytes_eq k.now name.now) known.now }
+/// The number of a frame that is not the top document.
+pub fn inner_frame(alloc: Global, line: &Value, number: u32, name: &str) -> Result<u8, ScriptFault>
+    ensures { let field = required built name.now (spec.whole 1 255) in
+        Reads (λ n. n) (field_of number field (view line.now)) result }
 {
-    known.iter().any(|k| *k == name)
+    match line.get(name).and_then(Value::as_u64) {
+        Some(n) if 1 <= n && n <= 255 => Ok(n as u8),
+        _ => Err(bad_field(alloc, number, name)),
+    }
+}
+
+/// A number from 0 to the last.
+pub fn whole_number(
+    alloc: Global,
+    line: &Value,
+    number: u32,
+    name: &str,
+    last: u32,
+) -> Result<u32, ScriptFault>
+    ensures { let field = required built name.now (spec.whole 0 last) in
+        Reads (λ n. n) (field_of number field (view line.now)) result }
+{
+    match line.get(name).and_then(Value::as_u64) {
+        Some(n) if n <= last as u64 => Ok(n as u32),
+        _ => Err(bad_field(alloc, number, name)),
+    }
+}
+
+// The number within these bounds that a value is.
+fn whole_in(value: &Value, first: u64, last: u64) -> Option<u64>
+    ensures value { result ≡ spec.meaning (spec.whole first last) (view value.now) }
+    ensures bound { IfSome result (λ n. n ≤ last) }
+{
+    match value.as_u64() {
+        Some(n) if first <= n && n <= last => Some(n),
+        _ => None,
+    }
+}
+
+// ---- texts
+
+/// Any text.
+pub fn text(alloc: Global, line: &Value, number: u32, name: &str) -> Result<String, ScriptFault>
+    ensures { let field = required built name.now spec.any_text in
+        Reads string_bytes (field_of number field (view line.now)) result }
+{
+    match line.get(name).and_then(Value::as_str) {
+        Some(text) => Ok(String::from_str(alloc, text)?),
+        None => Err(bad_field(alloc, number, name)),
+    }
+}
+
+/// Any text, if there is one.
+pub fn optional_text(
+    alloc: Global,
+    line: &Value,
+    number: u32,
+    name: &str,
+) -> Result<Option<String>, ScriptFault>
+    ensures { let field = defaulted built name.now (spec.optional spec.any_text) None in
+        Reads (option_map string_bytes) (field_of number field (view line.now)) result }
+{
+    let Some(value) = line.get(name) else {
+        return Ok(None);
+    };
+    match value.as_str() {
+        Some(text) => Ok(Some(String::from_str(alloc, text)?)),
+        None => Err(bad_field(alloc, number, name)),
+    }
+}
+
+/// The text of an address.
+pub fn address(alloc: Global, line: &Value, number: u32, name: &str) -> Result<Address, ScriptFault>
+    ensures { let field = required built name.now spec.address_text in
+        Reads plain_address (field_of number field (view line.now)) result }
+{
+    let Some(text) = line.get(name).and_then(Value::as_str) else {
+        return Err(bad_field(alloc, number, name));
+    };
+    match Address::read(alloc, text) {
+        Ok(address) => Ok(address),
+        Err(AddressFault::NoMemory) => Err(ScriptFault::NoMemory),
+        Err(_) => Err(bad_field(alloc, number, name)),
+    }
+}
+
+// ---- words
+
+/// A truth value.
+pub fn truth(
+    alloc: Global,
+    line: &Value,
+    number: u32,
+    name: &str,
+    absent: bool,
+) -> Result<bool, ScriptFault>
+    ensures { let field = defaulted built name.now spec.truth absent in
+        Reads (λ b. b) (field_of number field (view line.now)) result }
+{
+    let Some(value) = line.get(name) else {
+        return Ok(absent);
+    };
+    match value.as_bool() {
+        Some(answer) => Ok(answer),
+        None => Err(bad_field(alloc, number, name)),
+    }
+}
+
+/// The name of a method.
+pub fn method(
+    alloc: Global,
+    line: &Value,
+    number: u32,
+    name: &str,
+    absent: Method,
+) -> Result<Method, ScriptFault>
+    ensures { let field = defaulted built name.now spec.method_name absent in
+        Reads (λ m. m) (field_of number field (view line.now)) result }
+{
+    let Some(value) = line.get(name) else {
+        return Ok(absent);
+    };
+    match value.as_str().and_then(method_named) {
+        Some(method) => Ok(method),
+        None => Err(bad_field(alloc, number, name)),
+    }
+}
+
+/// The name of an area.
+pub fn area(
+    alloc: Global,
+    line: &Value,
+    number: u32,
+    name: &str,
+    absent: AreaKind,
+) -> Result<AreaKind, ScriptFault>
+    ensures { let field = defaulted built name.now spec.area_name absent in
+        Reads (λ a. a) (field_of number field (view line.now)) result }
+{
+    let Some(value) = line.get(name) else {
+        return Ok(absent);
+    };
+    match value.as_str().and_then(area_named) {
+        Some(area) => Ok(area),
+        None => Err(bad_field(alloc, number, name)),
+    }
+}
+
+/// Whether the page loads its tab anew, and not the user.
+pub fn loader(
+    alloc: Global,
+    line: &Value,
+    number: u32,
+    name: &str,
+    absent: bool,
+) -> Result<bool, ScriptFault>
+    ensures { let field = defaulted built name.now spec.loader absent in
+        Reads (λ b. b) (field_of number field (view line.now)) result }
+{
+    let Some(value) = line.get(name) else {
+        return Ok(absent);
+    };
+    match value.as_str().and_then(loader_named) {
+        Some(by_page) => Ok(by_page),
+        None => Err(bad_field(alloc, number, name)),
+    }
+}
+
+/// Whether a frame navigates itself, and not its parent.
+pub fn navigator(
+    alloc: Global,
+    line: &Value,
+    number: u32,
+    name: &str,
+    absent: bool,
+) -> Result<bool, ScriptFault>
+    ensures { let field = defaulted built name.now spec.navigator absent in
+        Reads (λ b. b) (field_of number field (view line.now)) result }
+{
+    let Some(value) = line.get(name) else {
+        return Ok(absent);
+    };
+    match value.as_str().and_then(navigator_named) {
+        Some(by_self) => Ok(by_self),
+        None => Err(bad_field(alloc, number, name)),
+    }
+}
+
+/// The answer to a prompt for storage access.
+pub fn prompt(alloc: Global, line: &Value, number: u32, name: &str) -> Result<Prompt, ScriptFault>
+    ensures { let field = required built name.now spec.prompt_answer in
+        Reads (λ p. p) (field_of number field (view line.now)) result }
+{
+    match line
+        .get(name)
+        .and_then(Value::as_str)
+        .and_then(prompt_named)
+    {
+        Some(answer) => Ok(answer),
+        None => Err(bad_field(alloc, number, name)),
+    }
+}
+
+/// The answer to a prompt for persistent storage.
+pub fn consent(alloc: Global, line: &Value, number: u32, name: &str) -> Result<Prompt, ScriptFault>
+    ensures { let field = required built name.now spec.consent in
+        Reads (λ p. p) (field_of number field (view line.now)) result }
+{
+    match line
+        .get(name)
+        .and_then(Value::as_str)
+        .and_then(consent_named)
+    {
+        Some(answer) => Ok(answer),
+        None => Err(bad_field(alloc, number, name)),
+    }
 }

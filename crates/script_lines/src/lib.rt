@@ -7,11 +7,17 @@
 
 mod actions;
 mod fields;
+mod members;
+mod pairs;
+mod printer;
 mod reader;
 mod reply;
 mod script;
 #[cfg(test)]
 mod tests;
+mod words;
 
-pub use reply::{Reply, ReplyBody, print};
-pub use script::{Action, Line, Script, ScriptFault};
+pub use printer::print;
+pub use reply::{Reply, ReplyBody};
+pub use script::{Action, HeadPair, Line, Script, ScriptFault};
+pub use words::{Method, Prompt};

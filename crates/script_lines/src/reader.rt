@@ -34,6 +34,9 @@ impl Script {
             ⊎ ((why ≡ ScriptFault.ReadFault) ⊎ ((why ≡ ScriptFault.TooLong)
             ⊎ GaveScript (S.left source.old) (S.left source.new) (Err (fault_of why))))) }
         ensures end { OnOk result (IfSome (S.left source.new) (λ rest. rest ≡ [])) }
+        ensures refused_end { IfErr result (λ why. (why ≡ ScriptFault.NoMemory)
+            ⊎ ((why ≡ ScriptFault.ReadFault) ⊎ ((why ≡ ScriptFault.TooLong)
+            ⊎ IfSome (S.left source.new) (λ rest. rest ≡ [])))) }
         ensures cause { IsErrOf result ScriptFault.ReadFault
             → Rose (S.faults source.old) (S.faults source.new) }
         ensures later { S.faults source.old ≤ S.faults source.new }

@@ -1,26 +1,28 @@
 //! Replies.
-
 ghost use Rattle.std.specs.Prelude.{◌≡◌, IfOk, map, option_map, string_bytes};
-ghost use Rattle.serde_json.specs.Data.{array, object, string};
-ghost use Rattle.serde_json.specs.View.{items_of, view};
-ghost use Rattle.serde_json.specs.Written.{compact_text};
 ghost use Rattle.origin_site.specs.Plain.{plain_site};
+ghost use Rattle.storage_events.specs.Event.{plain_event};
 ghost use Rattle.script_lines.specs.Plain.{body_of, reply_of};
-ghost use Rattle.script_lines.specs.Reply.{load_members, plain_members, reply_data, reply_text};
-ghost use Rattle.script_lines.specs.Reply.{site_data, text_members};
-ghost use Rattle.script_lines.specs.Reply as spec;
 
 use agent_base::NoMemory;
 use origin_site::Site;
-use serde_json::{Map, Value, put};
 use std::alloc::Global;
+use storage_events::Event;
 
-/// What a reply answers.
+/// What a reply answers. Every body but `Plain` answers `ok`.
 #[derive(Debug, Drop, PartialEq, Eq)]
 pub enum ReplyBody {
     /// The answer alone.
     Plain {
         is: &'static str,
+    },
+    /// The clock, in seconds since 1970.
+    Now {
+        now: i64,
+    },
+    /// How many durable changes a restart found.
+    Kept {
+        kept: u64,
     },
     /// A document was loaded: the Cookie header that went out, and an answer for each Set-Cookie.
     Load {
@@ -30,6 +32,35 @@ pub enum ReplyBody {
     /// A look-up: the text that was found, if one was.
     Text {
         value: Option<String>,
+    },
+    /// A number of pairs.
+    Number {
+        value: u64,
+    },
+    /// A truth value.
+    Truth {
+        value: bool,
+    },
+    /// The storage events that a document had, and how many more were lost.
+    Events {
+        events: Vec<Event>,
+        lost: u32,
+    },
+    /// The cookies that a document sees.
+    Cookie {
+        cookie: String,
+    },
+    /// The answer to one Set-Cookie text.
+    SetOne {
+        set: &'static str,
+    },
+    /// The weight of a local area, which is told beside the quota.
+    Estimate {
+        usage: u64,
+    },
+    /// How many areas an eviction emptied.
+    Cleared {
+        cleared: u32,
     },
 }
 
@@ -55,6 +86,20 @@ impl ReplyBody {
             ReplyBody::Text { value } => Ok(ReplyBody::Text {
                 value: optional_copy(alloc, value)?,
             }),
+            ReplyBody::Now { now } => Ok(ReplyBody::Now { now: *now }),
+            ReplyBody::Kept { kept } => Ok(ReplyBody::Kept { kept: *kept }),
+            ReplyBody::Number { value } => Ok(ReplyBody::Number { value: *value }),
+            ReplyBody::Truth { value } => Ok(ReplyBody::Truth { value: *value }),
+            ReplyBody::Events { events, lost } => Ok(ReplyBody::Events {
+                events: events_copy(alloc, events)?,
+                lost: *lost,
+            }),
+            ReplyBody::Cookie { cookie } => Ok(ReplyBody::Cookie {
+                cookie: String::from_str(alloc, cookie.as_str())?,
+            }),
+            ReplyBody::SetOne { set } => Ok(ReplyBody::SetOne { set: *set }),
+            ReplyBody::Estimate { usage } => Ok(ReplyBody::Estimate { usage: *usage }),
+            ReplyBody::Cleared { cleared } => Ok(ReplyBody::Cleared { cleared: *cleared }),
         }
     }
 }
@@ -100,117 +145,14 @@ fn names_copy(alloc: Global, names: &[&'static str]) -> Result<Vec<&'static str>
     }
 }
 
-/// The line of a reply, with its line feed, in time linear in its length.
-pub fn print(alloc: Global, reply: &Reply) -> Result<Vec<u8>, NoMemory>
-    ensures line { IfOk result (λ line. line.items ≡ reply_text (reply_of reply.now)) }
+fn events_copy(alloc: Global, events: &[Event]) -> Result<Vec<Event>, NoMemory>
+    ensures { IfOk result (λ v. map plain_event v.items ≡ map plain_event events.now) }
 {
-    let mut line = json_text(alloc, reply)?.into_bytes();
-    match line.push(b'\n') {
-        Ok(()) => Ok(line),
-        Err(_) => Err(NoMemory),
-    }
-}
-
-fn json_text(alloc: Global, reply: &Reply) -> Result<String, NoMemory>
-    ensures { IfOk result (λ t. string_bytes t ≡ compact_text (reply_data (reply_of reply.now))) }
-{
-    let value = value_of(alloc, reply)?;
-    Ok(value.to_string(alloc)?)
-}
-
-fn value_of(alloc: Global, reply: &Reply) -> Result<Value, NoMemory>
-    ensures { IfOk result (λ v. view v ≡ reply_data (reply_of reply.now)) }
-{
-    match &reply.body {
-        ReplyBody::Plain { is } => plain_value(alloc, reply.name, is, &reply.site),
-        ReplyBody::Load { cookie, set } => load_value(alloc, reply.name, &reply.site, cookie, set),
-        ReplyBody::Text { value } => text_value(alloc, reply.name, &reply.site, value),
-    }
-}
-
-fn plain_value(alloc: Global, name: &str, is: &str, site: &Option<Site>) -> Result<Value, NoMemory>
-    ensures { let site = site_data (option_map plain_site site.now) in
-        IfOk result (λ v. view v ≡ object (plain_members name.now is.now site)) }
-{
-    let mut members = Map::new(alloc);
-    put(&mut members, alloc, "do", text_of(alloc, name)?)?;
-    put(&mut members, alloc, "is", text_of(alloc, is)?)?;
-    put(&mut members, alloc, "site", site_value(alloc, site)?)?;
-    Ok(Value::Object(members))
-}
-
-fn load_value(
-    alloc: Global,
-    name: &str,
-    site: &Option<Site>,
-    cookie: &Option<String>,
-    set: &[&str],
-) -> Result<Value, NoMemory>
-    ensures { let site = site_data (option_map plain_site site.now) in
-        let cookie = spec.text_or_null (option_map string_bytes cookie.now) in
-        let answers = array (items_of (map string (map (λ t. t.now) set.now))) in
-        IfOk result (λ v. view v ≡ object (load_members name.now site cookie answers)) }
-{
-    let mut members = Map::new(alloc);
-    put(&mut members, alloc, "cookie", text_or_null(alloc, cookie)?)?;
-    put(&mut members, alloc, "do", text_of(alloc, name)?)?;
-    put(&mut members, alloc, "is", text_of(alloc, "ok")?)?;
-    put(&mut members, alloc, "set", texts(alloc, set)?)?;
-    put(&mut members, alloc, "site", site_value(alloc, site)?)?;
-    Ok(Value::Object(members))
-}
-
-fn text_value(
-    alloc: Global,
-    name: &str,
-    site: &Option<Site>,
-    value: &Option<String>,
-) -> Result<Value, NoMemory>
-    ensures { let site = site_data (option_map plain_site site.now) in
-        let value = spec.text_or_null (option_map string_bytes value.now) in
-        IfOk result (λ v. view v ≡ object (text_members name.now site value)) }
-{
-    let mut members = Map::new(alloc);
-    put(&mut members, alloc, "do", text_of(alloc, name)?)?;
-    put(&mut members, alloc, "is", text_of(alloc, "ok")?)?;
-    put(&mut members, alloc, "site", site_value(alloc, site)?)?;
-    put(&mut members, alloc, "value", text_or_null(alloc, value)?)?;
-    Ok(Value::Object(members))
-}
-
-fn text_of(alloc: Global, text: &str) -> Result<Value, NoMemory>
-    ensures { IfOk result (λ v. view v ≡ string text.now) }
-{
-    Ok(Value::String(String::from_str(alloc, text)?))
-}
-
-fn site_value(alloc: Global, site: &Option<Site>) -> Result<Value, NoMemory>
-    ensures { IfOk result (λ v. view v ≡ site_data (option_map plain_site site.now)) }
-{
-    match site {
-        Some(site) => Ok(Value::String(site.text(alloc)?)),
-        None => Ok(Value::Null),
-    }
-}
-
-fn text_or_null(alloc: Global, text: &Option<String>) -> Result<Value, NoMemory>
-    ensures { IfOk result (λ v. view v ≡ spec.text_or_null (option_map string_bytes text.now)) }
-{
-    match text {
-        Some(text) => text_of(alloc, text.as_str()),
-        None => Ok(Value::Null),
-    }
-}
-
-fn texts(alloc: Global, list: &[&str]) -> Result<Value, NoMemory>
-    ensures { IfOk result
-        (λ v. view v ≡ array (items_of (map string (map (λ t. t.now) list.now)))) }
-{
-    let mut out = Vec::new(alloc);
-    for text in list {
-        if out.push(text_of(alloc, text)?).is_err() {
+    let mut copy = Vec::new(alloc);
+    for event in events {
+        if copy.push(event.copy()?).is_err() {
             return Err(NoMemory);
         }
     }
-    Ok(Value::Array(out))
+    Ok(copy)
 }

@@ -1,14 +1,26 @@
 //! A script and its lines.
 ghost use Rattle.std.specs.Prelude.{◌≡◌, IfOk};
-ghost use Rattle.script_lines.specs.Plain.{action_of, fault_of, line_of, script_of};
+ghost use Rattle.script_lines.specs.Plain.{action_of, fault_of, head_pair_of, line_of, script_of};
 
 use agent_base::{Label, NoMemory};
 use origin_site::Address;
 use std::alloc::{AllocError, Global};
+use thiserror::Error;
+
+/// A header field of a load's response, as it is written.
+#[derive(Debug, Drop, PartialEq, Eq)]
+pub struct HeadPair {
+    pub name: String,
+    pub value: String,
+}
 
 /// What a line asks for.
 #[derive(Debug, Drop, PartialEq, Eq)]
 pub enum Action {
+    /// Moves the clock by so many seconds.
+    Tick {
+        s: u32,
+    },
     /// Opens the top document of a tab.
     Open {
         tab: u16,
@@ -41,23 +53,35 @@ pub struct Script {
 }
 
 /// Why no script was read. A number is that of the line, from 1, and a text the name of the member.
-#[derive(Debug, Drop, PartialEq, Eq)]
+#[derive(Debug, Drop, PartialEq, Eq, Error)]
 pub enum ScriptFault {
     /// The line is no JSON.
+    #[error("script line {0}: not json")]
     NotJson(u32),
     /// No action has the name that the line gives.
+    #[error("script line {0}: unknown action")]
     UnknownAction(u32),
     /// A member is missing, is of another form, or belongs to no field of the action.
+    #[error("script line {0}: bad field {1}")]
     BadField(u32, String),
     /// The line has over 1,048,576 bytes.
+    #[error("script line {0}: too long")]
     LineTooLong(u32),
     /// The script has over 16,777,216 bytes.
+    #[error("script: too long")]
     TooLong,
     /// The line is not UTF-8.
+    #[error("script line {0}: not utf-8")]
     NotUtf8(u32),
     /// The source failed, and its count of faults rose.
+    #[error("script: the source failed")]
     ReadFault,
+    /// A pair of a header list has a name that is no header name, or a value with U+0000, a line
+    /// feed or a carriage return.
+    #[error("script line {0}: bad header")]
+    BadHeader(u32),
     /// A growth of memory was refused.
+    #[error("script: out of memory")]
     NoMemory,
 }
 
@@ -72,12 +96,36 @@ impl From<AllocError> for ScriptFault {
     }
 }
 
+impl From<NoMemory> for ScriptFault {
+    ghost use Rattle.std.specs.Prelude.{◌≡◌};
+    ghost use Rattle.script_lines.specs.declared.script.ScriptFault.TheVariants.{NoMemory};
+
+    ghost from_gives = { λ _ e. e ≡ NoMemory };
+
+    fn from(_: NoMemory) -> ScriptFault {
+        ScriptFault::NoMemory
+    }
+}
+
+impl HeadPair {
+    /// The same pair, over memory of its own.
+    pub fn copy(&self, alloc: Global) -> Result<HeadPair, NoMemory>
+        ensures same { IfOk result (λ p. head_pair_of p ≡ head_pair_of self.now) }
+    {
+        Ok(HeadPair {
+            name: String::from_str(alloc, self.name.as_str())?,
+            value: String::from_str(alloc, self.value.as_str())?,
+        })
+    }
+}
+
 impl Action {
     /// The same action, over memory of its own.
     pub fn copy(&self, alloc: Global) -> Result<Action, NoMemory>
         ensures same { IfOk result (λ a. action_of a ≡ action_of self.now) }
     {
         match self {
+            Action::Tick { s } => Ok(Action::Tick { s: *s }),
             Action::Open { tab, url } => Ok(Action::Open {
                 tab: *tab,
                 url: url.copy(alloc)?,
@@ -138,6 +186,7 @@ impl ScriptFault {
             ScriptFault::TooLong => Ok(ScriptFault::TooLong),
             ScriptFault::NotUtf8(line) => Ok(ScriptFault::NotUtf8(*line)),
             ScriptFault::ReadFault => Ok(ScriptFault::ReadFault),
+            ScriptFault::BadHeader(line) => Ok(ScriptFault::BadHeader(*line)),
             ScriptFault::NoMemory => Ok(ScriptFault::NoMemory),
         }
     }

@@ -1,9 +1,17 @@
 //! Scripts and replies from outside, and each call that takes memory where there is enough.
 use super::*;
+use crate::fields::{
+    area, consent, frame_number, inner_frame, loader, method, navigator, optional_tab,
+    optional_text, prompt, truth,
+};
+use crate::pairs::{cut_list, header_list};
 use agent_base::MemSource;
 use origin_site::Site;
+use serde_json::Value;
 use std::alloc::Global;
+use std::rc::RcStr;
 use std::test::Fail;
+use storage_events::{AreaKind, Event};
 
 // What reading these bytes answers.
 fn script_of(alloc: Global, bytes: Vec<u8>) -> Result<Script, ScriptFault> {
@@ -18,40 +26,201 @@ fn read(alloc: Global, text: &[u8]) -> Result<Result<Script, ScriptFault>, Fail>
     Ok(script_of(alloc, bytes))
 }
 
-// The bad field of this name.
-fn bad(alloc: Global, line: u32, name: &str) -> Result<ScriptFault, Fail> {
-    Ok(ScriptFault::BadField(line, String::from_str(alloc, name)?))
-}
+const FAULTS: [(&[u8], &str); 25] = [
+    (b"x", "script line 1: not json"),
+    (b"{\"do\":\"tick\",\"s\":1}\n\nx", "script line 3: not json"),
+    (
+        b"\n \t\r\n{\"do\":\"tock\",\"a\":1}\nx",
+        "script line 3: unknown action",
+    ),
+    (b"[]\n", "script line 1: bad field do"),
+    (b"{\"do\":1}", "script line 1: bad field do"),
+    (
+        b"{\"do\":\"open\",\"tab\":0,\"z\":0}",
+        "script line 1: bad field tab",
+    ),
+    (
+        b"{\"do\":\"open\",\"tab\":65536}",
+        "script line 1: bad field tab",
+    ),
+    (
+        b"{\"do\":\"open\",\"tab\":1e0}",
+        "script line 1: bad field tab",
+    ),
+    (
+        b"{\"do\":\"open\",\"tab\":1,\"url\":\"ftp://a\"}",
+        "script line 1: bad field url",
+    ),
+    (
+        b"{\"do\":\"get\",\"tab\":1,\"z\":0}",
+        "script line 1: bad field key",
+    ),
+    (
+        b"{\"do\":\"get\",\"tab\":1,\"key\":\"\",\"z\":0,\"a\":0}",
+        "script line 1: bad field a",
+    ),
+    (
+        b"{\"do\":\"get\",\"tab\":1,\"key\":\"\",\"frame\":0}",
+        "script line 1: bad field frame",
+    ),
+    (
+        b"{\"do\":\"set\",\"value\":1,\"key\":2,\"tab\":1}",
+        "script line 1: bad field key",
+    ),
+    (
+        b"{\"do\":\"tick\",\"s\":1,\"z\":0,\"a\":0}",
+        "script line 1: bad field a",
+    ),
+    (b"{\"do\":\"tick\",\"s\":1.0}", "script line 1: bad field s"),
+    (b"{\"do\":\"tick\",\"s\":-0}", "script line 1: bad field s"),
+    (
+        b"{\"do\":\"tick\",\"s\":null}",
+        "script line 1: bad field s",
+    ),
+    (
+        b"{\"do\":\"tick\",\"s\":1000000001}",
+        "script line 1: bad field s",
+    ),
+    (
+        b"{\"do\":\"tick\",\"s\":1,\"s\":\"1\"}",
+        "script line 1: bad field s",
+    ),
+    (
+        b"{\"do\":\"evict\",\"site\":\"https://a.test\"}",
+        "script line 1: unknown action",
+    ),
+    (
+        b"{\"do\":\"tick\",\"s\":1,\"\\n\":0}",
+        "script line 1: bad field \n",
+    ),
+    (
+        b"{\"do\":\"get\",\"tab\":1,\"key\":\"\\ud800\"}",
+        "script line 1: not json",
+    ),
+    (
+        b"\xef\xbb\xbf{\"do\":\"tick\",\"s\":1}",
+        "script line 1: not json",
+    ),
+    (b"\n\"\xff\"", "script line 2: not utf-8"),
+    (b"{\"do\":\"tick\",\"s\":1e400}", "script line 1: not json"),
+];
 
 #[test]
 fn first_fault_of_a_script(rt: HostRuntime) -> Result<(), Fail> {
     let alloc = rt.alloc();
-    for (text, want) in [
-        (&b"x"[..], ScriptFault::NotJson(1)),
-        (
-            &b"\n \t\r\n{\"do\":\"tock\",\"a\":1}\nx"[..],
-            ScriptFault::UnknownAction(3),
-        ),
-        (&b"[]\n"[..], bad(alloc, 1, "do")?),
-        (
-            &b"{\"do\":\"open\",\"tab\":1.0,\"z\":0}"[..],
-            bad(alloc, 1, "tab")?,
-        ),
-        (
-            &b"{\"do\":\"get\",\"tab\":1,\"z\":0}"[..],
-            bad(alloc, 1, "key")?,
-        ),
-        (
-            &b"{\"do\":\"get\",\"tab\":1,\"key\":\"\",\"z\":0,\"a\":0}"[..],
-            bad(alloc, 1, "a")?,
-        ),
-        (&b"\n\"\xff\""[..], ScriptFault::NotUtf8(2)),
-    ] {
+    for (text, want) in FAULTS {
         match read(alloc, text)? {
-            Ok(_) => assert!(rt; false),
-            Err(why) => assert!(rt; why.copy(alloc)? == want, "{why:?}"),
+            Ok(_) => assert!(rt; false, "{want}"),
+            Err(why) => {
+                let message = format!(in alloc; "{}", why.copy(alloc)?)?;
+                assert!(rt; message.as_str() == want, "{message}, not {want}");
+            }
         }
     }
+    Ok(())
+}
+
+// A value of JSON.
+fn json(alloc: Global, text: &str) -> Result<Value, Fail> {
+    Value::from_str(alloc, text).map_err(|_| Fail::from("no JSON"))
+}
+
+const HEADS: [(&str, Option<&str>); 9] = [
+    ("{}", None),
+    ("{\"a\":[]}", None),
+    (
+        "{\"a\":[[\"Set-Cookie\",\"a=b; Secure\"],[\"X\",\"\"]]}",
+        None,
+    ),
+    ("{\"a\":null}", Some("script line 7: bad field a")),
+    ("{\"a\":[[\"X\"]]}", Some("script line 7: bad field a")),
+    (
+        "{\"a\":[[\"X\",\"\",\"\"]]}",
+        Some("script line 7: bad field a"),
+    ),
+    (
+        "{\"a\":[[\"X Y\",\"\"],[\"X\"]]}",
+        Some("script line 7: bad field a"),
+    ),
+    (
+        "{\"a\":[[\"X Y\",\"\"]]}",
+        Some("script line 7: bad header"),
+    ),
+    (
+        "{\"a\":[[\"X\",\"a\\nb\"]]}",
+        Some("script line 7: bad header"),
+    ),
+];
+
+#[test]
+fn header_lists(rt: HostRuntime) -> Result<(), Fail> {
+    let alloc = rt.alloc();
+    for (text, want) in HEADS {
+        let line = json(alloc, text)?;
+        match (header_list(alloc, &line, 7, "a"), want) {
+            (Ok(_), None) => {}
+            (Err(why), Some(want)) => {
+                let message = format!(in alloc; "{why}")?;
+                assert!(rt; message.as_str() == want, "{text}: {message}");
+            }
+            _ => assert!(rt; false, "{text}"),
+        }
+    }
+    for (count, fits) in [(64_usize, true), (65, false)] {
+        let mut text = String::from_str(alloc, "{\"a\":[[\"X\",\"\"]")?;
+        for _ in 1..count {
+            text.push_str(",[\"X\",\"\"]")?;
+        }
+        text.push_str("]}")?;
+        let line = json(alloc, text.as_str())?;
+        let read = header_list(alloc, &line, 7, "a");
+        assert!(rt; read.is_ok() == fits, "{count} pairs");
+    }
+    Ok(())
+}
+
+// What a member `a` of this JSON is, by each kind of field that no row has yet, in order.
+const KINDS: [(&str, usize); 11] = [
+    ("{\"a\":255}", 0),
+    ("{\"a\":1}", 1),
+    ("{\"a\":65535}", 2),
+    ("{\"a\":\"allow-forms\"}", 3),
+    ("{\"a\":true}", 4),
+    ("{\"a\":\"DELETE\"}", 5),
+    ("{\"a\":\"session\"}", 6),
+    ("{\"a\":\"page\"}", 7),
+    ("{\"a\":\"self\"}", 8),
+    ("{\"a\":\"dismiss\"}", 9),
+    ("{\"a\":\"deny\"}", 10),
+];
+
+#[test]
+fn kinds_of_fields(rt: HostRuntime) -> Result<(), Fail> {
+    let alloc = rt.alloc();
+    for (text, kind) in KINDS {
+        let line = json(alloc, text)?;
+        let found = match kind {
+            0 => frame_number(alloc, &line, 7, "a", 0)? == 255,
+            1 => inner_frame(alloc, &line, 7, "a")? == 1,
+            2 => optional_tab(alloc, &line, 7, "a")? == Some(65535),
+            3 => optional_text(alloc, &line, 7, "a")?.is_some(),
+            4 => truth(alloc, &line, 7, "a", false)?,
+            5 => method(alloc, &line, 7, "a", Method::Get)? == Method::Delete,
+            6 => area(alloc, &line, 7, "a", AreaKind::Local)? == AreaKind::Session,
+            7 => loader(alloc, &line, 7, "a", false)?,
+            8 => navigator(alloc, &line, 7, "a", false)?,
+            9 => prompt(alloc, &line, 7, "a")? == Prompt::Dismiss,
+            _ => consent(alloc, &line, 7, "a")? == Prompt::Deny,
+        };
+        assert!(rt; found, "{text}");
+    }
+    let cuts = cut_list(
+        alloc,
+        &json(alloc, "{\"a\":[[1,0],[18446744073709551615,3]]}")?,
+        7,
+        "a",
+    )?;
+    assert_eq!(rt; cuts.len(), 2);
     Ok(())
 }
 
@@ -117,6 +286,76 @@ fn printed(
     };
     let reply = Reply { name, site, body };
     Ok(print(alloc, &reply.copy(alloc)?)?)
+}
+
+// The body of a reply of each kind that no action has yet, in order.
+fn bodies(alloc: Global) -> Result<Vec<(&'static str, ReplyBody, &'static str)>, Fail> {
+    let mut events = Vec::new(alloc);
+    events.push(Event {
+        area: AreaKind::Session,
+        key: Some(RcStr::from_str(alloc, "k")?),
+        before: None,
+        after: Some(RcStr::from_str(alloc, "\u{1}")?),
+        url: RcStr::from_str(alloc, "https://a.test/")?,
+    })?;
+    let cookie = String::from_str(alloc, "a=b")?;
+    Ok(vec![in alloc;
+        (
+            "tick",
+            ReplyBody::Now { now: 12 },
+            "{\"do\":\"tick\",\"is\":\"ok\",\"now\":12,\"site\":null}\n"
+        ),
+        (
+            "restart",
+            ReplyBody::Kept { kept: 3 },
+            "{\"do\":\"restart\",\"is\":\"ok\",\"kept\":3,\"site\":null}\n"
+        ),
+        (
+            "len",
+            ReplyBody::Number { value: 2 },
+            "{\"do\":\"len\",\"is\":\"ok\",\"site\":null,\"value\":2}\n"
+        ),
+        (
+            "has",
+            ReplyBody::Truth { value: false },
+            "{\"do\":\"has\",\"is\":\"ok\",\"site\":null,\"value\":false}\n"
+        ),
+        (
+            "events",
+            ReplyBody::Events { events, lost: 5 },
+            "{\"do\":\"events\",\"events\":[{\"area\":\"session\",\"key\":\"k\",\"new\":\"\\u0001\",\"old\":null,\"url\":\"https://a.test/\"}],\"is\":\"ok\",\"lost\":5,\"site\":null}\n"
+        ),
+        (
+            "cookie",
+            ReplyBody::Cookie { cookie },
+            "{\"cookie\":\"a=b\",\"do\":\"cookie\",\"is\":\"ok\",\"site\":null}\n"
+        ),
+        (
+            "setcookie",
+            ReplyBody::SetOne { set: "added" },
+            "{\"do\":\"setcookie\",\"is\":\"ok\",\"set\":[\"added\"],\"site\":null}\n"
+        ),
+        (
+            "estimate",
+            ReplyBody::Estimate { usage: 2 },
+            "{\"do\":\"estimate\",\"is\":\"ok\",\"quota\":5242880,\"site\":null,\"usage\":2}\n"
+        ),
+        (
+            "evict",
+            ReplyBody::Cleared { cleared: 1 },
+            "{\"cleared\":1,\"do\":\"evict\",\"is\":\"ok\",\"site\":null}\n"
+        ),
+    ]?)
+}
+
+#[test]
+fn lines_of_later_replies(rt: HostRuntime) -> Result<(), Fail> {
+    let alloc = rt.alloc();
+    for (name, body, want) in bodies(alloc)? {
+        let line = printed(alloc, name, None, body)?;
+        assert!(rt; line.as_slice() == want.as_bytes(), "{want}");
+    }
+    Ok(())
 }
 
 #[test]

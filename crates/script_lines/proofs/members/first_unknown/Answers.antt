@@ -2,7 +2,7 @@ use Rattle.std.proofs.Common.{ℕ, List, Bool, ap, map, not, [], ◌∙◌, find
 use Rattle.std.specs.Prelude.{unwrap_or}
 use Rattle.script_lines.specs.Grammar.{is_known, member_names}
 use Rattle.script_lines.proofs.MemberLemmas.{find_name}
-use Rattle.script_lines.proofs.fields.first_unknown.Goals as goal
+use Rattle.script_lines.proofs.members.first_unknown.Goals as goal
 
 pub returns-in-Some : goal.returns-in-Some
 returns-in-Some c =

@@ -1,7 +1,7 @@
 use Rattle.std.proofs.Common.{sym, ap, ◌∙◌, ◌||◌, bytes_eq, map}
 use Rattle.std.specs.List.{list_any}
 use Rattle.script_lines.proofs.MemberLemmas.{list_any-map}
-use Rattle.script_lines.proofs.fields.is_known.Goals as goal
+use Rattle.script_lines.proofs.members.is_known.Goals as goal
 
 pub returns-else-eq : goal.returns-else-eq
 returns-else-eq c =

@@ -2,7 +2,7 @@ use Rattle.std.proofs.Common.{ap, ◌∙◌}
 use Rattle.serde_json.specs.Written.{has_float, compact_text}
 use Rattle.script_lines.specs.Plain.{reply_of}
 use Rattle.script_lines.proofs.ReplyLemmas.{reply_has_no_float}
-use Rattle.script_lines.proofs.reply.json_text.Goals as goal
+use Rattle.script_lines.proofs.printer.json_text.Goals as goal
 
 pub returns : goal.returns
 returns c =

@@ -1,5 +1,6 @@
 use Rattle.std.proofs.Common.{◌≡◌, ◌≤◌, ◌+◌, length, map}
-use Rattle.script_lines.specs.Grammar.{lines_from, lines_of, then_ok}
+use Rattle.script_lines.specs.Fields.{then_ok}
+use Rattle.script_lines.specs.Grammar.{lines_from, lines_of}
 use Rattle.script_lines.specs.Plain.{line_of}
 use Rattle.script_lines.proofs.LineLemmas.{after}
 use Rattle.script_lines.proofs.reader.read_lines.Given as goal

@@ -1,0 +1,3 @@
+mod StandardFacts
+pub mod NumberLemmas
+pub mod OptionLemmas

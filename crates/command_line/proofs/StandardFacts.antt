@@ -1,0 +1,38 @@
+-- Words and numbers of the command line, so that a wrong rule in the specs does not check.
+use Rattle.std.proofs.Common.{◌≡◌, refl, ℕ, List, [], ◌∷◌, Some, None}
+use Rattle.std.specs.Prelude.{codes}
+use Rattle.command_line.specs.Words.{command_of, number_of, options_from, Help, Replay}
+
+alone : command_of (codes "replay" ∷ codes "l" ∷ []) ≡ Some (Replay (codes "l") 1767225600)
+unfolding options_from
+alone = refl
+
+started : command_of (codes "replay" ∷ codes "l" ∷ codes "--start" ∷ codes "5" ∷ []) ≡ Some (Replay (codes "l") 5)
+unfolding options_from
+started = refl
+
+started_twice : command_of (codes "replay" ∷ codes "l" ∷ codes "--start" ∷ codes "5" ∷ codes "--start" ∷ codes "5" ∷ []) ≡ None
+unfolding options_from
+started_twice = refl
+
+as_one_word : command_of (codes "replay" ∷ codes "l" ∷ codes "--start=5" ∷ []) ≡ None
+unfolding options_from
+as_one_word = refl
+
+bare : command_of (codes "replay" ∷ []) ≡ None
+bare = refl
+
+help : command_of (codes "--help" ∷ []) ≡ Some Help
+help = refl
+
+last_moment : number_of 253402300799 (codes "253402300799") ≡ Some 253402300799
+last_moment = refl
+
+past_the_last_moment : number_of 253402300799 (codes "253402300800") ≡ None
+past_the_last_moment = refl
+
+exponent : number_of 253402300799 (codes "1e3") ≡ None
+exponent = refl
+
+thirteen_digits : number_of 253402300799 (codes "0000000000001") ≡ None
+thirteen_digits = refl

@@ -1,0 +1,90 @@
+-- The words of the command line, without the program's name, that are a command.
+-- Our own choice: all of it. Options follow the other words, in any order, each at most once, name
+-- and value as two words. A number is 1 to 12 ASCII digits, and may begin with zeros.
+use Rattle.std.specs.Prelude.{ℕ, Bool, false, not, ◌&&◌, ◌==◌, nat_le, List, [], ◌∷◌, length, codes}
+use Rattle.std.specs.Prelude.{bytes_eq, Option, Some, None, option_and_then, option_map, unwrap_or}
+use Rattle.std.specs.Prelude.{is_some, if◌then◌else◌}
+use Rattle.std.specs.List.{list_all}
+use Rattle.std.specs.Str.Parse.{digits_value}
+use Rattle.command_line.specs.declared.options.Options.{Options}
+
+-- ---- words
+
+-- a word that can be a path: it is not empty and does not begin with `-`
+abbrev pub is_path : List ℕ → Bool
+is_path [] = false
+is_path (first ∷ rest) = not (first == 45)
+
+-- an ASCII digit
+abbrev pub is_digit : ℕ → Bool
+is_digit b = nat_le 48 b && nat_le b 57
+
+-- the most digits of a number
+abbrev pub most_digits : ℕ
+most_digits = 12
+
+-- a text of 1 to 12 digits
+abbrev pub is_number : List ℕ → Bool
+is_number text =
+    nat_le 1 (length text) && (nat_le (length text) most_digits && list_all is_digit text)
+
+-- a number that is not past the last
+abbrev pub up_to : ℕ → ℕ → Option ℕ
+up_to last n = if nat_le n last then Some n else None
+
+-- the number of a text, up to the last
+abbrev pub number_of : ℕ → List ℕ → Option ℕ
+number_of last text = if is_number text then up_to last (digits_value 10 text) else None
+
+-- ---- options
+
+-- the last moment at which a clock may begin, 9999-12-31 23:59:59 UTC
+abbrev pub last_start : ℕ
+last_start = 253402300799
+
+-- the moment at which a clock begins where no option says so, 2026-01-01 00:00:00 UTC
+abbrev pub default_start : ℕ
+default_start = 1767225600
+
+-- no option
+abbrev pub no_options : Options
+no_options = record { start = None }
+
+-- these options with a start, which lacks in them
+abbrev pub with_start : Options → ℕ → Option Options
+with_start options start =
+    if is_some options.start then None else Some (record { start = Some start })
+
+-- these options with one more, of this name and value
+abbrev pub with_option : Options → List ℕ → List ℕ → Option Options
+with_option options name value =
+    if bytes_eq name (codes "--start") then option_and_then (with_start options) (number_of last_start value)
+    else None
+
+-- these options with those of the words, names and values by turns
+unfoldable pub options_from : Options → List (List ℕ) → Option Options
+options_from options [] = Some options
+options_from options (name ∷ []) = None
+options_from options (name ∷ value ∷ words) =
+    option_and_then (λ more. options_from more words) (with_option options name value)
+
+-- ---- commands
+
+-- a command: the usage line, or a run under the list of this path, with the clock at this moment
+pub data PlainCommand : Type 0 where
+  Help : PlainCommand
+  Replay : (list : List ℕ) (start : ℕ) → PlainCommand
+
+-- the run of these words behind `replay`
+abbrev pub replay_of : List ℕ → List (List ℕ) → Option PlainCommand
+replay_of path words =
+    if is_path path then option_map (λ options. Replay path (unwrap_or options.start default_start))
+    (options_from no_options words)
+    else None
+
+-- the command that words are
+abbrev pub command_of : List (List ℕ) → Option PlainCommand
+command_of [] = None
+command_of (word ∷ []) = if bytes_eq word (codes "--help") then Some Help else None
+command_of (word ∷ path ∷ words) =
+    if bytes_eq word (codes "replay") then replay_of path words else None

@@ -1,0 +1,11 @@
+//! The words of the command line, and the command that they are.
+#![tactic(auto)]
+
+mod commands;
+mod matches;
+mod numbers;
+mod options;
+#[cfg(test)]
+mod tests;
+
+pub use commands::{Command, read_words};

@@ -1,0 +1,41 @@
+//! Numbers of the command line.
+ghost use Rattle.std.specs.Prelude.{◌≡◌};
+ghost use Rattle.std.specs.List.{list_all};
+ghost use Rattle.command_line.specs.Words as spec;
+
+/// The number of a text of 1 to 12 digits, up to the last.
+pub fn number(text: &str, last: u64) -> Option<u64>
+    ensures { result ≡ spec.number_of last text.now }
+{
+    if !is_number(text.as_bytes()) {
+        return None;
+    }
+    match text.parse::<u64>() {
+        Ok(n) => up_to(last, n),
+        Err(_) => None,
+    }
+}
+
+fn up_to(last: u64, n: u64) -> Option<u64>
+    ensures { result ≡ spec.up_to last n }
+{
+    if n <= last { Some(n) } else { None }
+}
+
+fn is_number(text: &[u8]) -> bool
+    ensures { result ≡ spec.is_number text.now }
+{
+    1 <= text.len() && text.len() <= 12 && are_digits(text)
+}
+
+fn are_digits(text: &[u8]) -> bool
+    ensures { result ≡ list_all spec.is_digit text.now }
+{
+    text.iter().all(|b| is_digit(*b))
+}
+
+fn is_digit(b: u8) -> bool
+    ensures { result ≡ spec.is_digit b }
+{
+    b'0' <= b && b <= b'9'
+}

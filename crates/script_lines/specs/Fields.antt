@@ -1,8 +1,9 @@
 -- The fields of a line: what each member is to be, what it stands for, and its fault.
--- Source: the script format of docs/FORMATS.md. An address is one of the crate `origin_site`.
+-- Source: the script format of docs/FORMATS.md. Addresses and sites are those of the crate
+-- `origin_site`.
 -- Our own choice: all else. A member of an optional field is absent or of the field's form, and
 -- `null` is of no form. A field that is not built is no field.
-use Rattle.std.specs.Prelude.{ℕ, Bool, true, false, List, [], ◌∷◌, bytes_eq, Option, Some, None}
+use Rattle.std.specs.Prelude.{ℕ, Bool, true, false, List, [], ◌∷◌, Option, Some, None}
 use Rattle.std.specs.Prelude.{option_map, option_and_then, filter, if◌then◌else◌, Result, Ok, Err}
 use Rattle.std.specs.List.{list_all}
 use Rattle.std.specs.Result.{result_ok}
@@ -10,7 +11,7 @@ use Rattle.disk_model.specs.declared.schedule.Cut.{Cut}
 use Rattle.serde_json.specs.Data.{Data}
 use Rattle.serde_json.specs.Find.{get, as_bool, as_str}
 use Rattle.origin_site.specs.Address.{PlainAddress, address_of}
-use Rattle.origin_site.specs.Site.{PlainSite, site_text}
+use Rattle.origin_site.specs.Site.{PlainSite, site_of_text}
 use Rattle.storage_events.specs.declared.event.AreaKind.{AreaKind}
 use Rattle.script_lines.specs.Script.{PlainHeadPair, PlainFault, BadField, BadHeader}
 use Rattle.script_lines.specs.Words.{number_of, within, word_of, methods, areas, loaders}
@@ -60,20 +61,12 @@ Meaning consent = Prompt
 Meaning cut_list = List Cut
 Meaning (optional kind) = Option (Meaning kind)
 
--- the site of this text: scheme and host of the address that it is, and nothing besides
-abbrev pub site_named : List ℕ → PlainAddress → Option PlainSite
-site_named text address =
-    let site : PlainSite = record { https = address.https; host = address.host } in
-    if bytes_eq (site_text site) text then Some site else None
-
 -- what a value stands for as a member of a kind, and none where it is of another form
 abbrev pub meaning : (kind : Kind) → Data → Option (Meaning kind)
 meaning (whole first last) value = option_and_then (within first last) (number_of value)
 meaning any_text value = as_str value
 meaning address_text value = option_and_then (λ text. result_ok (address_of text)) (as_str value)
-meaning site_name value =
-    option_and_then (λ text. option_and_then (site_named text) (result_ok (address_of text)))
-    (as_str value)
+meaning site_name value = option_and_then (λ text. result_ok (site_of_text text)) (as_str value)
 meaning truth value = as_bool value
 meaning method_name value = word_of methods value
 meaning header_list value = list_of head_pair_of value

@@ -1,7 +1,7 @@
 //! The members of a line, each by the kind of its field.
 ghost use Rattle.std.specs.Prelude.{◌≡◌, ◌≤◌, ◌⊎◌, IfSome, None, Some, option_map, string_bytes};
 ghost use Rattle.serde_json.specs.View.{view};
-ghost use Rattle.origin_site.specs.Plain.{plain_address};
+ghost use Rattle.origin_site.specs.Plain.{plain_address, plain_site};
 ghost use Rattle.script_lines.specs.Fields as spec;
 ghost use Rattle.script_lines.specs.Fields.{built, defaulted, field_of, required};
 ghost use Rattle.script_lines.specs.Plain.{Reads, fault_of};
@@ -12,7 +12,7 @@ use crate::words::{
     Method, Prompt, area_named, consent_named, loader_named, method_named, navigator_named,
     prompt_named,
 };
-use origin_site::{Address, AddressFault};
+use origin_site::{Address, AddressFault, Site, SiteFault};
 use serde_json::Value;
 use std::alloc::Global;
 use storage_events::AreaKind;
@@ -162,6 +162,21 @@ pub fn address(alloc: Global, line: &Value, number: u32, name: &str) -> Result<A
         Ok(address) => Ok(address),
         Err(AddressFault::NoMemory) => Err(ScriptFault::NoMemory),
         Err(_) => Err(bad_field(alloc, number, name)),
+    }
+}
+
+/// The text of a site.
+pub fn site(alloc: Global, line: &Value, number: u32, name: &str) -> Result<Site, ScriptFault>
+    ensures { let field = required built name.now spec.site_name in
+        Reads plain_site (field_of number field (view line.now)) result }
+{
+    let Some(text) = line.get(name).and_then(Value::as_str) else {
+        return Err(bad_field(alloc, number, name));
+    };
+    match Site::read(alloc, text) {
+        Ok(site) => Ok(site),
+        Err(SiteFault::NoMemory) => Err(ScriptFault::NoMemory),
+        Err(SiteFault::NotSite) => Err(bad_field(alloc, number, name)),
     }
 }
 

@@ -189,7 +189,7 @@ fn header_lists(rt: HostRuntime) -> Result<(), Fail> {
 }
 
 // What a member `a` of this JSON is, by each kind of field that no row has yet, in order.
-const KINDS: [(&str, usize); 11] = [
+const KINDS: [(&str, usize); 12] = [
     ("{\"a\":255}", 0),
     ("{\"a\":1}", 1),
     ("{\"a\":65535}", 2),
@@ -201,6 +201,7 @@ const KINDS: [(&str, usize); 11] = [
     ("{\"a\":\"self\"}", 8),
     ("{\"a\":\"dismiss\"}", 9),
     ("{\"a\":\"deny\"}", 10),
+    ("{\"a\":\"https://a.test\"}", 11),
 ];
 
 #[test]
@@ -219,7 +220,8 @@ fn kinds_of_fields(rt: HostRuntime) -> Result<(), Fail> {
             7 => loader(alloc, &line, 7, "a", false)?,
             8 => navigator(alloc, &line, 7, "a", false)?,
             9 => prompt(alloc, &line, 7, "a")? == Prompt::Dismiss,
-            _ => consent(alloc, &line, 7, "a")? == Prompt::Deny,
+            10 => consent(alloc, &line, 7, "a")? == Prompt::Deny,
+            _ => site(alloc, &line, 7, "a")?.https,
         };
         assert!(rt; found, "{text}");
     }

@@ -11,7 +11,7 @@ use Rattle.origin_site.specs.Site.{PlainSite, same_plain_site, site_of_address}
 use Rattle.origin_site.proofs.SameLemmas.{same_plain_site-Decides}
 use Rattle.local_area.specs.Area.{Pair, quota, area_put, area_weight}
 use Rattle.local_area.specs.Put.{PutView, same, added, changed, put_answer}
-use Rattle.script_lines.specs.Script.{Open, Set, Get}
+use Rattle.script_lines.specs.Script.{Tick, Open, Set, Get}
 use Rattle.script_lines.specs.Reply.{Plain}
 use Rattle.agent_model.specs.Partition.{Partition, area_of, with_area}
 use Rattle.agent_model.specs.SiteStep.{site_step, answers, set_item_by, set_item}
@@ -21,7 +21,7 @@ use Rattle.agent_model.specs.Isolation.{printed}
 use Rattle.agent_model.proofs.Areas.{area_kept}
 use Rattle.agent_core.specs.Standing.{AgentState, OpenTab, shown, tabs_at, areas_at, place_of, partition_at, world_of}
 use Rattle.agent_core.specs.Rows.{tab_named, pairs_by, pairs_put, rows_put}
-use Rattle.agent_core.specs.Steps.{open_state_by, open_state, open_reply_by, open_reply, pairs_of_tab, is_over_by, is_over, set_state_by, set_state, set_reply_by, set_reply, get_reply_by, get_reply}
+use Rattle.agent_core.specs.Steps.{tick_state, tick_reply, open_state_by, open_state, open_reply_by, open_reply, pairs_of_tab, is_over_by, is_over, set_state_by, set_state, set_reply_by, set_reply, get_reply_by, get_reply}
 use Rattle.agent_core.proofs.StandingLemmas.{place_found, tabs_at_push, origin_found, area_found, areas_put, areas_others}
 
 -- a world, by its partitions and places
@@ -36,6 +36,16 @@ store_by partition origin pairs true = refl
 store_by partition origin pairs false = refl
 
 module _ (state : AgentState) where
+  -- ---- tick
+
+  pub tick_world : (s : ℕ) → world_of (tick_state s state) ≡ world_step (machine state.rules) (world_of state) (Tick s)
+  unfolding world_of world_step machine main_event rest_after partition_at
+  tick_world s = refl
+
+  pub tick_told : (s : ℕ) → tick_reply s state ≡ printed (line_reply (machine state.rules) (world_of state) (Tick s))
+  unfolding world_of line_reply machine main_event refusal
+  tick_told s = refl
+
   -- ---- open
 
   -- a tab more is a tab more of its site

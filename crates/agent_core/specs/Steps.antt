@@ -1,17 +1,25 @@
 -- What each action makes of the agent's lists, and the reply to it.
-use Rattle.std.specs.Prelude.{ℕ, Bool, false, nat_lt, List, [], ◌∷◌, ◌++◌, Option, Some, None, codes, if◌then◌else◌}
+use Rattle.std.specs.Prelude.{ℕ, pos, Bool, false, nat_lt, List, [], ◌∷◌, ◌++◌, Option, Some, None, codes, if◌then◌else◌}
 use Rattle.origin_site.specs.Address.{PlainAddress}
 use Rattle.origin_site.specs.Origin.{origin_of_address}
 use Rattle.origin_site.specs.Site.{PlainSite, site_of_address}
 use Rattle.local_area.specs.Area.{Pair, quota, area_get, area_put, area_weight}
 use Rattle.local_area.specs.Put.{PutView, same, added, changed, put_answer}
-use Rattle.script_lines.specs.Reply.{PlainReply, PlainBody, Plain, Load, Text}
+use Rattle.script_lines.specs.Reply.{PlainReply, PlainBody, Plain, Now, Load, Text}
+use Rattle.agent_model.specs.Lines.{clock_after}
 use Rattle.agent_core.specs.Standing.{AgentState, AreaRow, OpenTab}
 use Rattle.agent_core.specs.Rows.{tab_named, pairs_in, rows_put}
 
 -- a reply
 abbrev pub replied : List ℕ → Option PlainSite → PlainBody → PlainReply
 replied name site body = record { name = name; site = site; body = body }
+
+-- the agent after a `tick`
+abbrev pub tick_state : ℕ → AgentState → AgentState
+tick_state s state = record state { now = clock_after state.now s }
+
+abbrev pub tick_reply : ℕ → AgentState → PlainReply
+tick_reply s state = replied (codes "tick") None (Now (pos (clock_after state.now s)))
 
 -- the agent after an `open`, by the tab that has the number
 abbrev pub open_state_by : Option OpenTab → ℕ → PlainAddress → AgentState → AgentState

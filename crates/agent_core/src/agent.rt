@@ -7,9 +7,10 @@ ghost use Rattle.agent_model.specs.TheMachine.{machine, beginning};
 ghost use Rattle.origin_site.specs.Plain.{plain_address};
 ghost use Rattle.agent_core.specs.Standing.{AgentState, world_of};
 ghost use Rattle.agent_core.specs.Plain.{plain_row, plain_tab};
-ghost use Rattle.agent_core.specs.Steps.{open_state, open_reply, set_state, set_reply, rows_set, reply_set, get_reply};
+ghost use Rattle.agent_core.specs.Steps.{tick_state, tick_reply, open_state, open_reply, set_state, set_reply, rows_set, reply_set, get_reply};
 
-use crate::replies::{load, plain, text};
+use crate::clock::clock_after;
+use crate::replies::{load, plain, text, ticked};
 use crate::rows::{AreaRow, put_pair, value_in};
 use crate::tab::Tab;
 use crate::tabs::tab_named;
@@ -67,10 +68,20 @@ impl<'l> Agent<'l> {
         ensures unchanged { OnErr result (self.new ≡ self.old) }
     {
         match action {
+            Action::Tick { s } => Ok(self.tick(*s)),
             Action::Open { tab, url } => self.open(*tab, url),
             Action::Set { at, key, value } => self.set(at, key, value),
             Action::Get { at, key } => self.get(at, key),
         }
+    }
+
+    fn tick(&mut self, s: u32) -> Reply
+        ensures reply { reply_of result ≡ tick_reply s self.old }
+        ensures state { self.new ≡ tick_state s self.old }
+    {
+        let now = clock_after(self.now, s);
+        self.now = now;
+        ticked(now)
     }
 
     fn open(&mut self, tab: u16, url: &Address) -> Result<Reply, NoMemory>

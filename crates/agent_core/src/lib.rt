@@ -5,6 +5,7 @@
 #![tactic(auto)]
 
 mod agent;
+mod clock;
 mod replies;
 mod rows;
 mod tab;

@@ -1,12 +1,25 @@
 //! The replies that the agent gives.
-ghost use Rattle.std.specs.Prelude.{◌≡◌, [], Some, None, option_map, string_bytes};
+ghost use Rattle.std.specs.Prelude.{◌≡◌, ◌≤◌, [], Some, None, codes, pos, option_map, string_bytes};
 ghost use Rattle.origin_site.specs.Plain.{plain_site};
 ghost use Rattle.script_lines.specs.Plain.{reply_of};
 ghost use Rattle.script_lines.specs.Reply as reply_text;
+ghost use Rattle.agent_model.specs.Lines.{last_moment};
 
 use origin_site::Site;
 use script_lines::{Reply, ReplyBody};
 use std::alloc::Global;
+
+/// The reply to a line that moved the clock here.
+pub fn ticked(now: u64) -> Reply
+    requires { now ≤ last_moment }
+    ensures { reply_of result ≡ record { name = codes "tick"; site = None; body = reply_text.Now (pos now) } }
+{
+    Reply {
+        name: "tick",
+        site: None,
+        body: ReplyBody::Now { now: now as i64 },
+    }
+}
 
 /// A reply without further members.
 pub fn plain(name: &'static str, is: &'static str, site: Option<Site>) -> Reply

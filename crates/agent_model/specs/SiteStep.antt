@@ -7,7 +7,7 @@ use Rattle.origin_site.specs.Address.{PlainAddress}
 use Rattle.origin_site.specs.Origin.{PlainOrigin, origin_of_address}
 use Rattle.local_area.specs.Area.{Pair, quota, area_get, area_put, area_weight}
 use Rattle.local_area.specs.Put.{PutView, same, added, changed, put_answer}
-use Rattle.script_lines.specs.Script.{PlainAction, Open, Set, Get}
+use Rattle.script_lines.specs.Script.{PlainAction, Tick, Open, Set, Get}
 use Rattle.script_lines.specs.Reply.{PlainBody, Plain, Load, Text}
 use Rattle.agent_model.specs.Partition.{Partition, Tab, area_of, with_area, origin_shown}
 
@@ -72,8 +72,9 @@ abbrev pub get_item : Partition → PlainOrigin → List ℕ → SiteOutcome
 get_item partition origin key =
     answers partition (codes "get") (Text (area_get key (area_of origin partition.areas)))
 
--- the tab that an action names
+-- the tab that an action names; `tick` names none, and no tab has the number 0
 abbrev pub tab_of : PlainAction → ℕ
+tab_of (Tick s) = 0
 tab_of (Open tab url) = tab
 tab_of (Set at key value) = at.tab
 tab_of (Get at key) = at.tab
@@ -81,6 +82,7 @@ tab_of (Get at key) = at.tab
 -- an action of the document that a tab shows
 abbrev pub act : Partition → PlainAction → Option PlainOrigin → SiteOutcome
 act partition action None = unchanged partition
+act partition (Tick s) (Some origin) = unchanged partition
 act partition (Open tab url) (Some origin) = unchanged partition
 act partition (Set at key value) (Some origin) = set_item partition origin key value
 act partition (Get at key) (Some origin) = get_item partition origin key

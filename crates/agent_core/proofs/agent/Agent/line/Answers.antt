@@ -1,6 +1,12 @@
 use Rattle.std.proofs.Common.{rules}
-use Rattle.agent_core.proofs.StepsLemmas.{open_world, open_told, set_world, set_told, get_world, get_told}
+use Rattle.agent_core.proofs.StepsLemmas.{tick_world, tick_told, open_world, open_told, set_world, set_told, get_world, get_told}
 use Rattle.agent_core.proofs.agent.Agent.line.Goals as goal
+
+pub returns-in-Tick-clause-reply : goal.returns-in-Tick-clause-reply
+returns-in-Tick-clause-reply c = let told = tick_told c.args.self.now in search (rules, told)
+
+pub returns-in-Tick-clause-world : goal.returns-in-Tick-clause-world
+returns-in-Tick-clause-world c = let world = tick_world c.args.self.now in search (rules, world)
 
 pub returns-in-Open-clause-reply : goal.returns-in-Open-clause-reply
 returns-in-Open-clause-reply c = let told = open_told c.args.self.now in search (rules, told)

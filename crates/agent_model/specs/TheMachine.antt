@@ -34,10 +34,6 @@ machine rules =
       moment = λ rest. rest.now;
     }
 
--- 2026-01-01 00:00:00 UTC, in seconds since 1970: the clock of a run that names no other
-abbrev pub default_start : ℕ
-default_start = 1767225600
-
 -- the world in which a run begins: no tab is open, and nothing is stored
 unfoldable pub beginning : ℕ → AgentWorld
 beginning start =

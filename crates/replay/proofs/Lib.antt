@@ -1,3 +1,4 @@
 pub mod PrefixLemmas
 pub mod LoopLemmas
 pub mod ScriptLemmas
+pub mod CommandLemmas

@@ -13,7 +13,7 @@ use Rattle.script_lines.specs.Plain.{action_of}
 use Rattle.script_lines.specs.Reply.{reply_text}
 use Rattle.agent_model.specs.SiteStep.{Answer}
 use Rattle.agent_model.specs.Lines.{AgentWorld}
-use Rattle.agent_model.specs.TheMachine.{machine, beginning, default_start}
+use Rattle.agent_model.specs.TheMachine.{machine, beginning}
 use Rattle.agent_model.specs.Isolation.{printed, text_of, replies_to, transcript}
 use Rattle.replay.specs.Loop.{acted}
 use Rattle.replay.proofs.PrefixLemmas.{prefix_front, prefix_then}
@@ -25,67 +25,67 @@ text_append : (a b : List (SiteReply PlainSite Answer)) → text_of (a ++ b) ≡
 unfolding text_of
 text_append a b = flat_map-append (λ one. reply_text (printed one)) a b
 
-module _ (rules : List Rule) where
+module _ (rules : List Rule) (start : ℕ) where
   -- the world after some lines
   pub world_at : List PlainAction → AgentWorld
-  world_at actions = world_after (machine rules) (beginning default_start) actions
+  world_at actions = world_after (machine rules) (beginning start) actions
 
   -- the text of the reply to a line
   abbrev pub line_text : AgentWorld → PlainAction → List ℕ
   line_text world action = reply_text (printed (line_reply (machine rules) world action))
 
-  pub world_begins : world_at [] ≡ beginning default_start
+  pub world_begins : world_at [] ≡ beginning start
   unfolding world_at
   world_begins = refl
 
   pub world_more : (lines : List Line) (i : ℕ) (d : Line) → i < length lines → world_at (acted (take (i + 1) lines)) ≡ world_step (machine rules) (world_at (acted (take i lines))) (action_of (get_or lines i d).action)
   unfolding world_at
-  world_more lines i d h = ap world_at (acted_more lines i d h) ∙ world_append (machine rules) (beginning default_start) (acted (take i lines)) (action_of (get_or lines i d).action ∷ [])
+  world_more lines i d h = ap world_at (acted_more lines i d h) ∙ world_append (machine rules) (beginning start) (acted (take i lines)) (action_of (get_or lines i d).action ∷ [])
 
   -- the text of some lines, and then of others
-  text_split : (first more : List PlainAction) → transcript rules default_start (first ++ more) ≡ transcript rules default_start first ++ text_of (replies (machine rules) (world_at first) more)
+  text_split : (first more : List PlainAction) → transcript rules start (first ++ more) ≡ transcript rules start first ++ text_of (replies (machine rules) (world_at first) more)
   unfolding transcript replies_to world_at
-  text_split first more = ap text_of (replies_append (machine rules) (beginning default_start) first more) ∙ text_append (replies (machine rules) (beginning default_start) first) (replies (machine rules) (world_at first) more)
+  text_split first more = ap text_of (replies_append (machine rules) (beginning start) first more) ∙ text_append (replies (machine rules) (beginning start) first) (replies (machine rules) (world_at first) more)
 
   one_text : (world : AgentWorld) (action : PlainAction) → text_of (replies (machine rules) world (action ∷ [])) ≡ line_text world action
   unfolding text_of
   one_text world action = append-nil (line_text world action)
 
-  pub text_begins : transcript rules default_start [] ≡ []
+  pub text_begins : transcript rules start [] ≡ []
   unfolding transcript replies_to text_of
   text_begins = refl
 
   pub text_more : (lines : List Line) (i : ℕ) (d : Line) → i < length lines
-      → transcript rules default_start (acted (take (i + 1) lines)) ≡ transcript rules default_start (acted (take i lines)) ++ line_text (world_at (acted (take i lines))) (action_of (get_or lines i d).action)
+      → transcript rules start (acted (take (i + 1) lines)) ≡ transcript rules start (acted (take i lines)) ++ line_text (world_at (acted (take i lines))) (action_of (get_or lines i d).action)
   text_more lines i d h =
-      ap (transcript rules default_start) (acted_more lines i d h)
+      ap (transcript rules start) (acted_more lines i d h)
       ∙ text_split (acted (take i lines)) (action_of (get_or lines i d).action ∷ [])
-      ∙ ap (λ t. transcript rules default_start (acted (take i lines)) ++ t) (one_text (world_at (acted (take i lines))) (action_of (get_or lines i d).action))
+      ∙ ap (λ t. transcript rules start (acted (take i lines)) ++ t) (one_text (world_at (acted (take i lines))) (action_of (get_or lines i d).action))
 
   -- the whole text begins with the text so far
   pub text_rest : List Line → ℕ → List ℕ
   text_rest lines i = text_of (replies (machine rules) (world_at (acted (take i lines))) (acted (drop i lines)))
 
-  pub text_whole : (lines : List Line) (i : ℕ) → transcript rules default_start (acted lines) ≡ transcript rules default_start (acted (take i lines)) ++ text_rest lines i
+  pub text_whole : (lines : List Line) (i : ℕ) → transcript rules start (acted lines) ≡ transcript rules start (acted (take i lines)) ++ text_rest lines i
   unfolding text_rest
   text_whole lines i =
-      ap (λ ls. transcript rules default_start (acted ls)) (sym (take-append-drop i lines))
-      ∙ ap (transcript rules default_start) (map-append (λ line. action_of line.action) (take i lines) (drop i lines))
+      ap (λ ls. transcript rules start (acted ls)) (sym (take-append-drop i lines))
+      ∙ ap (transcript rules start) (map-append (λ line. action_of line.action) (take i lines) (drop i lines))
       ∙ text_split (acted (take i lines)) (acted (drop i lines))
 
   -- where a line's text was taken in part, the whole text was
   pub stopped_in_line : (lines : List Line) (i : ℕ) (d : Line) (a b c : Option (List ℕ)) → i < length lines
-      → Takes a b (transcript rules default_start (acted (take i lines)))
+      → Takes a b (transcript rules start (acted (take i lines)))
       → TakesPrefix b c (line_text (world_at (acted (take i lines))) (action_of (get_or lines i d).action))
-      → TakesPrefix a c (transcript rules default_start (acted lines))
+      → TakesPrefix a c (transcript rules start (acted lines))
   stopped_in_line lines i d a b c h takes prefix =
-      let front = transcript rules default_start (acted (take i lines)) in
+      let front = transcript rules start (acted (take i lines)) in
       let piece = line_text (world_at (acted (take i lines))) (action_of (get_or lines i d).action) in
       subst (TakesPrefix a c)
       (sym (text_whole lines (i + 1) ∙ ap (λ t. t ++ text_rest lines (i + 1)) (text_more lines i d h) ∙ append_assoc front piece (text_rest lines (i + 1))))
       (prefix_then a b c front piece (text_rest lines (i + 1)) takes prefix)
 
   -- where no more was taken, the text so far is a prefix of the whole
-  pub stopped_between : (lines : List Line) (i : ℕ) (a b : Option (List ℕ)) → Takes a b (transcript rules default_start (acted (take i lines))) → TakesPrefix a b (transcript rules default_start (acted lines))
+  pub stopped_between : (lines : List Line) (i : ℕ) (a b : Option (List ℕ)) → Takes a b (transcript rules start (acted (take i lines))) → TakesPrefix a b (transcript rules start (acted lines))
   stopped_between lines i a b takes =
-      subst (TakesPrefix a b) (sym (text_whole lines i)) (prefix_front a b (transcript rules default_start (acted (take i lines))) (text_rest lines i) takes)
+      subst (TakesPrefix a b) (sym (text_whole lines i)) (prefix_front a b (transcript rules start (acted (take i lines))) (text_rest lines i) takes)

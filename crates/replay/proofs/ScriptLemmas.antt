@@ -7,7 +7,6 @@ use Rattle.suffix_list.specs.ListText.{RuleList}
 use Rattle.script_lines.specs.Script.{PlainAction}
 use Rattle.script_lines.specs.Plain.{line_of}
 use Rattle.script_lines.specs.declared.script.Line.{Line}
-use Rattle.agent_model.specs.TheMachine.{default_start}
 use Rattle.agent_model.specs.Isolation.{transcript}
 use Rattle.replay.specs.declared.status.Status.{Status}
 use Rattle.replay.specs.declared.status.Status.TheVariants.{Done, Usage, Script, List as ListStatus, Read, Write, Memory}
@@ -24,29 +23,29 @@ pub lines_acted : (lines : List Line) → map (λ line. line.action) (map line_o
 lines_acted [] = refl
 lines_acted (line ∷ lines) = ap (λ rest. (line_of line).action ∷ rest) (lines_acted lines)
 
-module _ (rules : List Rule) (before after taken_before taken_after : Option (List ℕ)) where
+module _ (rules : List Rule) (start : ℕ) (before after taken_before taken_after : Option (List ℕ)) where
   -- what was written of the lines was written of the script
   pub writes_script : (status : Status) (read : ScriptRead before after) (actions : List PlainAction) → actions_of read.script ≡ actions
-      → WritesLines status rules actions taken_before taken_after → WritesScript status rules before after taken_before taken_after
-  writes_script Done read actions same written = (read, subst (λ acts. Takes taken_before taken_after (transcript rules default_start acts)) (sym same) written)
-  writes_script Write read actions same written = (read, subst (λ acts. TakesPrefix taken_before taken_after (transcript rules default_start acts)) (sym same) written)
-  writes_script Memory read actions same written = inr (read, subst (λ acts. TakesPrefix taken_before taken_after (transcript rules default_start acts)) (sym same) written)
+      → WritesLines status rules start actions taken_before taken_after → WritesScript status rules start before after taken_before taken_after
+  writes_script Done read actions same written = (read, subst (λ acts. Takes taken_before taken_after (transcript rules start acts)) (sym same) written)
+  writes_script Write read actions same written = (read, subst (λ acts. TakesPrefix taken_before taken_after (transcript rules start acts)) (sym same) written)
+  writes_script Memory read actions same written = inr (read, subst (λ acts. TakesPrefix taken_before taken_after (transcript rules start acts)) (sym same) written)
   writes_script Usage read actions same written = absurd written
-  writes_script Script read actions same written = absurd written
+  writes_script (Script why) read actions same written = absurd written
   writes_script (ListStatus why) read actions same written = absurd written
   writes_script Read read actions same written = absurd written
 
 -- what was written under the rules of the list that was read
-pub writes_text : (status : Status) (list : RuleList) (told before after taken_before taken_after : Option (List ℕ)) → IsListOf told list
-    → WritesScript status list.rules before after taken_before taken_after → WritesText status told before after taken_before taken_after
-writes_text Done list told before after taken_before taken_after read written = (list_read list told read, written)
-writes_text Write list told before after taken_before taken_after read written = (list_read list told read, written)
-writes_text Memory list told before after taken_before taken_after read written =
+pub writes_text : (status : Status) (list : RuleList) (start : ℕ) (told before after taken_before taken_after : Option (List ℕ)) → IsListOf told list
+    → WritesScript status list.rules start before after taken_before taken_after → WritesText start status told before after taken_before taken_after
+writes_text Done list start told before after taken_before taken_after read written = (list_read list told read, written)
+writes_text Write list start told before after taken_before taken_after read written = (list_read list told read, written)
+writes_text Memory list start told before after taken_before taken_after read written =
     ⊎_elim (λ nothing. inl nothing) (λ some. inr (list_read list told read, some)) written
-writes_text Usage list told before after taken_before taken_after read written = written
-writes_text Script list told before after taken_before taken_after read written = written
-writes_text (ListStatus why) list told before after taken_before taken_after read written = written
-writes_text Read list told before after taken_before taken_after read written = written
+writes_text Usage list start told before after taken_before taken_after read written = written
+writes_text (Script why) list start told before after taken_before taken_after read written = written
+writes_text (ListStatus why) list start told before after taken_before taken_after read written = written
+writes_text Read list start told before after taken_before taken_after read written = written
 
 -- a list that was read in full is the one that was told
 pub list_is : (told left rest : Option (List ℕ)) (bytes : List ℕ) → HasLeft told left → Gives left rest bytes → IfSome rest (λ more. more ≡ []) → HasLeft told (Some bytes)

@@ -3,6 +3,9 @@
 use Rattle.std.specs.Prelude.{ℕ, List, [], ◌∷◌, ◌++◌, codes, decimal}
 use Rattle.suffix_list.specs.declared.fault.ListFault.{ListFault}
 use Rattle.suffix_list.specs.declared.fault.ListFault.TheVariants as list
+use Rattle.script_lines.specs.Plain.{fault_of}
+use Rattle.script_lines.specs.Script.{PlainFault, NotJson, UnknownAction, BadField, LineTooLong}
+use Rattle.script_lines.specs.Script.{TooLong, NotUtf8, ReadFault, BadHeader, NoMemory}
 use Rattle.replay.specs.declared.status.Status.{Status}
 use Rattle.replay.specs.declared.status.Status.TheVariants.{Done, Usage, Script, List as ListStatus, Read, Write, Memory}
 
@@ -17,11 +20,34 @@ list_fault_line list.TooLong = codes "list: too long" ++ 10 ∷ []
 list_fault_line list.ReadFault = codes "read fault" ++ 10 ∷ []
 list_fault_line list.NoMemory = codes "no memory" ++ 10 ∷ []
 
+-- the line of a script's fault, which names the line and the member. No run ends with a script's
+-- `ReadFault` or `NoMemory`: these are the statuses `Read` and `Memory`, whose lines they have.
+abbrev pub script_fault_line : PlainFault → List ℕ
+script_fault_line (NotJson number) =
+    codes "script line " ++ (decimal number ++ (codes ": not json" ++ 10 ∷ []))
+script_fault_line (UnknownAction number) =
+    codes "script line " ++ (decimal number ++ (codes ": unknown action" ++ 10 ∷ []))
+script_fault_line (BadField number name) =
+    codes "script line " ++ (decimal number ++ (codes ": bad field " ++ (name ++ 10 ∷ [])))
+script_fault_line (LineTooLong number) =
+    codes "script line " ++ (decimal number ++ (codes ": too long" ++ 10 ∷ []))
+script_fault_line (NotUtf8 number) =
+    codes "script line " ++ (decimal number ++ (codes ": not utf-8" ++ 10 ∷ []))
+script_fault_line (BadHeader number) =
+    codes "script line " ++ (decimal number ++ (codes ": bad header" ++ 10 ∷ []))
+script_fault_line TooLong = codes "script: too long" ++ 10 ∷ []
+script_fault_line ReadFault = codes "read fault" ++ 10 ∷ []
+script_fault_line NoMemory = codes "no memory" ++ 10 ∷ []
+
+-- the usage line
+abbrev pub usage_line : List ℕ
+usage_line = codes "usage: replay LIST, twin SITE LIST, dump LIST STORE, selftest N" ++ 10 ∷ []
+
 -- the line of a status, and nothing where the run is done
 abbrev pub fault_line : Status → List ℕ
 fault_line Done = []
-fault_line Usage = codes "usage: replay LIST, twin SITE LIST, dump LIST STORE, selftest N" ++ 10 ∷ []
-fault_line Script = codes "script: refused" ++ 10 ∷ []
+fault_line Usage = usage_line
+fault_line (Script why) = script_fault_line (fault_of why)
 fault_line (ListStatus why) = list_fault_line why
 fault_line Read = codes "read fault" ++ 10 ∷ []
 fault_line Write = codes "write fault" ++ 10 ∷ []
@@ -31,7 +57,7 @@ fault_line Memory = codes "no memory" ++ 10 ∷ []
 abbrev pub exit_status : Status → ℕ
 exit_status Done = 0
 exit_status Usage = 2
-exit_status Script = 3
+exit_status (Script why) = 3
 exit_status (ListStatus why) = 4
 exit_status Read = 6
 exit_status Write = 7

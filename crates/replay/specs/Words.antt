@@ -1,15 +1,13 @@
--- The words of the command line, without the program's name.
--- Our own choice: they are exactly `replay LIST`, where LIST is the path of a suffix list, is not
--- empty and does not begin with `-`.
-use Rattle.std.specs.Prelude.{ℕ, Bool, false, not, ◌&&◌, ◌==◌, List, [], ◌∷◌, Option, Some, None, codes, bytes_eq, if◌then◌else◌}
+-- What the command names that the words of the command line are.
+use Rattle.std.specs.Prelude.{ℕ, List, Option, Some, None}
+use Rattle.command_line.specs.Words.{PlainCommand, Help, Replay, command_of}
 
--- whether a word can be a path
-abbrev pub is_path : List ℕ → Bool
-is_path [] = false
-is_path (first ∷ rest) = not (first == 45)
+-- the path of the list that a command names
+abbrev pub list_named : Option PlainCommand → Option (List ℕ)
+list_named None = None
+list_named (Some Help) = None
+list_named (Some (Replay list start)) = Some list
 
--- the path of the list, where the words are a command
+-- the path of the list that the words name
 abbrev pub list_path : List (List ℕ) → Option (List ℕ)
-list_path (word ∷ path ∷ []) =
-    if bytes_eq word (codes "replay") && is_path path then Some path else None
-list_path _ = None
+list_path words = list_named (command_of words)

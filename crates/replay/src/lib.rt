@@ -11,11 +11,10 @@ mod real_host;
 mod runs;
 mod status;
 mod told;
-mod words;
 
 pub use host::Host;
 pub use memory_host::MemHost;
 pub use real_host::RealHost;
-pub use runs::{START, run};
+pub use runs::run;
 pub use status::Status;
 pub use told::tell;

@@ -24,7 +24,7 @@ fn main(rt: HostRuntime) -> ExitCode {
     let words = match words_of(&rt) {
         Ok(words) => words,
         Err(status) => {
-            tell(&mut err, status);
+            tell(&mut err, &status);
             return ExitCode::from(status.code());
         }
     };

@@ -1,6 +1,6 @@
 //! Reads and writes that fail in mid-stream.
 use crate::row::{REPLAY, host, sink, source, words};
-use replay::{Status, run};
+use replay::run;
 use std::test::Fail;
 
 const SCRIPT: &str = r#"{"do":"open","tab":1,"url":"https://a.test/"}
@@ -17,7 +17,7 @@ struct Case {
     script: &'static [u64],
     out: &'static [u64],
     err: &'static [u64],
-    status: Status,
+    status: u8,
     replies: &'static str,
     line: &'static str,
 }
@@ -28,7 +28,7 @@ const CASES: [Case; 5] = [
         script: &[],
         out: &[],
         err: &[],
-        status: Status::Read,
+        status: 6,
         replies: "",
         line: "read fault\n",
     },
@@ -37,7 +37,7 @@ const CASES: [Case; 5] = [
         script: &[1],
         out: &[],
         err: &[],
-        status: Status::Read,
+        status: 6,
         replies: "",
         line: "read fault\n",
     },
@@ -46,7 +46,7 @@ const CASES: [Case; 5] = [
         script: &[2],
         out: &[],
         err: &[],
-        status: Status::Read,
+        status: 6,
         replies: "",
         line: "read fault\n",
     },
@@ -55,7 +55,7 @@ const CASES: [Case; 5] = [
         script: &[],
         out: &[2],
         err: &[],
-        status: Status::Write,
+        status: 7,
         replies: FIRST,
         line: "write fault\n",
     },
@@ -64,7 +64,7 @@ const CASES: [Case; 5] = [
         script: &[],
         out: &[1],
         err: &[1],
-        status: Status::Write,
+        status: 7,
         replies: "",
         line: "",
     },
@@ -86,7 +86,7 @@ fn a_fault_in_mid_stream_is_named(rt: HostRuntime) -> Result<(), Fail> {
             &mut out,
             &mut err,
         );
-        assert_eq!(rt; status, case.status);
+        assert_eq!(rt; status.code(), case.status);
         assert!(rt; out.bytes() == case.replies.as_bytes());
         assert!(rt; err.bytes() == case.line.as_bytes());
     }

@@ -4,6 +4,8 @@
 #![tactic(auto)]
 
 #[cfg(test)]
+mod clocks;
+#[cfg(test)]
 mod faults;
 #[cfg(test)]
 mod first_path;
@@ -17,3 +19,5 @@ mod real_host;
 mod refusals;
 #[cfg(test)]
 mod row;
+#[cfg(test)]
+mod script_faults;

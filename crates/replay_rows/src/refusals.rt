@@ -1,51 +1,22 @@
-//! Words, lists and scripts that are refused. Nothing is printed then.
+//! Words and lists that are refused. Nothing is printed then.
 use crate::row::{REPLAY, Row, check};
 use std::test::Fail;
 
 const USAGE: &str = "usage: replay LIST, twin SITE LIST, dump LIST STORE, selftest N\n";
 
-const WORDS: [(&str, &[&str]); 7] = [
+const WORDS: [(&str, &[&str]); 12] = [
     ("no word", &[]),
     ("no list", &["replay"]),
     ("an empty list", &["replay", ""]),
     ("a list that begins with a dash", &["replay", "-"]),
-    ("help, which is not there yet", &["--help"]),
+    ("help with a word more", &["--help", "replay"]),
     ("another command", &["Replay", "LIST"]),
     ("a word too many", &["replay", "LIST", "LIST"]),
-];
-
-// Each script is refused, although the first line of the first is good.
-const SCRIPTS: [(&str, &str); 9] = [
-    (
-        "a line that is no JSON",
-        "{\"do\":\"open\",\"tab\":1,\"url\":\"https://a.test/\"}\nx",
-    ),
-    ("an action that is unknown", "{\"do\":\"fly\"}"),
-    ("a line without an action", "{}"),
-    (
-        "a tab that is no tab",
-        "{\"do\":\"open\",\"tab\":0,\"url\":\"https://a.test/\"}",
-    ),
-    (
-        "a tab in another spelling",
-        "{\"do\":\"open\",\"tab\":1.0,\"url\":\"https://a.test/\"}",
-    ),
-    (
-        "an address of another scheme",
-        "{\"do\":\"open\",\"tab\":1,\"url\":\"ftp://a.test/\"}",
-    ),
-    (
-        "a host that ends with a dot",
-        "{\"do\":\"open\",\"tab\":1,\"url\":\"https://a.test./\"}",
-    ),
-    (
-        "a member that is unknown",
-        "{\"do\":\"get\",\"tab\":1,\"key\":\"k\",\"frame\":1}",
-    ),
-    (
-        "a member that is missing",
-        "{\"do\":\"set\",\"tab\":1,\"key\":\"k\"}",
-    ),
+    ("a start without its number", &["replay", "LIST", "--start"]),
+    ("two starts", &["replay", "LIST", "--start", "5", "--start", "5"]),
+    ("a start in one word", &["replay", "LIST", "--start=5"]),
+    ("a start that is no number", &["replay", "LIST", "--start", "1e3"]),
+    ("an option before the list", &["replay", "--start", "5", "LIST"]),
 ];
 
 const LISTS: [Row; 2] = [
@@ -80,18 +51,6 @@ fn refusals_are_named(rt: HostRuntime) -> Result<(), Fail> {
             out: "",
             err: USAGE,
             status: 2,
-        };
-        check(&rt, rt.alloc(), &row)?;
-    }
-    for (name, script) in SCRIPTS {
-        let row = Row {
-            name,
-            words: REPLAY,
-            list: "",
-            script,
-            out: "",
-            err: "script: refused\n",
-            status: 3,
         };
         check(&rt, rt.alloc(), &row)?;
     }

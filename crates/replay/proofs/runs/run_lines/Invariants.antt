@@ -1,6 +1,5 @@
 use Rattle.std.proofs.Common.{◌≡◌, ◌≤◌, take}
 use Rattle.agent_base.specs.Streams.{Takes}
-use Rattle.agent_model.specs.TheMachine.{default_start}
 use Rattle.agent_model.specs.Isolation.{transcript}
 use Rattle.agent_core.specs.Standing.{world_of}
 use Rattle.replay.specs.Loop.{acted}
@@ -11,7 +10,7 @@ use Rattle.replay.proofs.runs.run_lines.Given as goal
 abbrev pub invariant-loop-line : goal.invariant-loop-line
 invariant-loop-line g l = record {
   rules : l.agent.rules ≡ l.list.rules;
-  world : world_of l.agent ≡ world_at l.list.rules (acted (take l.line-index l.lines));
-  text : Takes (g.O.Sink.taken l.fn.out) (g.O.Sink.taken l.out) (transcript l.list.rules default_start (acted (take l.line-index l.lines)));
+  world : world_of l.agent ≡ world_at l.list.rules l.start (acted (take l.line-index l.lines));
+  text : Takes (g.O.Sink.taken l.fn.out) (g.O.Sink.taken l.out) (transcript l.list.rules l.start (acted (take l.line-index l.lines)));
   later : g.O.Sink.faults l.fn.out ≤ g.O.Sink.faults l.out;
 }

@@ -77,7 +77,7 @@ abbrev pub HasSiteLines : List Rule → PlainScript → Type 0
 HasSiteLines rules script = (site : PlainSite) (start : ℕ)
     → let actions = actions_of script in
     lines_of_site site (replies_to rules start actions)
-    ≡ lines_alone site (site_run rules site (local_script rules site start actions))
+    ≡ lines_alone site (site_run site (local_script rules site start actions))
 
 -- why the script is refused: this is its first fault
 abbrev pub ScriptCause : Status → Option (List ℕ) → Type 0

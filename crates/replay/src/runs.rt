@@ -194,8 +194,14 @@ fn answer(alloc: Global, agent: &mut Agent, action: &Action) -> Result<Vec<u8>, 
 }
 
 // Runs the lines, and writes the text of each reply.
-fn run_lines<O: Sink>(alloc: Global, list: &SuffixList, lines: &[Line], out: &mut O) -> Status
-    ensures written { WritesLines result list.now.rules (acted lines.now) (O.taken out.old) (O.taken out.new) }
+fn run_lines<O: Sink>(
+    alloc: Global,
+    list: &SuffixList,
+    start: u64,
+    lines: &[Line],
+    out: &mut O,
+) -> Status
+    ensures written { WritesLines result list.now.rules start (acted lines.now) (O.taken out.old) (O.taken out.new) }
     ensures write { result ≡ Status.Write → Rose (O.faults out.old) (O.faults out.new) }
 {
     let mut agent = Agent::new(alloc, list, start);

@@ -1,5 +1,6 @@
 -- Commands that end before a list is opened.
 use Rattle.std.proofs.Common.{◌≡◌, ℕ, List, Option, Some, None, refl, inl, IsSome, subst, option_and_then}
+use Rattle.std.proofs.lemmas.Bool.{false≢true}
 use Rattle.agent_base.proofs.Pieces.{takes_none}
 use Rattle.command_line.specs.Words.{PlainCommand, Help, Replay}
 use Rattle.replay.specs.declared.status.Status.{Status}
@@ -35,10 +36,10 @@ module _ (lists : List ℕ → Option (List ℕ)) (left taken : Option (List ℕ
 
   -- a command that memory does not suffice for
   pub obeys_memory : (command : Option PlainCommand) → IsSome command → Obeys command Memory lists left left taken taken faults faults reads reads script script out out
-  obeys_memory None some = absurd some
+  obeys_memory None some = absurd (false≢true some)
   obeys_memory (Some Help) some = record {
     text = takes_none taken;
-    usage = (λ is. absurd (subst IsNotUsage is tt), λ is. absurd (subst IsSome is tt));
+    usage = (λ is. absurd (subst IsNotUsage is tt), λ is. absurd (false≢true (subst IsSome is refl)));
     script = tt;
     list = tt;
     read = λ is. absurd (subst IsNotRead is tt);
@@ -48,7 +49,7 @@ module _ (lists : List ℕ → Option (List ℕ)) (left taken : Option (List ℕ
   }
   obeys_memory (Some (Replay list start)) some = record {
     text = inl (takes_none taken);
-    usage = (λ is. absurd (subst IsNotUsage is tt), λ is. absurd (subst IsSome is tt));
+    usage = (λ is. absurd (subst IsNotUsage is tt), λ is. absurd (false≢true (subst IsSome is refl)));
     script = tt;
     list = tt;
     read = λ is. absurd (subst IsNotRead is tt);

@@ -2,7 +2,7 @@
 use super::*;
 use crate::fields::{
     area, consent, frame_number, inner_frame, loader, method, navigator, optional_tab,
-    optional_text, prompt, truth,
+    optional_text, prompt, site, truth,
 };
 use crate::pairs::{cut_list, header_list};
 use agent_base::MemSource;

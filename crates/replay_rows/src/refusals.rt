@@ -13,10 +13,19 @@ const WORDS: [(&str, &[&str]); 12] = [
     ("another command", &["Replay", "LIST"]),
     ("a word too many", &["replay", "LIST", "LIST"]),
     ("a start without its number", &["replay", "LIST", "--start"]),
-    ("two starts", &["replay", "LIST", "--start", "5", "--start", "5"]),
+    (
+        "two starts",
+        &["replay", "LIST", "--start", "5", "--start", "5"],
+    ),
     ("a start in one word", &["replay", "LIST", "--start=5"]),
-    ("a start that is no number", &["replay", "LIST", "--start", "1e3"]),
-    ("an option before the list", &["replay", "--start", "5", "LIST"]),
+    (
+        "a start that is no number",
+        &["replay", "LIST", "--start", "1e3"],
+    ),
+    (
+        "an option before the list",
+        &["replay", "--start", "5", "LIST"],
+    ),
 ];
 
 const LISTS: [Row; 2] = [

@@ -135,7 +135,7 @@ const ROWS: [Row; 8] = [
         list: "",
         script: "\r\n \t\r\n{\"do\":\"get\",\"tab\":9,\"key\":\"k\",\"tab\":1,\"do\":\"open\",\"key\":\"x\"}",
         out: "",
-        err: "script: refused\n",
+        err: "script line 3: bad field url\n",
         status: 3,
     },
 ];

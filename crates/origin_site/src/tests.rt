@@ -34,25 +34,48 @@ const SITES: [(&str, &str, &str); 14] = [
     ("*.test", "https://a..test/", "https://a..test"),
 ];
 
+// The origin of an address, through a copy of each.
+fn origin_at(alloc: Global, text: &str) -> Result<Origin, Fail> {
+    let address = Address::read(alloc, text)?.copy(alloc)?;
+    Ok(address.origin(alloc)?.copy(alloc)?)
+}
+
+// The site of an address under a list, through a copy of it.
+fn site_at(alloc: Global, rules: &str, text: &str) -> Result<Site, Fail> {
+    let list = list(alloc, rules)?;
+    let origin = origin_at(alloc, text)?;
+    Ok(site_of(alloc, &origin, &list)?.copy(alloc)?)
+}
+
+// The text of that site.
+fn site_text_at(alloc: Global, rules: &str, text: &str) -> Result<String, Fail> {
+    let site = site_at(alloc, rules, text)?;
+    Ok(site.text(alloc)?)
+}
+
+// Whether two addresses are at one site under a list.
+fn at_one_site(alloc: Global, rules: &str, text: &str, other: &str) -> Result<bool, Fail> {
+    let site = site_at(alloc, rules, text)?;
+    let again = site_at(alloc, rules, other)?;
+    Ok(same_site(&site, &again))
+}
+
+// Whether an address is at the site that a text names.
+fn is_at(alloc: Global, rules: &str, text: &str, named: &str) -> Result<bool, Fail> {
+    let site = site_at(alloc, rules, text)?;
+    let read = Site::read(alloc, named)?;
+    Ok(same_site(&site, &read))
+}
+
 #[test]
 fn sites_of_addresses(rt: HostRuntime) -> Result<(), Fail> {
     let alloc = rt.alloc();
     for (rules, text, site) in SITES {
-        let list = list(alloc, rules)?;
-        let address = Address::read(alloc, text)?.copy(alloc)?;
-        let origin = address.origin(alloc)?.copy(alloc)?;
-        let found = site_of(alloc, &origin, &list)?.copy(alloc)?;
-        let shown = found.text(alloc)?;
+        let shown = site_text_at(alloc, rules, text)?;
         assert_eq!(rt; shown.as_str(), site, "{text} under {rules}");
-        let again = Address::read(alloc, shown.as_str())?.origin(alloc)?;
-        assert!(rt;
-            same_site(&found, &site_of(alloc, &again, &list)?),
-            "{text} under {rules}"
-        );
-        assert!(rt;
-            same_site(&found, &Site::read(alloc, site)?),
-            "{text} under {rules}"
-        );
+        let again = at_one_site(alloc, rules, text, shown.as_str())?;
+        assert!(rt; again, "{text} under {rules}");
+        assert!(rt; is_at(alloc, rules, text, site)?, "{text} under {rules}");
     }
     Ok(())
 }
@@ -66,7 +89,7 @@ fn texts_of_origins(rt: HostRuntime) -> Result<(), Fail> {
         ("https://a.test:80/p", "https://a.test:80"),
         ("http://[::1]:80", "http://[::1]"),
     ] {
-        let origin = Address::read(alloc, text)?.origin(alloc)?;
+        let origin = origin_at(alloc, text)?;
         assert_eq!(rt; origin.text(alloc)?.as_str(), shown, "{text}");
     }
     Ok(())
@@ -129,14 +152,14 @@ fn text_of_8192_bytes_is_the_longest(rt: HostRuntime) -> Result<(), Fail> {
 #[test]
 fn ports_and_schemes_tell_origins_apart(rt: HostRuntime) -> Result<(), Fail> {
     let alloc = rt.alloc();
-    let one = Address::read(alloc, "https://a.test/p")?.origin(alloc)?;
+    let one = origin_at(alloc, "https://a.test/p")?;
     for (text, same) in [
         ("https://A.test:443/q", true),
         ("http://a.test:443/", false),
         ("https://a.test:444/", false),
         ("https://b.test/", false),
     ] {
-        let other = Address::read(alloc, text)?.origin(alloc)?;
+        let other = origin_at(alloc, text)?;
         assert_eq!(rt; same_origin(&one, &other), same, "{text}");
     }
     Ok(())

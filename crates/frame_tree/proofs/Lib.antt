@@ -1,4 +1,5 @@
 mod StandardFacts
 pub mod ShapeLemmas
+pub mod TopLemmas
 pub mod ApartLemmas
 pub mod SetLemmas

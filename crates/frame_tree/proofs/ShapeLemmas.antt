@@ -8,9 +8,10 @@ use Rattle.std.proofs.lemmas.Bool.Decides.{eqb_tells}
 use Rattle.std.proofs.lemmas.List.{append-nil, map-append, reverse-append}
 use Rattle.std.proofs.lemmas.List.Folds.{list_any-append}
 use Rattle.std.proofs.lemmas.List.Elements.{filter-append}
+use Rattle.origin_site.specs.Site.{PlainSite}
 use Rattle.frame_tree.specs.Calls.{begins_with_site, with_document, without_below}
 use Rattle.frame_tree.specs.Document.{PlainDocument}
-use Rattle.frame_tree.specs.Tree.{PlainFrame, IsGrown, IsTree, chain_back, document_of, has_frame, with_next}
+use Rattle.frame_tree.specs.Tree.{PlainFrame, IsGrown, IsTree, chain_back, document_of, has_frame, top_site, with_next}
 
 pub or_true : (a : Bool) → (a || true) ≡ true
 or_true true = refl
@@ -89,28 +90,46 @@ pub grown-more : (e : PlainFrame) (fs : List PlainFrame) → has_frame e.frame f
 grown-more e [] fresh parent grown = absurd grown
 grown-more e (f ∷ fs) fresh parent grown = (fresh, parent, grown)
 
-begins_more : (xs zs : List PlainFrame) → begins_with_site (map (λ f. f.document.site) xs) ≡ true
-    → begins_with_site (map (λ f. f.document.site) (xs ++ zs)) ≡ true
-begins_more [] zs begins = absurd (both_ways false refl begins)
-begins_more (x ∷ xs) zs begins = begins
+-- the first frame stays where others follow
+pub top_more : (xs zs : List PlainFrame) → is_some (top_site xs) ≡ true → top_site (xs ++ zs) ≡ top_site xs
+top_more [] zs there = absurd (both_ways false refl there)
+top_more (x ∷ xs) zs there = refl
 
-begins_by : (b : Bool) (xs ys : List PlainFrame) (e : PlainFrame)
-    → (b ≡ true → begins_with_site (map (λ f. f.document.site) xs) ≡ true)
-    → (b ≡ false → begins_with_site (map (λ f. f.document.site) ys) ≡ true)
-    → begins_with_site (map (λ f. f.document.site) (cond b (xs ++ e ∷ []) ys)) ≡ true
-begins_by true xs ys e sure other = begins_more xs (e ∷ []) (sure refl)
-begins_by false xs ys e sure other = other refl
+-- the oldest frame has a site
+oldest_site : (fs : List PlainFrame) → IsGrown fs → is_some (top_site (reverse fs)) ≡ true
+oldest_site [] grown = absurd grown
+oldest_site (f ∷ []) grown = grown.2
+oldest_site (f ∷ next ∷ older) grown =
+    let rest = oldest_site (next ∷ older) grown.2 in
+    ap (λ l. is_some (top_site l)) (reverse-cons f (next ∷ older))
+    ∙ ap is_some (top_more (reverse (next ∷ older)) (f ∷ []) rest) ∙ rest
 
--- each chain begins with the top, which has a site
+top_by : (b : Bool) (xs ys : List PlainFrame) (e : PlainFrame) (site : Option PlainSite) → is_some site ≡ true
+    → (b ≡ true → top_site xs ≡ site) → (b ≡ false → top_site ys ≡ site) → top_site (cond b (xs ++ e ∷ []) ys) ≡ site
+top_by true xs ys e site there above other = top_more xs (e ∷ []) (ap is_some (above refl) ∙ there) ∙ above refl
+top_by false xs ys e site there above other = other refl
+
+-- each chain begins with the top
+pub chain-top : (n : ℕ) (fs : List PlainFrame) → IsGrown fs → has_frame n fs ≡ true
+    → top_site (chain_back n fs) ≡ top_site (reverse fs)
+chain-top n [] grown there = absurd grown
+chain-top n (f ∷ []) grown there = rw (sym (or-false (f.frame == n)) ∙ there) refl
+chain-top n (f ∷ next ∷ older) grown there =
+    let rest : List PlainFrame = next ∷ older in
+    top_by (f.frame == n) (chain_back f.parent rest) (chain_back n rest) f (top_site (reverse rest)) (oldest_site rest grown.2)
+    (λ is. chain-top f.parent (next ∷ older) grown.2 grown.1)
+    (λ is. chain-top n (next ∷ older) grown.2 (sym (ap (λ b. b || has_frame n rest) is) ∙ there))
+    ∙ sym (top_more (reverse rest) (f ∷ []) (oldest_site rest grown.2)) ∙ ap top_site (sym (reverse-cons f rest))
+
+begins_by : (fs : List PlainFrame) → begins_with_site (map (λ f. f.document.site) fs) ≡ is_some (top_site fs)
+begins_by [] = refl
+begins_by (f ∷ fs) = refl
+
+-- which has a site
 pub chain-begins : (n : ℕ) (fs : List PlainFrame) → IsGrown fs → has_frame n fs ≡ true
     → begins_with_site (map (λ f. f.document.site) (chain_back n fs)) ≡ true
-chain-begins n [] grown there = absurd grown
-chain-begins n (f ∷ []) grown there =
-    rw (sym (or-false (f.frame == n)) ∙ there) grown.2
-chain-begins n (f ∷ next ∷ older) grown there =
-    begins_by (f.frame == n) (chain_back f.parent (next ∷ older)) (chain_back n (next ∷ older)) f
-    (λ is. chain-begins f.parent (next ∷ older) grown.2 grown.1)
-    (λ is. chain-begins n (next ∷ older) grown.2 (sym (ap (λ b. b || has_frame n (next ∷ older)) is) ∙ there))
+chain-begins n fs grown there =
+    begins_by (chain_back n fs) ∙ ap is_some (chain-top n fs grown there) ∙ oldest_site fs grown
 
 -- a frame is left: it is not below this one, or is it where that counts
 abbrev pub is_kept : Bool → ℕ → List PlainFrame → PlainFrame → Bool
@@ -199,7 +218,7 @@ kept_newer strict frame e older (f ∷ fs) fresh =
     (on_back-newer frame f.frame e older (flip_apart f.frame e.frame parts.0))
     ∙ ap (λ l. cond (is_kept strict frame older f) (f ∷ l) l) (kept_newer strict frame e older fs parts.1)
 
-has_none : (n : ℕ) (p : PlainFrame → Bool) (fs : List PlainFrame) → has_frame n fs ≡ false → has_frame n (filter p fs) ≡ false
+pub has_none : (n : ℕ) (p : PlainFrame → Bool) (fs : List PlainFrame) → has_frame n fs ≡ false → has_frame n (filter p fs) ≡ false
 has_none n p [] none = refl
 has_none n p (f ∷ fs) none =
     let parts = or_none (f.frame == n) (has_frame n fs) none in

@@ -4,7 +4,7 @@ use Rattle.std.specs.Prelude.{codes, pos}
 use Rattle.origin_site.specs.Address.{PlainAddress}
 use Rattle.frame_tree.specs.Sandbox.{sandbox_of, unrestricted}
 use Rattle.frame_tree.specs.Document.{PlainDocument, is_active_by, loaded, loaded_below}
-use Rattle.frame_tree.specs.Tree.{PlainFrame, chain_of, is_on_chain}
+use Rattle.frame_tree.specs.Tree.{PlainFrame, chain_of, is_on_chain, top_site}
 use Rattle.frame_tree.specs.Calls.{without, without_below}
 
 only_scripts : sandbox_of (Some (codes "allow-scripts")) ≡ record { same_origin = false; storage_access = false }
@@ -74,3 +74,11 @@ left_below_one = refl
 
 unrelated : is_on_chain 1 3 five ≡ false
 unrelated = refl
+
+-- a tab is at the site of its top document, whatever is below
+site_of_a_tab : top_site (record { frame = 0; parent = 0; document = top } ∷ record { frame = 1; parent = 0; document = scripts } ∷ [])
+    ≡ Some (record { https = true; host = codes "a.test" })
+site_of_a_tab = refl
+
+site_of_no_frames : top_site [] ≡ None
+site_of_no_frames = refl

@@ -2,8 +2,9 @@
 -- Source: HTML, "Navigables", parent, ancestor and descendant navigables.
 -- Our own choice: frames have numbers, and the top is frame 0. A frame is added behind its parent,
 -- and the list keeps that order.
-use Rattle.std.specs.Prelude.{◌≡◌, ℕ, Bool, true, false, ◌==◌, List, [], ◌∷◌, ◌++◌, reverse, find, Option, is_some, option_map, if◌then◌else◌}
+use Rattle.std.specs.Prelude.{◌≡◌, ℕ, Bool, true, false, ◌==◌, List, [], ◌∷◌, ◌++◌, reverse, find, Option, None, is_some, option_map, if◌then◌else◌}
 use Rattle.std.specs.List.{list_any}
+use Rattle.origin_site.specs.Site.{PlainSite}
 use Rattle.frame_tree.specs.Document.{PlainDocument}
 
 -- a frame of the list
@@ -23,6 +24,11 @@ has_frame frame frames = list_any (λ f. f.frame == frame) frames
 -- the document of a frame
 abbrev pub document_of : ℕ → List PlainFrame → Option PlainDocument
 document_of frame frames = option_map (λ f. f.document) (find (λ f. f.frame == frame) frames)
+
+-- the site of the top document
+abbrev pub top_site : List PlainFrame → Option PlainSite
+top_site [] = None
+top_site (top ∷ below) = top.document.site
 
 -- the frames from the top to this one, of a list whose newest frame is first: those of its parent,
 -- which is older, and itself

@@ -4,7 +4,7 @@ ghost use Rattle.agent_base.specs.Answers.{Answers};
 ghost use Rattle.origin_site.specs.Plain.{plain_address};
 ghost use Rattle.frame_tree.specs.Calls.{IsDoneAt, activated, added, begins_with_site, consumed, flagged, is_active, is_https_chain, navigated, opened, sites_of, with_document, without, without_below};
 ghost use Rattle.frame_tree.specs.Plain.{plain_chain_site, plain_document, plain_frame, plain_sandbox};
-ghost use Rattle.frame_tree.specs.Tree.{IsTree, document_of, has_frame};
+ghost use Rattle.frame_tree.specs.Tree.{IsTree, chain_of, document_of, has_frame, top_site};
 
 use crate::document::is_active_by;
 use crate::frames::{Frame, copies_of, document_of, has_frame, is_https_chain, sites_of};
@@ -93,6 +93,7 @@ impl Tab {
         ensures chain { Answers (λ sites. map plain_chain_site sites.items) TreeFault.NoMemory
             (sites_of frame self.now) result }
         ensures top { IfOk result (λ sites. begins_with_site (map plain_chain_site sites.items) ≡ true) }
+        ensures site { IfOk result (λ _. top_site (chain_of frame self.now) ≡ top_site self.now) }
     {
         if !has_frame(self.frames.as_slice(), frame) {
             return Err(TreeFault::NoFrame);
@@ -130,6 +131,7 @@ impl Tab {
     ) -> Result<(), TreeFault>
         ensures answer { Answers (λ _. self.new) TreeFault.NoMemory
             (added list.now.rules parent frame (plain_address address) (plain_sandbox sandbox) deny self.old) result }
+        ensures site { top_site self.new ≡ top_site self.old }
         ensures unchanged { OnErr result (self.new ≡ self.old) }
     {
         let fresh = self.below(parent, frame, address, sandbox, deny, list)?;
@@ -151,6 +153,7 @@ impl Tab {
         requires { frame ≢ 0 }
         ensures answer { Answers (λ _. self.new) TreeFault.NoMemory
             (navigated list.now.rules frame (plain_address address) keep_flag self.old) result }
+        ensures site { top_site self.new ≡ top_site self.old }
         ensures unchanged { OnErr result (self.new ≡ self.old) }
     {
         let document = self.document_instead(frame, address, keep_flag, list)?;
@@ -164,6 +167,7 @@ impl Tab {
     pub fn remove(&mut self, frame: u8) -> Result<(), NoFrame>
         requires { frame ≢ 0 }
         ensures removed { IsDoneAt frame self.old self.new (without frame self.old) result }
+        ensures site { top_site self.new ≡ top_site self.old }
     {
         if !has_frame(self.frames.as_slice(), frame) {
             return Err(NoFrame);
@@ -177,6 +181,7 @@ impl Tab {
     /// moment.
     pub fn activate(&mut self, frame: u8, now: i64) -> Result<(), NoFrame>
         ensures activated { IsDoneAt frame self.old self.new (activated frame now self.old) result }
+        ensures site { top_site self.new ≡ top_site self.old }
     {
         if !has_frame(self.frames.as_slice(), frame) {
             return Err(NoFrame);
@@ -188,6 +193,7 @@ impl Tab {
     /// Gives the document of a frame storage access.
     pub fn set_flag(&mut self, frame: u8) -> Result<(), NoFrame>
         ensures flagged { IsDoneAt frame self.old self.new (with_document frame flagged self.old) result }
+        ensures site { top_site self.new ≡ top_site self.old }
     {
         if !has_frame(self.frames.as_slice(), frame) {
             return Err(NoFrame);
@@ -199,6 +205,7 @@ impl Tab {
     /// Takes the activation of every document of the tab.
     pub fn consume(&mut self)
         ensures consumed { self.new ≡ consumed self.old }
+        ensures site { top_site self.new ≡ top_site self.old }
     {
         unmark(&mut self.frames);
     }

@@ -1,9 +1,10 @@
-use Rattle.std.proofs.Common.{rules, ◌≡◌, true, List, map, reverse, ◌∙◌, ap}
+use Rattle.std.proofs.Common.{rules, ◌≡◌, true, List, map, reverse, ◌∙◌, ap, sym}
 use Rattle.frame_tree.specs.Calls.{begins_with_site}
 use Rattle.frame_tree.specs.Plain.{plain_frame}
-use Rattle.frame_tree.specs.Tree.{chain_back, has_frame}
+use Rattle.frame_tree.specs.Tree.{PlainFrame, chain_back, chain_of, has_frame, top_site}
 use Rattle.frame_tree.specs.declared.frames.Frame.{Frame}
 use Rattle.frame_tree.proofs.ShapeLemmas.{chain-begins, has-reversed}
+use Rattle.frame_tree.proofs.TopLemmas.{top-of-chain}
 use Rattle.frame_tree.proofs.tab.Tab.chain.Goals as goal
 
 pub returns-clause-top : goal.returns-clause-top
@@ -13,3 +14,10 @@ returns-clause-top c =
     ap begins_with_site c.in_ok-sites_of.ensures.sites
     ∙ ap (λ (xs : List Frame). begins_with_site (map (λ f. f.document.site) (chain_back c.args.frame (reverse (map plain_frame xs))))) c.as_slice-2.ensures.value
     ∙ chain-begins c.args.frame (reverse fs) c.self.invariant (has-reversed c.args.frame fs ∙ there)
+
+pub returns-clause-site : goal.returns-clause-site
+returns-clause-site c =
+    let fs : List PlainFrame = map plain_frame c.self.inside.frames.items in
+    let there : has_frame c.args.frame fs ≡ true = search rules in
+    ap (λ (l : List PlainFrame). top_site (chain_of c.args.frame l)) (sym c.self.view_is)
+    ∙ top-of-chain c.args.frame fs c.self.invariant there ∙ ap top_site c.self.view_is

@@ -1,3 +1,4 @@
 mod StandardFacts
 pub mod NumberLemmas
 pub mod OptionLemmas
+pub mod StartLemmas

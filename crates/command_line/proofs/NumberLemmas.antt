@@ -1,6 +1,6 @@
 -- Digits are a numeral that does not begin with a plus.
-use Rattle.std.proofs.Common.{◌≡◌, ℕ, ◌<◌, ◌≤◌, ◌^◌, Bool, true, false, cond, ◌==◌, List, [], ◌∷◌, length, drop}
-use Rattle.std.proofs.Common.{Option, None, Result, Ok, Err, refl, ap, sym, subst, ⊎_elim, Some, ◌∙◌, arith}
+use Rattle.std.proofs.Common.{◌≡◌, ℕ, ◌<◌, ◌≤◌, ◌^◌, true, false, cond, ◌==◌, List, [], ◌∷◌, length, drop}
+use Rattle.std.proofs.Common.{None, Err, refl, ap, sym, subst, ⊎_elim, Some, ◌∙◌, arith}
 use Rattle.std.specs.Prelude.{nat_le}
 use Rattle.std.specs.List.{list_all}
 use Rattle.std.specs.Char.{digit_value}

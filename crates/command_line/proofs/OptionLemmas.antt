@@ -1,6 +1,6 @@
 -- Names and values by turns, read two by two.
-use Rattle.std.proofs.Common.{◌≡◌, ℕ, ◌<◌, ◌≤◌, ◌-◌, List, [], ◌∷◌, length, take, drop, map, get_or, String, string_bytes}
-use Rattle.std.proofs.Common.{Option, Some, None, option_and_then, refl, ap, sym, ◌∙◌, arith, take_all}
+use Rattle.std.proofs.Common.{◌≡◌, ◌<◌, ◌≤◌, ◌-◌, List, [], ◌∷◌, length, take, drop, map, get_or, String, string_bytes}
+use Rattle.std.proofs.Common.{Some, None, option_and_then, refl, ap, sym, ◌∙◌, arith, take_all}
 use Rattle.std.specs.declared.alloc.Global.{Global}
 use Rattle.command_line.specs.Words.{options_from, with_option}
 use Rattle.command_line.specs.declared.options.Options.{Options}

@@ -1,7 +1,7 @@
 -- Words and numbers of the command line, so that a wrong rule in the specs does not check.
-use Rattle.std.proofs.Common.{◌≡◌, refl, ℕ, List, [], ◌∷◌, Some, None}
+use Rattle.std.proofs.Common.{◌≡◌, refl, [], ◌∷◌, Some, None, arith}
 use Rattle.std.specs.Prelude.{codes}
-use Rattle.command_line.specs.Words.{command_of, number_of, options_from, Help, Replay}
+use Rattle.command_line.specs.Words.{StartsInTime, command_of, number_of, options_from, Help, Replay}
 
 alone : command_of (codes "replay" ∷ codes "l" ∷ []) ≡ Some (Replay (codes "l") 1767225600)
 unfolding options_from
@@ -36,3 +36,12 @@ exponent = refl
 
 thirteen_digits : number_of 253402300799 (codes "0000000000001") ≡ None
 thirteen_digits = refl
+
+begins_in_time : StartsInTime (Replay (codes "l") 253402300799)
+begins_in_time = omega arith
+
+begins_too_late : StartsInTime (Replay (codes "l") 253402300800) → ⊥
+begins_too_late late = omega (arith, late)
+
+begins_never : StartsInTime Help
+begins_never = tt

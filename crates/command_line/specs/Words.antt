@@ -1,7 +1,7 @@
 -- The words of the command line, without the program's name, that are a command.
 -- Our own choice: all of it. Options follow the other words, in any order, each at most once, name
 -- and value as two words. A number is 1 to 12 ASCII digits, and may begin with zeros.
-use Rattle.std.specs.Prelude.{ℕ, Bool, false, not, ◌&&◌, ◌==◌, nat_le, List, [], ◌∷◌, length, codes}
+use Rattle.std.specs.Prelude.{ℕ, ◌≤◌, Bool, false, not, ◌&&◌, ◌==◌, nat_le, List, [], ◌∷◌, length, codes}
 use Rattle.std.specs.Prelude.{bytes_eq, Option, Some, None, option_and_then, option_map, unwrap_or}
 use Rattle.std.specs.Prelude.{is_some, if◌then◌else◌}
 use Rattle.std.specs.List.{list_all}
@@ -74,6 +74,11 @@ options_from options (name ∷ value ∷ words) =
 pub data PlainCommand : Type 0 where
   Help : PlainCommand
   Replay : (list : List ℕ) (start : ℕ) → PlainCommand
+
+-- the clock of a command begins at a moment up to the last
+abbrev pub StartsInTime : PlainCommand → Type 0
+StartsInTime Help = Unit {0}
+StartsInTime (Replay list start) = start ≤ last_start
 
 -- the run of these words behind `replay`
 abbrev pub replay_of : List ℕ → List (List ℕ) → Option PlainCommand

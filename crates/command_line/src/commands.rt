@@ -1,5 +1,5 @@
 //! Commands.
-ghost use Rattle.std.specs.Prelude.{◌≡◌, ◌∷◌, [], IfErr, IfOk, IsSome, map, option_map, string_bytes};
+ghost use Rattle.std.specs.Prelude.{◌≡◌, ◌∷◌, [], IfErr, IfOk, IfSome, IsSome, map, option_map, string_bytes};
 ghost use Rattle.command_line.specs.Plain.{plain_command};
 ghost use Rattle.command_line.specs.Words as spec;
 
@@ -29,6 +29,7 @@ pub enum Command<'a> {
 pub fn read_words<'a>(alloc: Global, words: &'a [String]) -> Result<Option<Command<'a>>, NoMemory>
     ensures value { IfOk result
         (λ c. option_map plain_command c ≡ spec.command_of (map string_bytes words.now)) }
+    ensures start { IfOk result (λ c. IfSome (option_map plain_command c) spec.StartsInTime) }
     ensures refused { IfErr result (λ _. IsSome (spec.command_of (map string_bytes words.now))) }
 {
     match command_in(words) {

@@ -1,4 +1,4 @@
-use Rattle.std.proofs.Common.{◌≡◌, Option, Some, None, option_and_then, length, map, take, drop, ◌-◌, string_bytes, ap, sym, ◌∙◌, rules}
+use Rattle.std.proofs.Common.{◌≡◌, Some, None, option_and_then, length, map, take, drop, ◌-◌, string_bytes, ap, sym, ◌∙◌, rules}
 use Rattle.command_line.specs.Words.{options_from, with_option}
 use Rattle.command_line.proofs.OptionLemmas.{option_alone, option_first, options_end}
 use Rattle.command_line.proofs.options.read_options.Goals as goal

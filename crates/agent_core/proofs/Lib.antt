@@ -1,3 +1,6 @@
-pub mod RowsLemmas
 pub mod StandingLemmas
+pub mod PlaceLemmas
+pub mod TabsLemmas
+pub mod RowsLemmas
+pub mod KeyLemmas
 pub mod StepsLemmas

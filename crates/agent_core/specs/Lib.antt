@@ -1,6 +1,6 @@
 -- What contracts cite.
 pub mod Standing
--- What private functions compute. No public clause rests on it.
 pub mod Plain
+-- What private functions compute. No public clause rests on it.
 pub mod Rows
 pub mod Steps

@@ -1,19 +1,8 @@
--- What contracts see of a tab and of an area.
-use Rattle.origin_site.specs.Plain.{plain_origin, plain_site}
+-- What contracts see of an area.
+use Rattle.storage_key.specs.Plain.{plain_key}
 use Rattle.agent_core.specs.Standing as standing
-use Rattle.agent_core.specs.declared.tab.Tab.{Tab}
 use Rattle.agent_core.specs.declared.rows.AreaRow.{AreaRow}
-
--- a tab
-abbrev pub plain_tab : Tab → standing.OpenTab
-plain_tab tab =
-    record {
-      number = tab.number;
-      origin = plain_origin tab.origin;
-      site = plain_site tab.site;
-    }
 
 -- an area
 abbrev pub plain_row : AreaRow → standing.AreaRow
-plain_row row =
-    record { site = plain_site row.site; origin = plain_origin row.origin; pairs = row.area }
+plain_row row = record { key = plain_key row.key; pairs = row.area }

@@ -6,6 +6,7 @@
 
 mod agent;
 mod clock;
+mod frames;
 mod replies;
 mod rows;
 mod tab;

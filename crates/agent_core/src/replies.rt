@@ -1,7 +1,7 @@
 //! The replies that the agent gives.
 ghost use Rattle.std.specs.Prelude.{◌≡◌, ◌≤◌, [], Some, None, codes, pos, option_map, string_bytes};
 ghost use Rattle.origin_site.specs.Plain.{plain_site};
-ghost use Rattle.script_lines.specs.Plain.{reply_of};
+ghost use Rattle.script_lines.specs.Plain.{body_of, reply_of};
 ghost use Rattle.script_lines.specs.Reply as reply_text;
 ghost use Rattle.agent_model.specs.Lines.{last_moment};
 
@@ -39,10 +39,17 @@ pub fn load(alloc: Global, name: &'static str, site: Site) -> Reply
     Reply {
         name,
         site: Some(site),
-        body: ReplyBody::Load {
-            cookie: None,
-            set: Vec::new(alloc),
-        },
+        body: loaded(alloc),
+    }
+}
+
+/// The answer to such a load.
+pub fn loaded(alloc: Global) -> ReplyBody
+    ensures { body_of result ≡ reply_text.Load None [] }
+{
+    ReplyBody::Load {
+        cookie: None,
+        set: Vec::new(alloc),
     }
 }
 

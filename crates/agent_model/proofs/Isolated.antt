@@ -1,32 +1,72 @@
 -- The facts that the general law asks of this machine, and the law.
-use Rattle.std.proofs.Common.{◌≡◌, ℕ, Bool, true, false, cond, List, [], ◌∷◌, ◌++◌, Option, Some, None, refl, sym, ap, ◌∙◌}
+use Rattle.std.proofs.Common.{◌≡◌, ℕ, Bool, true, false, cond, List, [], ◌∷◌, ◌++◌, Option, Some, None, refl, sym, ap, subst, ◌∙◌}
 use Rattle.std.specs.Prelude.{filter}
 use Rattle.unwinding.specs.World.{SiteReply, of_site}
-use Rattle.suffix_list.specs.Suffix.{Rule}
 use Rattle.origin_site.specs.Site.{PlainSite, same_plain_site}
 use Rattle.script_lines.specs.Reply.{reply_text}
-use Rattle.agent_model.specs.SiteStep.{Answer}
-use Rattle.unwinding.specs.Facts.{PlainFacts}
-use Rattle.unwinding.proofs.PlainReplies.{plain_replies}
+use Rattle.agent_model.specs.Partition.{Partition}
+use Rattle.agent_model.specs.SiteStep.{Answer, TimedEvent, Leaves, Nothing, site_step}
+use Rattle.origin_site.specs.Site.{site_of_address}
+use Rattle.agent_model.specs.Lines.{AgentWorld, side_event, is_left, site_at}
+use Rattle.unwinding.specs.Machine.{WorldOf}
+use Rattle.unwinding.specs.Facts.{Facts, IsQuiet}
+use Rattle.unwinding.proofs.EpochReplies.{lines_replies}
+use Rattle.suffix_list.specs.Suffix.{Rule}
+use Rattle.script_lines.specs.Script.{PlainAction, Tick, Open, Close, Go, Frame, Nav, Drop, Click, Set, Get}
 use Rattle.origin_site.proofs.SameLemmas.{same_plain_site-Decides}
 use Rattle.agent_model.specs.TheMachine.{machine, beginning}
 use Rattle.agent_model.specs.Isolation.{IsIsolated, HasIsolatedLines, replies_to, answers_of, local_script, site_run, is_of, text_of, lines_of_site, lines_alone, printed}
 
-pub facts : (rules : List Rule) → PlainFacts (machine rules)
+-- every world is sound
+abbrev IsSound : AgentWorld → Type 0
+IsSound world = Unit {0}
+
+quiet : (rules : List Rule) (w : AgentWorld) (l : PlainAction) (s : PlainSite) (e : TimedEvent)
+    → side_event rules w l s ≡ Some e → IsQuiet (machine rules) w.cells (w.partition s) e
+unfolding machine side_event site_step
+quiet rules w (Tick n) s e is = cc
+quiet rules w (Open tab url method) s e is = cc
+quiet rules w (Close tab) s e is = cc
+quiet rules w (Frame at parent url sandbox deny) s e is = cc
+quiet rules w (Nav at url by_self method) s e is = cc
+quiet rules w (Drop at) s e is = cc
+quiet rules w (Click at) s e is = cc
+quiet rules w (Set at key value) s e is = cc
+quiet rules w (Get at key) s e is = cc
+quiet rules w (Go tab url by_page method) s e is = at (is_left s (site_at tab w.rest.places) (site_of_address rules url)) is
+  where
+    leaves : TimedEvent
+    leaves = record { moment = w.rest.now; event = Leaves tab }
+
+    of : (d : TimedEvent) → ◌≡◌ {A = Option TimedEvent} (Some leaves) (Some d) → leaves ≡ d
+    of d is = cc
+
+    at : (b : Bool) → cond b (Some leaves) None ≡ Some e → IsQuiet (machine rules) w.cells (w.partition s) e
+    at true is = subst (λ d. IsQuiet (machine rules) w.cells (w.partition s) d) (of e is) (record { names_none = refl; sweeps_none = refl; no_reply = refl; no_changes = refl })
+    at false is = cc
+
+pub facts : (rules : List Rule) → Facts (machine rules) IsSound
 unfolding machine
 facts rules =
     record {
       site_same = λ s t. (same_plain_site-Decides s t).0;
       site_itself = λ s. (same_plain_site-Decides s s).1 refl;
-      names_none = λ p e. refl;
-      sweeps_none = λ p e. refl;
-      side_none = λ w l s. refl;
-      blank_same = λ x y. refl;
+      cell_same = λ c d is. refl;
+      content_same = λ x y is. refl;
+      get_set = λ c d x cells. refl;
+      get_restrict = λ test cells c. refl;
+      get_merge = λ test new old c. refl;
+      same_cells = λ x y same. refl;
+      in_listed = λ cs c. refl;
+      own_home = λ s c is. is;
+      own_alone = λ s t c is home. cc;
+      side_quiet = λ w l s e ok is. quiet rules w l s e is;
+      sound = λ w l ok. tt;
     }
 
 pub is_isolated : IsIsolated
 unfolding answers_of replies_to local_script site_run
-is_isolated rules site start lines = plain_replies (machine rules) (facts rules) site (beginning start) lines
+is_isolated rules site start lines = lines_replies (machine rules) IsSound (facts rules) site (beginning start) tt lines
 
 -- an answer of a site as it is printed
 abbrev line_of : PlainSite → Answer → List ℕ

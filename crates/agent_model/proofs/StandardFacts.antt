@@ -1,24 +1,22 @@
--- Replies and a local script, worked out by hand from the rules, so that a wrong rule in the specs
+-- Replies and local scripts, worked out by hand from the rules, so that a wrong rule in the specs
 -- does not check.
-use Rattle.std.proofs.Common.{◌≡◌, ◌∙◌, ap, ℕ, true, false, refl, List, [], ◌∷◌, ◌++◌, Option, Some, None}
+use Rattle.std.proofs.Common.{◌≡◌, ℕ, Bool, true, false, refl, List, [], ◌∷◌, ◌++◌, Option, Some, None, Ok, Err}
 use Rattle.std.specs.Prelude.{codes}
-use Rattle.unwinding.specs.World.{SiteReply, world_step, line_reply}
-use Rattle.unwinding.specs.LocalEntries.{line_entries, line_touched}
-use Rattle.unwinding.specs.FiniteCells.{get_cell, set_cell}
 use Rattle.agent_base.specs.declared.refusals.Label.{Label}
-use Rattle.suffix_list.specs.Suffix.{Rule}
 use Rattle.origin_site.specs.Address.{PlainAddress}
-use Rattle.origin_site.specs.Origin.{PlainOrigin, origin_of_address}
+use Rattle.origin_site.specs.Origin.{origin_of_address}
 use Rattle.origin_site.specs.Site.{PlainSite}
-use Rattle.local_area.specs.Area.{Pair, area_get}
-use Rattle.script_lines.specs.Script.{Open, Set, Get}
-use Rattle.script_lines.specs.Reply.{PlainBody, Plain, Load, Text}
-use Rattle.agent_model.specs.Partition.{Partition, origin_order, no_areas, empty_partition, with_area}
-use Rattle.agent_model.specs.SiteStep.{Answer, site_step, get_item}
-use Rattle.agent_model.specs.Lines.{main_event, refusal, rest_after}
-use Rattle.agent_model.specs.TheMachine.{machine, beginning}
-use Rattle.agent_model.specs.Isolation.{replies_to, local_script}
-use Rattle.agent_model.proofs.Areas.{area_put_get, area_none}
+use Rattle.storage_key.specs.Key.{PlainKey}
+use Rattle.frame_tree.specs.Tree.{PlainFrame}
+use Rattle.frame_tree.specs.Calls.{opened}
+use Rattle.frame_tree.specs.Document.{loaded}
+use Rattle.frame_tree.specs.Sandbox.{both, sandbox_of, unrestricted}
+use Rattle.frame_tree.specs.declared.tab.TreeFault.TheVariants.{NoFrame, FrameExists}
+use Rattle.script_lines.specs.declared.words.Method.TheVariants as method
+use Rattle.script_lines.specs.Script.{Frame, Nav, Drop}
+use Rattle.agent_model.specs.SiteStep.{Arrives, Opens, Goes, frames_after, key_at}
+use Rattle.agent_model.specs.Lines.{opening, going, is_left, clock_after}
+use Rattle.agent_model.specs.TheMachine.{beginning}
 
 -- the address `https://HOST/`
 abbrev address : List ℕ → PlainAddress
@@ -32,14 +30,11 @@ address host =
       path = codes "/";
     }
 
-abbrev top : ℕ → Label
-top tab = record { tab = tab; frame = 0 }
+abbrev site : List ℕ → PlainSite
+site host = record { https = true; host = host }
 
--- what is told of a site, or of none
-abbrev told : Option (List ℕ) → List ℕ → PlainBody → SiteReply PlainSite Answer
-told None name body = record { site = None; reply = record { name = name; body = body } }
-told (Some host) name body =
-    record { site = Some (record { https = true; host = host }); reply = record { name = name; body = body } }
+abbrev at_frame : ℕ → Label
+at_frame frame = record { tab = 1; frame = frame }
 
 abbrev a : List ℕ
 a = codes "a.test"
@@ -47,58 +42,78 @@ a = codes "a.test"
 abbrev b : List ℕ
 b = codes "b.test"
 
-abbrev k : List ℕ
-k = codes "k"
+-- a number that is taken opens nothing, and one that is free does
+taken : opening [] (beginning 0) 1 (address a) method.Get (Some (site b)) ≡ None
+taken = refl
 
-abbrev v : List ℕ
-v = codes "v"
+free : opening [] (beginning 7) 1 (address a) method.Get None
+    ≡ Some (record { site = site a; event = record { moment = 7; event = Arrives Opens 1 (address a) method.Get true } })
+unfolding beginning
+free = refl
 
--- a number that is taken, and one that is not open
-refused : replies_to [] 0 (Open 1 (address a) ∷ Open 1 (address b) ∷ Get (top 2) k ∷ [])
-    ≡ told (Some a) (codes "open") (Load None []) ∷ told None (codes "open") (Plain (codes "tab-exists"))
-    ∷ told None (codes "get") (Plain (codes "no-tab")) ∷ []
-unfolding replies_to machine beginning world_step line_reply main_event refusal rest_after site_step empty_partition no_areas origin_order get_cell set_cell
-refused = refl
+-- a tab that a page of another site sends elsewhere arrives there, from another site
+sent : going [] (beginning 7) 1 (address a) true method.Get (Some (site b))
+    ≡ Some (record { site = site a; event = record { moment = 7; event = Arrives Goes 1 (address a) method.Get false } })
+unfolding beginning
+sent = refl
 
--- lines of another site leave no trace in a local script
-nothing_of_others : local_script [] (record { https = true; host = a }) 0 (Open 2 (address b) ∷ Open 1 (address a) ∷ Set (top 2) k v ∷ Get (top 1) k ∷ [])
-    ≡ local_script [] (record { https = true; host = a }) 0 (Open 1 (address a) ∷ Get (top 1) k ∷ [])
-unfolding local_script line_entries line_touched replies_to machine beginning world_step line_reply main_event refusal rest_after site_step empty_partition no_areas origin_order get_cell set_cell
-nothing_of_others = refl
+-- it leaves its old site, and no other; and it leaves none where it stays
+leaves : is_left (site b) (Some (site b)) (site a) ≡ true
+leaves = refl
 
--- under the rule `a.test` its host is a site of its own, and so is each host of one label more
-abbrev private_suffix : List Rule
-private_suffix = record { is_exception = false; labels = codes "a" ∷ codes "test" ∷ [] } ∷ []
+others_stay : is_left (site (codes "c.test")) (Some (site b)) (site a) ≡ false
+others_stay = refl
 
-apart : replies_to private_suffix 0 (Open 1 (address (codes "x.y.a.test")) ∷ Open 2 (address a) ∷ [])
-    ≡ told (Some (codes "y.a.test")) (codes "open") (Load None []) ∷ told (Some a) (codes "open") (Load None []) ∷ []
-unfolding replies_to machine beginning world_step line_reply main_event refusal rest_after site_step empty_partition no_areas origin_order get_cell set_cell
-apart = refl
+stays : is_left (site b) (Some (site b)) (site b) ≡ false
+stays = refl
 
--- the site of `a.test`, in which that origin has one pair
-abbrev origin : List ℕ → PlainOrigin
-origin host = origin_of_address (address host)
+-- the clock stays at its last second
+last : clock_after 253402300700 4294967295 ≡ 253402300799
+last = refl
 
-abbrev pairs : List Pair
-pairs = record { name = k; value = v } ∷ []
+-- a widget of `w.test` under two sites has a key under each, and as a top document a third one
+abbrev widget : List ℕ
+widget = codes "w.test"
 
-abbrev holding : Partition
-holding =
-    record {
-      site = record { https = true; host = a };
-      tabs = [];
-      areas = with_area (origin a) pairs no_areas;
-    }
+-- the frames of a tab at a site with the widget in frame 1
+abbrev shown : List ℕ → Option (List ℕ) → List PlainFrame
+shown top sandbox = record { frame = 0; parent = 0; document = loaded [] unrestricted false (address top) }
+    ∷ record { frame = 1; parent = 0; document = loaded [] (both unrestricted (sandbox_of sandbox)) false (address widget) } ∷ []
 
--- what a look-up answers over these pairs
-abbrev finds : List Pair → Option Answer
-finds found = Some (record { name = codes "get"; body = Text (area_get k found) })
+framed : frames_after [] 0 (Frame (at_frame 1) 0 (address widget) None false) (opened [] (address a)) ≡ Ok (shown a None)
+framed = refl
 
-own_value : (get_item holding (origin a) k).reply ≡ Some (record { name = codes "get"; body = Text (Some v) })
-own_value = ap finds (area_put_get (origin a) (origin a) pairs no_areas)
+abbrev key_under : List ℕ → Bool → Option (Option PlainKey)
+key_under top bit = Some (Some (record { origin = origin_of_address (address widget); top = site top; bit = bit }))
 
--- another origin of the same site has an area of its own
-other_origin : (get_item holding (origin (codes "x.a.test")) k).reply ≡ Some (record { name = codes "get"; body = Text None })
-other_origin =
-    let x = origin (codes "x.a.test") in
-    ap finds (area_put_get x (origin a) pairs no_areas ∙ area_none x)
+under_a : key_at 1 (shown a None) ≡ key_under a true
+under_a = refl
+
+under_b : key_at 1 (shown b None) ≡ key_under b true
+under_b = refl
+
+alone : key_at 0 (opened [] (address widget)) ≡ key_under widget false
+alone = refl
+
+-- a frame in a sandbox without `allow-same-origin` has no key, and one that is not there none either
+sandboxed : key_at 1 (shown a (Some [])) ≡ Some None
+sandboxed = refl
+
+absent : key_at 2 (shown a None) ≡ None
+absent = refl
+
+-- the top document neither navigates nor is dropped
+top_stays : frames_after [] 0 (Nav (at_frame 0) (address b) true method.Get) (shown a None) ≡ Err NoFrame
+top_stays = refl
+
+top_kept : frames_after [] 0 (Drop (at_frame 0)) (shown a None) ≡ Err NoFrame
+top_kept = refl
+
+dropped : frames_after [] 0 (Drop (at_frame 1)) (shown a None) ≡ Ok (opened [] (address a))
+dropped = refl
+
+drop_of_none : frames_after [] 0 (Drop (at_frame 2)) (shown a None) ≡ Err NoFrame
+drop_of_none = refl
+
+number_taken : frames_after [] 0 (Frame (at_frame 1) 0 (address b) None false) (shown a None) ≡ Err FrameExists
+number_taken = refl

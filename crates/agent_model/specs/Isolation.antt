@@ -1,6 +1,5 @@
 -- The promise: the replies to a site are those of its own machine, given its local script alone.
--- So two runs that give a site the same local script give it the same replies. A local script holds
--- the rules of the run's suffix list, whichever they are.
+-- So two runs that give a site the same local script give it the same replies.
 use Rattle.std.specs.Prelude.{◌≡◌, ℕ, Bool, false, List, Option, Some, None, map, filter, flat_map}
 use Rattle.unwinding.specs.World.{SiteReply, replies, of_site}
 use Rattle.unwinding.specs.OneSite.{EpochScript, epoch_script, epoch_run}
@@ -20,20 +19,20 @@ replies_to rules start lines = replies (machine rules) (beginning start) lines
 unfoldable pub answers_of : List Rule → PlainSite → List (SiteReply PlainSite Answer) → List Answer
 answers_of rules site told = of_site (machine rules) site told
 
--- what a run gives a site: the rules of the list, where the site begins, the events at the site with
+-- what a run gives a site: the list of rules, where the site begins, the events at the site with
 -- their moments, and no more
 pub record SiteScript : Type 0 where
   pub rules : List Rule
-  pub epoch : EpochScript Nothing Nothing Partition Nothing TimedEvent
+  pub script : EpochScript Nothing Nothing Partition Nothing TimedEvent
 
 -- the local script of a site
 unfoldable pub local_script : List Rule → PlainSite → ℕ → List PlainAction → SiteScript
 local_script rules site start lines =
-    record { rules = rules; epoch = epoch_script (machine rules) site (beginning start) lines }
+    record { rules = rules; script = epoch_script (machine rules) site (beginning start) lines }
 
 -- the answers of the site's own machine, which is given a local script
 unfoldable pub site_run : PlainSite → SiteScript → List Answer
-site_run site script = epoch_run (machine script.rules) site script.epoch
+site_run site given = epoch_run (machine given.rules) site given.script
 
 -- a reply as it is printed
 abbrev pub printed : SiteReply PlainSite Answer → PlainReply
@@ -43,7 +42,7 @@ printed told = record { name = told.reply.name; site = told.site; body = told.re
 unfoldable pub text_of : List (SiteReply PlainSite Answer) → List ℕ
 text_of told = flat_map (λ one. reply_text (printed one)) told
 
--- the text of a run, from the moment at which it starts and the actions of its script
+-- the text of a run, from its rules, the moment at which it starts and the actions of its script
 unfoldable pub transcript : List Rule → ℕ → List PlainAction → List ℕ
 transcript rules start lines = text_of (replies_to rules start lines)
 

@@ -1,16 +1,16 @@
 -- The machine of one site as the general law takes it, and the world in which a run begins.
-use Rattle.std.specs.Prelude.{ℕ, true, false, List, [], None}
+use Rattle.std.specs.Prelude.{ℕ, true, false, List, []}
 use Rattle.unwinding.specs.Machine.{Machine}
 use Rattle.suffix_list.specs.Suffix.{Rule}
 use Rattle.origin_site.specs.Site.{PlainSite, same_plain_site}
 use Rattle.script_lines.specs.Script.{PlainAction}
 use Rattle.agent_model.specs.Partition.{Partition, empty_partition}
 use Rattle.agent_model.specs.SiteStep.{TimedEvent, Answer, Nothing, site_step}
-use Rattle.agent_model.specs.Lines.{Rest, AgentWorld, main_event, refusal, rest_after}
+use Rattle.agent_model.specs.Lines.{Rest, AgentWorld, no_places, main_event, side_event, refusal, rest_after}
 
--- The machine under the rules of a suffix list, which say of which site an address is. No event
--- consults a cell, and no line has an event beside its main one.
-unfoldable pub machine : List Rule → Machine PlainSite Nothing Nothing Partition Nothing Rest PlainAction TimedEvent Answer Nothing
+-- the machine under a list of rules. No event consults a cell.
+unfoldable pub machine : List Rule
+    → Machine PlainSite Nothing Nothing Partition Nothing Rest PlainAction TimedEvent Answer Nothing
 machine rules =
     record {
       same_site = same_plain_site;
@@ -26,8 +26,8 @@ machine rules =
       listed = λ cells. cells;
       names = λ partition event. [];
       sweeps = λ partition event. false;
-      step = site_step;
-      side = λ world line site. None;
+      step = site_step rules;
+      side = side_event rules;
       main = main_event rules;
       refusal = refusal;
       later = rest_after rules;
@@ -37,4 +37,4 @@ machine rules =
 -- the world in which a run begins: no tab is open, and nothing is stored
 unfoldable pub beginning : ℕ → AgentWorld
 beginning start =
-    record { partition = empty_partition; cells = tt; rest = record { now = start; places = [] } }
+    record { partition = empty_partition; cells = tt; rest = record { now = start; places = no_places } }

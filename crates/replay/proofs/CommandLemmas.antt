@@ -1,5 +1,5 @@
 -- Commands that end before a list is opened.
-use Rattle.std.proofs.Common.{◌≡◌, ℕ, List, Option, Some, None, refl, inl, IsSome, subst, option_and_then}
+use Rattle.std.proofs.Common.{ℕ, List, Option, Some, None, refl, inl, IsSome, subst}
 use Rattle.std.proofs.lemmas.Bool.{false≢true}
 use Rattle.agent_base.proofs.Pieces.{takes_none}
 use Rattle.command_line.specs.Words.{PlainCommand, Help, Replay}

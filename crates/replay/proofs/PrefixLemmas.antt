@@ -1,5 +1,5 @@
 -- What was taken in pieces, as a part of the whole.
-use Rattle.std.proofs.Common.{◌≡◌, ℕ, ◌+◌, List, ◌++◌, Option, take, length, sym, ap, subst, ◌∙◌, arith, length-append, append-nil, []}
+use Rattle.std.proofs.Common.{ℕ, ◌+◌, List, ◌++◌, Option, take, length, sym, ap, subst, ◌∙◌, arith, length-append, append-nil, []}
 use Rattle.std.specs.Prelude.{OnErr, Result, Ok, Err}
 use Rattle.std.proofs.lemmas.List.{take-append-le}
 use Rattle.std.proofs.Math.Seq.{take-append-add, take-append_seam}

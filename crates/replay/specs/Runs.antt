@@ -14,7 +14,7 @@ use Rattle.agent_model.specs.Isolation.{transcript, replies_to, lines_of_site, l
 use Rattle.replay.specs.FaultLines.{fault_line, usage_line}
 use Rattle.replay.specs.Hosts.{HasLeft}
 use Rattle.replay.specs.declared.status.Status.{Status}
-use Rattle.replay.specs.declared.status.Status.TheVariants.{Done, Usage, Script, List as ListStatus, Read, Write, Memory}
+use Rattle.replay.specs.declared.status.Status.TheVariants.{Done, Script, List as ListStatus, Read, Write, Memory}
 
 -- The list that the words name, read to its end: the one that the host told, where it told one.
 pub record ListRead (told : Option (List ℕ)) : Type 0 where

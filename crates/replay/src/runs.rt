@@ -6,11 +6,12 @@ ghost use Rattle.unwinding.specs.World.{line_reply, world_step};
 ghost use Rattle.script_lines.specs.Plain.{action_of, line_of};
 ghost use Rattle.script_lines.specs.Reply.{reply_text};
 ghost use Rattle.agent_model.specs.Isolation.{printed, transcript};
+ghost use Rattle.agent_model.specs.Lines.{last_moment};
 ghost use Rattle.agent_model.specs.TheMachine.{machine};
 ghost use Rattle.agent_core.specs.Standing.{world_of};
 ghost use Rattle.replay.specs.Runs.{ListRead, ScriptRead, Writes, WritesText, WritesUsage, HasSiteLines, ScriptCause, ListCause, ReadCause, LeavesScript, TellsFault};
 ghost use Rattle.command_line.specs.Plain.{plain_command};
-ghost use Rattle.command_line.specs.Words.{Replay, command_of};
+ghost use Rattle.command_line.specs.Words.{Replay, StartsInTime, command_of};
 ghost use Rattle.replay.specs.Words.{list_path};
 ghost use Rattle.replay.specs.Loop.{Obeys, WritesLines, WritesScript, IsListOf, ListRefusal, ListUnread, acted};
 
@@ -89,6 +90,7 @@ fn obey<H: Host, I: Source, O: Sink>(
     script: &mut I,
     out: &mut O,
 ) -> Status
+    requires { StartsInTime (plain_command command) }
     ensures { Obeys (Some (plain_command command.entry)) result (H.lists host.old)
         (I.left script.old) (I.left script.new) (O.taken out.old) (O.taken out.new)
         (H.faults host.old) (H.faults host.new) (H.reads host.old) (H.reads host.new)
@@ -121,6 +123,7 @@ fn replay<H: Host, I: Source, O: Sink>(
     script: &mut I,
     out: &mut O,
 ) -> Status
+    requires { start ≤ last_moment }
     ensures text { WritesText start result (H.lists host.old path.now) (I.left script.old) (I.left script.new) (O.taken out.old) (O.taken out.new) }
     ensures usage { result ≡ Status.Usage → ⊥ }
     ensures script { ScriptCause result (I.left script.old) }
@@ -166,6 +169,7 @@ fn run_script<I: Source, O: Sink>(
     script: &mut I,
     out: &mut O,
 ) -> Status
+    requires { start ≤ last_moment }
     ensures text { let rules = list.now.rules in
         WritesScript result rules start (I.left script.old) (I.left script.new) (O.taken out.old) (O.taken out.new) }
     ensures script { ScriptCause result (I.left script.old) }
@@ -201,6 +205,7 @@ fn run_lines<O: Sink>(
     lines: &[Line],
     out: &mut O,
 ) -> Status
+    requires { start ≤ last_moment }
     ensures written { WritesLines result list.now.rules start (acted lines.now) (O.taken out.old) (O.taken out.new) }
     ensures write { result ≡ Status.Write → Rose (O.faults out.old) (O.faults out.new) }
 {

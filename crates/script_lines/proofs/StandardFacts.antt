@@ -10,7 +10,8 @@ use Rattle.serde_json.specs.Read.{read}
 use Rattle.script_lines.specs.Script.{PlainAction, Tick, Open, Set, Get, PlainFault, NotJson}
 use Rattle.script_lines.specs.Script.{UnknownAction, BadField, LineTooLong, TooLong, NotUtf8}
 use Rattle.script_lines.specs.Fields.{then_ok}
-use Rattle.script_lines.specs.Actions.{table, top}
+use Rattle.script_lines.specs.Actions.{table, label}
+use Rattle.script_lines.specs.declared.words.Method.TheVariants as method
 use Rattle.script_lines.specs.Grammar.{json_of, action_of_bytes, action_of_data}
 use Rattle.script_lines.specs.Grammar.{lines_from, line_of_bytes, lines_of, script_of_bytes}
 
@@ -25,7 +26,7 @@ opens : line (codes "{\"do\":\"open\",\"tab\":1,\"url\":\"https://a.test\"}") �
   host = codes "a.test";
   port = 443;
   path = codes "/";
-}))
+}) method.Get)
 unfolding table serde_json_on_literals url_on_literals
 opens = refl
 
@@ -38,11 +39,11 @@ unfolding table serde_json_on_literals
 ticks_too_far = refl
 
 -- members may stand in any order, and of two of one name the later counts
-sets : line (codes "{\"value\":\"v\",\"key\":\"k\",\"tab\":1,\"do\":\"set\",\"tab\":65535}") ≡ Ok (Set (top 65535) (codes "k") (codes "v"))
+sets : line (codes "{\"value\":\"v\",\"key\":\"k\",\"tab\":1,\"do\":\"set\",\"tab\":65535}") ≡ Ok (Set (label 65535 0) (codes "k") (codes "v"))
 unfolding table serde_json_on_literals
 sets = refl
 
-gets : line (codes " {\"do\":\"get\",\"tab\":2,\"key\":\"\"}\r") ≡ Ok (Get (top 2) [])
+gets : line (codes " {\"do\":\"get\",\"tab\":2,\"key\":\"\"}\r") ≡ Ok (Get (label 2 0) [])
 unfolding table serde_json_on_literals
 gets = refl
 
@@ -77,8 +78,8 @@ not_built_row : line (codes "{\"do\":\"evict\",\"site\":\"https://a.test\"}") �
 unfolding table serde_json_on_literals
 not_built_row = refl
 
-not_built_field : line (codes "{\"do\":\"get\",\"tab\":1,\"key\":\"k\",\"frame\":0}") ≡ Err (BadField 1 (codes "frame"))
-unfolding table serde_json_on_literals
+not_built_field : line (codes "{\"do\":\"open\",\"tab\":1,\"url\":\"https://a.test\",\"head\":[]}") ≡ Err (BadField 1 (codes "head"))
+unfolding table serde_json_on_literals url_on_literals
 not_built_field = refl
 
 unknown_action : line (codes "{\"do\":\"tock\",\"a\":0}") ≡ Err (UnknownAction 1)

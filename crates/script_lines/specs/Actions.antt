@@ -5,7 +5,8 @@ use Rattle.std.specs.Prelude.{ℕ, Bool, true, false, List, [], ◌∷◌, codes
 use Rattle.agent_base.specs.declared.refusals.Label.{Label}
 use Rattle.storage_events.specs.declared.event.AreaKind.TheVariants.{Local}
 use Rattle.script_lines.specs.declared.words.Method.TheVariants as method
-use Rattle.script_lines.specs.Script.{PlainAction, Tick, Open, Set, Get}
+use Rattle.script_lines.specs.Script.{PlainAction, Tick, Open, Close, Go, Frame, Nav, Drop, Click}
+use Rattle.script_lines.specs.Script.{Set, Get}
 use Rattle.script_lines.specs.Fields.{Field, Kind, Mark, built, not_built, required, defaulted}
 use Rattle.script_lines.specs.Fields.{built_fields, Meanings, whole, any_text, address_text, truth}
 use Rattle.script_lines.specs.Fields.{site_name, method_name, header_list, area_name, loader}
@@ -40,7 +41,7 @@ abbrev pub tab : Field
 tab = required built (codes "tab") tab_number
 
 abbrev pub frame : Field
-frame = defaulted not_built (codes "frame") frame_number 0
+frame = defaulted built (codes "frame") frame_number 0
 
 -- a frame that is not the top document
 abbrev pub inner_frame : Field
@@ -50,7 +51,7 @@ abbrev pub url : Field
 url = required built (codes "url") address_text
 
 abbrev pub method_field : Field
-method_field = defaulted not_built (codes "method") method_name method.Get
+method_field = defaulted built (codes "method") method_name method.Get
 
 abbrev pub head : Field
 head = defaulted not_built (codes "head") header_list []
@@ -61,9 +62,9 @@ area = defaulted not_built (codes "area") area_name Local
 abbrev pub key : Field
 key = required built (codes "key") any_text
 
--- the top document of a tab
-abbrev pub top : ℕ → Label
-top tab = record { tab = tab; frame = 0 }
+-- the document of a tab in a frame
+abbrev pub label : ℕ → ℕ → Label
+label tab frame = record { tab = tab; frame = frame }
 
 -- ---- rows
 
@@ -85,26 +86,50 @@ open_row = record {
   mark = built;
   fields = tab ∷ url ∷ defaulted not_built (codes "opener") (optional tab_number) None
       ∷ defaulted not_built (codes "noopener") truth false ∷ method_field ∷ head ∷ [];
-  action = λ (tab, (url, _)). Open tab url;
+  action = λ (tab, (url, (method, _))). Open tab url method;
 }
 
 abbrev pub close_row : Row
-close_row = later (tab ∷ [])
+close_row = record { mark = built; fields = tab ∷ []; action = λ (tab, _). Close tab }
 
 abbrev pub go_row : Row
-go_row = later (tab ∷ url ∷ defaulted built (codes "by") loader false ∷ method_field ∷ head ∷ [])
+go_row = record {
+  mark = built;
+  fields = tab ∷ url ∷ defaulted built (codes "by") loader false ∷ method_field ∷ head ∷ [];
+  action = λ (tab, (url, (by_page, (method, _)))). Go tab url by_page method;
+}
 
 abbrev pub frame_row : Row
-frame_row = later (tab ∷ inner_frame ∷ defaulted built (codes "parent") frame_number 0 ∷ url
-    ∷ defaulted built (codes "sandbox") (optional any_text) None
-    ∷ defaulted built (codes "deny") truth false ∷ head ∷ [])
+frame_row = record {
+  mark = built;
+  fields = tab ∷ inner_frame ∷ defaulted built (codes "parent") frame_number 0 ∷ url
+      ∷ defaulted built (codes "sandbox") (optional any_text) None
+      ∷ defaulted built (codes "deny") truth false ∷ head ∷ [];
+  action = λ (tab, (frame, (parent, (url, (sandbox, (deny, _)))))).
+      Frame (label tab frame) parent url sandbox deny;
+}
 
 abbrev pub nav_row : Row
-nav_row = later (tab ∷ inner_frame ∷ url ∷ defaulted built (codes "by") navigator false
-    ∷ method_field ∷ head ∷ [])
+nav_row = record {
+  mark = built;
+  fields = tab ∷ inner_frame ∷ url ∷ defaulted built (codes "by") navigator false
+      ∷ method_field ∷ head ∷ [];
+  action = λ (tab, (frame, (url, (by_self, (method, _))))). Nav (label tab frame) url by_self method;
+}
 
 abbrev pub drop_row : Row
-drop_row = later (tab ∷ inner_frame ∷ [])
+drop_row = record {
+  mark = built;
+  fields = tab ∷ inner_frame ∷ [];
+  action = λ (tab, (frame, _)). Drop (label tab frame);
+}
+
+abbrev pub click_row : Row
+click_row = record {
+  mark = built;
+  fields = tab ∷ frame ∷ [];
+  action = λ (tab, (frame, _)). Click (label tab frame);
+}
 
 abbrev pub fetch_row : Row
 fetch_row = later (tab ∷ frame ∷ url ∷ method_field ∷ head ∷ [])
@@ -113,14 +138,14 @@ abbrev pub set_row : Row
 set_row = record {
   mark = built;
   fields = tab ∷ frame ∷ area ∷ key ∷ required built (codes "value") any_text ∷ [];
-  action = λ (tab, (key, (value, _))). Set (top tab) key value;
+  action = λ (tab, (frame, (key, (value, _)))). Set (label tab frame) key value;
 }
 
 abbrev pub get_row : Row
 get_row = record {
   mark = built;
   fields = tab ∷ frame ∷ area ∷ key ∷ [];
-  action = λ (tab, (key, _)). Get (top tab) key;
+  action = λ (tab, (frame, (key, _))). Get (label tab frame) key;
 }
 
 -- `del`: a pair of an area by its key
@@ -134,7 +159,7 @@ whole_area_row = later (tab ∷ frame ∷ area ∷ [])
 abbrev pub key_row : Row
 key_row = later (tab ∷ frame ∷ area ∷ required built (codes "n") (whole 0 4294967295) ∷ [])
 
--- `click`, `events`, `cookie`, `has`, `persisted` and `estimate`: a document and nothing besides
+-- `events`, `cookie`, `has`, `persisted` and `estimate`: a document and nothing besides
 abbrev pub document_row : Row
 document_row = later (tab ∷ frame ∷ [])
 
@@ -156,7 +181,7 @@ table =
     (codes "disk", disk_row) ∷ (codes "tick", tick_row) ∷ (codes "restart", restart_row)
     ∷ (codes "open", open_row) ∷ (codes "close", close_row) ∷ (codes "go", go_row)
     ∷ (codes "frame", frame_row) ∷ (codes "nav", nav_row) ∷ (codes "drop", drop_row)
-    ∷ (codes "click", document_row) ∷ (codes "fetch", fetch_row) ∷ (codes "set", set_row)
+    ∷ (codes "click", click_row) ∷ (codes "fetch", fetch_row) ∷ (codes "set", set_row)
     ∷ (codes "get", get_row) ∷ (codes "del", del_row) ∷ (codes "clear", whole_area_row)
     ∷ (codes "len", whole_area_row) ∷ (codes "key", key_row) ∷ (codes "events", document_row)
     ∷ (codes "cookie", document_row) ∷ (codes "has", document_row)

@@ -15,7 +15,8 @@ use Rattle.script_lines.specs.Reply as plain_reply
 use Rattle.script_lines.specs.declared.actions.ActionName.{ActionName}
 use Rattle.script_lines.specs.declared.actions.ActionName.TheVariants as name
 use Rattle.script_lines.specs.declared.script.Action.{Action}
-use Rattle.script_lines.specs.declared.script.Action.TheVariants.{Tick, Open, Set, Get}
+use Rattle.script_lines.specs.declared.script.Action.TheVariants.{Tick, Open, Close, Go, Frame}
+use Rattle.script_lines.specs.declared.script.Action.TheVariants.{Nav, Drop, Click, Set, Get}
 use Rattle.script_lines.specs.declared.script.HeadPair.{HeadPair}
 use Rattle.script_lines.specs.declared.script.Line.{Line}
 use Rattle.script_lines.specs.declared.script.Script.{Script}
@@ -37,7 +38,14 @@ head_pair_of pair = record { name = string_bytes pair.name; value = string_bytes
 -- an action
 abbrev pub action_of : Action → PlainAction
 action_of (Tick s) = plain.Tick s
-action_of (Open tab url) = plain.Open tab (plain_address url)
+action_of (Open tab url method) = plain.Open tab (plain_address url) method
+action_of (Close tab) = plain.Close tab
+action_of (Go tab url by_page method) = plain.Go tab (plain_address url) by_page method
+action_of (Frame at parent url sandbox deny) =
+    plain.Frame at parent (plain_address url) (option_map string_bytes sandbox) deny
+action_of (Nav at url by_self method) = plain.Nav at (plain_address url) by_self method
+action_of (Drop at) = plain.Drop at
+action_of (Click at) = plain.Click at
 action_of (Set at key value) = plain.Set at (string_bytes key) (string_bytes value)
 action_of (Get at key) = plain.Get at (string_bytes key)
 
@@ -52,7 +60,7 @@ row_of name.Go = table.go_row
 row_of name.Frame = table.frame_row
 row_of name.Nav = table.nav_row
 row_of name.Drop = table.drop_row
-row_of name.Click = table.document_row
+row_of name.Click = table.click_row
 row_of name.Fetch = table.fetch_row
 row_of name.Set = table.set_row
 row_of name.Get = table.get_row

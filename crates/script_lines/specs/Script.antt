@@ -1,18 +1,27 @@
 -- A script as contracts see it: its lines, or why it has none.
-use Rattle.std.specs.Prelude.{ℕ, List}
+use Rattle.std.specs.Prelude.{ℕ, Bool, List, Option}
 use Rattle.agent_base.specs.declared.refusals.Label.{Label}
 use Rattle.origin_site.specs.Address.{PlainAddress}
+use Rattle.script_lines.specs.declared.words.Method.{Method}
 
 -- a header field that a load's response has: its name and its value, as they are written
 pub record PlainHeadPair : Type 0 where
   pub name : List ℕ
   pub value : List ℕ
 
--- what a line asks for. The clock is moved by so many seconds, a top document is opened by its tab
--- and address, and an area of a document, which is named by its tab and frame, is written and read.
+-- what a line asks for. The clock is moved by so many seconds. A tab is opened with a top document,
+-- is closed, or goes to another one. A frame is added to a tab, navigates, is dropped or clicked. An
+-- area of a document, which is named by its tab and frame, is written and read.
 pub data PlainAction : Type 0 where
   Tick : (s : ℕ) → PlainAction
-  Open : (tab : ℕ) (url : PlainAddress) → PlainAction
+  Open : (tab : ℕ) (url : PlainAddress) (method : Method) → PlainAction
+  Close : (tab : ℕ) → PlainAction
+  Go : (tab : ℕ) (url : PlainAddress) (by_page : Bool) (method : Method) → PlainAction
+  Frame : (at : Label) (parent : ℕ) (url : PlainAddress) (sandbox : Option (List ℕ)) (deny : Bool)
+      → PlainAction
+  Nav : (at : Label) (url : PlainAddress) (by_self : Bool) (method : Method) → PlainAction
+  Drop : (at : Label) → PlainAction
+  Click : (at : Label) → PlainAction
   Set : (at : Label) (key value : List ℕ) → PlainAction
   Get : (at : Label) (key : List ℕ) → PlainAction
 

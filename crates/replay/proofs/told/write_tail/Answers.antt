@@ -1,5 +1,3 @@
-use Rattle.std.proofs.Common.{subst}
-use Rattle.agent_base.specs.Streams.{Takes, TakesPrefix}
 use Rattle.replay.proofs.PrefixLemmas.{on_err_then, prefix_after}
 use Rattle.replay.proofs.told.write_tail.Goals as goal
 

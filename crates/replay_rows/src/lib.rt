@@ -10,6 +10,8 @@ mod faults;
 #[cfg(test)]
 mod first_path;
 #[cfg(test)]
+mod frames;
+#[cfg(test)]
 mod lists;
 #[cfg(test)]
 mod quota;

@@ -1,6 +1,7 @@
 //! The buckets of a shed, by storage key.
 ghost use Rattle.std.specs.Prelude.{◌≡◌, ◌↔◌, ◌-◌, ◌^◌, min, if◌then◌else◌, [], Some, None, IfOk, IsTrue, OnErr, OnOk, option_copied, unwrap_or};
 ghost use Rattle.std.specs.Borrow.{sem};
+ghost use Rattle.std.specs.List.{AllZip};
 ghost use Rattle.std.specs.List.Sorted.{IsStrictlySortedBy};
 ghost use Rattle.std.specs.Map.{keys_of};
 ghost use Rattle.local_area.specs.Area.{area_weight};
@@ -176,6 +177,14 @@ impl<K: Ord + Drop> Shed<K> {
 }
 
 impl<K: Ord + Clone + Drop> Shed<K> {
+    /// Clones of the keys that have a bucket, in their order.
+    pub fn keys(&self) -> Result<Vec<K>, NoMemory>
+        ensures keys { IfOk result (λ keys. AllZip K.is_clone (keys_of self.now) keys.items) }
+        ensures ordered { IsStrictlySortedBy K.cmp (keys_of self.now) }
+    {
+        self.buckets.keys(self.alloc)
+    }
+
     /// A shed with equal buckets under clones of the keys.
     pub fn copy(&self) -> Result<Shed<K>, NoMemory>
         ensures copied { IfOk result (λ shed. IsCopy K.is_clone (λ bucket copy. copy ≡ bucket) self.now shed) }

@@ -109,6 +109,7 @@ impl<K: Ord + Clone + Drop, V: Drop> KeyMap<K, V> {
     /// Clones of all keys, in their order.
     pub fn keys(&self, alloc: Global) -> Result<Vec<K>, NoMemory>
         ensures keys { IfOk result (λ keys. AllZip K.is_clone (keys_of self.now) keys.items) }
+        ensures ordered { IsStrictlySortedBy K.cmp (keys_of self.now) }
     {
         clones_of(alloc, &self.places)
     }

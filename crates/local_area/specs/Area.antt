@@ -1,6 +1,6 @@
 -- The content of a storage area: pairs of a name and a value, in the order in which names came.
--- Source: HTML, "Web storage", the Storage interface; Storage Standard, whose endpoint
--- `localStorage` has a quota of 5 mebibytes.
+-- Source: HTML, "Web storage", the Storage interface; Storage Standard, whose endpoints
+-- `localStorage` and `sessionStorage` have a quota of 5 mebibytes each.
 -- Our own choice: a new name stands last and a removal keeps the order, where HTML leaves both
 -- orders open. The quota counts the UTF-8 bytes of all names and values.
 use Rattle.std.specs.Prelude.{ℕ, ◌+◌, Bool, not, List, [], ◌∷◌, ◌++◌, map, filter, find, length, sum_by, slice_get, bytes_eq, Option, option_map, is_some, if◌then◌else◌}

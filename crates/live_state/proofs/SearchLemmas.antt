@@ -1,0 +1,107 @@
+-- What a binary search finds among tabs whose numbers rise.
+use Rattle.std.proofs.Common.{◌≡◌, ◌<◌, ◌≤◌, ℕ, true, List, [], ◌∷◌, length, take, drop, get_or, map, Option, Result, Ok, Err, Some, None, refl, ap, ◌∙◌, arith, inl, inr, MatchResult}
+use Rattle.std.specs.Prelude.{nat_lt, option_map, slice_get, ◌⊎◌}
+use Rattle.std.specs.List.{AllWithin, HoldsAt}
+use Rattle.std.specs.List.Sorted.{IsBinarySearchResult, IsNonDecreasingBy, IsSearchInRange}
+use Rattle.std.specs.Ordering.{nat_cmp, ordering_index}
+use Rattle.std.specs.declared.cmp.Ordering.TheVariants.{Less, Equal, Greater}
+use Rattle.std.proofs.lemmas.Bool.Decides.{nat_tests}
+use Rattle.std.proofs.lemmas.List.{get_or-map, take-map, drop-map, length-map}
+use Rattle.std.proofs.lemmas.List.Elements.{All-map, All-weaker}
+use Rattle.std.proofs.lemmas.List.Sums.{list_all-from_AllPass}
+use Rattle.std.proofs.lemmas.Option.{slice_get-get_or, slice_get-map}
+use Rattle.live_state.specs.Held.{TabView}
+use Rattle.live_state.specs.Tabs.{PlainTab, is_rising}
+use Rattle.live_state.specs.Places.{IsAt, IsGap}
+use Rattle.live_state.proofs.ListLemmas.{All-back, All-front}
+use Rattle.live_state.proofs.PlacesLemmas.{rising-apart, rising-split}
+
+-- the tabs, as contracts see them
+abbrev pub plain_of : List TabView → List PlainTab
+plain_of ts = map (λ t. t.plain) ts
+
+is_less : (m n : ℕ) → nat_cmp m n ≡ Less → nat_lt m n ≡ true
+is_less m n is = grind (arith, nat_tests)
+
+is_greater : (m n : ℕ) → nat_cmp m n ≡ Greater → nat_lt n m ≡ true
+is_greater m n is = grind (arith, nat_tests)
+
+is_equal : (m n : ℕ) → nat_cmp m n ≡ Equal → m ≡ n
+is_equal m n is = grind (arith, nat_tests)
+
+index_rises : (l m n : ℕ) → l ≤ m → ordering_index (nat_cmp l n) ≤ ordering_index (nat_cmp m n)
+index_rises l m n low = grind (arith, nat_tests)
+
+index_same : (ts : List TabView) (n i j : ℕ) (d : TabView) → is_rising (plain_of ts) ≡ true → i ≤ j → j < length ts
+    → (i ≡ j) ⊎ (i < j)
+    → ordering_index (nat_cmp (get_or ts i d).plain.number n) ≤ ordering_index (nat_cmp (get_or ts j d).plain.number n)
+index_same ts n i j d rising low within (inl same) =
+    rw same (omega arith)
+index_same ts n i j d rising low within (inr below) =
+    let one : get_or (plain_of ts) i d.plain ≡ (get_or ts i d).plain = get_or-map (λ t. t.plain) ts i d d.plain (omega arith) in
+    let other : get_or (plain_of ts) j d.plain ≡ (get_or ts j d).plain = get_or-map (λ t. t.plain) ts j d d.plain within in
+    let long : length (plain_of ts) ≡ length ts = length-map ts (λ t. t.plain) in
+    let apart : (get_or (plain_of ts) i d.plain).number < (get_or (plain_of ts) j d.plain).number =
+    rising-apart (plain_of ts) i j d.plain rising below (omega arith) in
+    let numbers : (get_or ts i d).plain.number < (get_or ts j d).plain.number = rw (one, other) at apart in
+    index_rises (get_or ts i d).plain.number (get_or ts j d).plain.number n (omega arith)
+
+which : (i j : ℕ) → i ≤ j → (i ≡ j) ⊎ (i < j)
+which i j low = grind arith
+
+searchable : (ts : List TabView) (n : ℕ) → is_rising (plain_of ts) ≡ true → IsNonDecreasingBy (λ t. ordering_index (nat_cmp t.plain.number n)) ts
+searchable ts n rising = λ i j d low within. index_same ts n i j d rising low within (which i j low)
+
+place-found : (n i : ℕ) (ts : List TabView) → is_rising (plain_of ts) ≡ true → i < length ts
+    → HoldsAt (λ t. nat_cmp t.plain.number n ≡ Equal) ts i → IsAt n (plain_of ts) i
+place-found n i [] rising within equal = absurd (omega arith)
+place-found n i (d ∷ ts) rising within equal =
+    let all : List TabView = d ∷ ts in
+    let long : length (plain_of all) ≡ length all = length-map all (λ t. t.plain) in
+    let t : PlainTab = get_or (plain_of all) i d.plain in
+    let here : slice_get (plain_of all) i ≡ Some t = slice_get-get_or (plain_of all) i d.plain (omega arith) in
+    let same : t.number ≡ n = ap (λ (u : PlainTab). u.number) (get_or-map (λ t. t.plain) all i d d.plain within) ∙ is_equal (get_or all i d).plain.number n (equal d) in
+    let parts = rising-split (plain_of all) i t rising here in
+    record {
+      here = ap (option_map (λ u. u.number)) here ∙ ap Some same;
+      lower = rw same at parts.0;
+      higher = rw same at parts.1;
+    }
+
+place-gap : (n i : ℕ) (ts : List TabView) → i ≤ length ts
+    → AllWithin (λ t. nat_cmp t.plain.number n ≡ Less) ts 0 i → AllWithin (λ t. nat_cmp t.plain.number n ≡ Greater) ts i (length ts)
+    → IsGap n (plain_of ts) i
+place-gap n i ts within lower higher =
+    let long : length (plain_of ts) ≡ length ts = length-map ts (λ t. t.plain) in
+    record {
+      within = omega arith;
+      lower =
+          rw (take-map (λ t. t.plain) i ts)
+          (list_all-from_AllPass (λ u. nat_lt u.number n) (plain_of (take i ts))
+          (All-map (λ u. nat_lt u.number n ≡ true) (λ t. t.plain) (take i ts)
+          (All-weaker (λ t. nat_cmp t.plain.number n ≡ Less) (λ t. nat_lt t.plain.number n ≡ true) (λ t is. is_less t.plain.number n is) (take i ts)
+          (All-front (λ t. nat_cmp t.plain.number n ≡ Less) ts i within lower))));
+      higher =
+          rw (drop-map (λ t. t.plain) i ts)
+          (list_all-from_AllPass (λ u. nat_lt n u.number) (plain_of (drop i ts))
+          (All-map (λ u. nat_lt n u.number ≡ true) (λ t. t.plain) (drop i ts)
+          (All-weaker (λ t. nat_cmp t.plain.number n ≡ Greater) (λ t. nat_lt n t.plain.number ≡ true) (λ t is. is_greater t.plain.number n is) (drop i ts)
+          (All-back (λ t. nat_cmp t.plain.number n ≡ Greater) ts i higher))));
+    }
+
+pub searched : (n : ℕ) (ts : List TabView) (r : Result ℕ ℕ) → is_rising (plain_of ts) ≡ true → IsSearchInRange r (length ts)
+    → IsBinarySearchResult (λ t. nat_cmp t.plain.number n) ts r
+    → MatchResult r (IsAt n (plain_of ts)) (IsGap n (plain_of ts))
+searched n ts (Ok i) rising bound found = place-found n i ts rising bound found
+searched n ts (Err i) rising bound gap =
+    let parts = gap (searchable ts n rising) in
+    place-gap n i ts bound parts.0 parts.1
+
+number_by : (o : Option TabView) → option_map (λ u. u.number) (option_map (λ t. t.plain) o) ≡ option_map (λ t. t.plain.number) o
+number_by None = refl
+number_by (Some t) = refl
+
+-- the number of the tab at a place
+pub number_at : (ts : List TabView) (i : ℕ)
+    → option_map (λ u. u.number) (slice_get (plain_of ts) i) ≡ option_map (λ t. t.plain.number) (slice_get ts i)
+number_at ts i = ap (option_map (λ u. u.number)) (slice_get-map (λ t. t.plain) ts i) ∙ number_by (slice_get ts i)

@@ -1,0 +1,159 @@
+-- Values worked out by hand from the standard's steps and from this repository's own choices.
+use Rattle.std.proofs.Common.{◌≡◌, ℕ, refl, List, [], ◌∷◌, Some, None, true, false}
+use Rattle.std.specs.Prelude.{codes, replicate}
+use Rattle.storage_events.specs.Event.{EventView}
+use Rattle.storage_events.specs.declared.event.AreaKind.TheVariants.{Local}
+use Rattle.origin_site.specs.Address.{PlainAddress}
+use Rattle.agent_base.specs.declared.refusals.Label.{Label}
+use Rattle.storage_key.specs.Key.{PlainKey}
+use Rattle.frame_tree.specs.Sandbox.{unrestricted}
+use Rattle.frame_tree.specs.Document.{loaded}
+use Rattle.frame_tree.specs.Tree.{PlainFrame}
+use Rattle.live_state.specs.Tabs.{PlainQueue, PlainTab, is_open, is_rising, next_tab, tabs_put, without_tab}
+use Rattle.live_state.specs.Documents.{documents, frame_numbers}
+use Rattle.live_state.specs.Queues.{are_distinct, has_document, is_ready, queue_at, sent, taken}
+
+-- a value that changed
+abbrev change : EventView
+change = record {
+  area = Local;
+  key = Some (codes "k");
+  before = None;
+  after = Some (codes "v");
+  url = codes "https://a.test/";
+}
+
+abbrev address : PlainAddress
+address = record {
+  text = codes "https://a.test/";
+  https = true;
+  ip = false;
+  host = codes "a.test";
+  port = 443;
+  path = codes "/";
+}
+
+-- a frame below the top, or the top
+abbrev frame : ℕ → PlainFrame
+frame number = record { frame = number; parent = 0; document = loaded [] unrestricted false address }
+
+-- a queue in which one event waits, and one that lost some
+abbrev waiting : ℕ → PlainQueue
+waiting number = record { frame = number; events = change ∷ []; lost = 0 }
+
+abbrev lost : ℕ → PlainQueue
+lost number = record { frame = number; events = []; lost = 3 }
+
+abbrev empty : ℕ → PlainQueue
+empty number = record { frame = number; events = []; lost = 0 }
+
+-- tab 2 has a top and two frames below, tab 7 a top alone
+abbrev two : PlainTab
+two = record { number = 2; frames = frame 0 ∷ frame 5 ∷ frame 1 ∷ []; queues = waiting 0 ∷ lost 5 ∷ waiting 1 ∷ [] }
+
+abbrev seven : PlainTab
+seven = record { number = 7; frames = frame 0 ∷ []; queues = waiting 0 ∷ [] }
+
+abbrev tabs : List PlainTab
+tabs = two ∷ seven ∷ []
+
+numbers_rise : is_rising tabs ≡ true
+numbers_rise = refl
+
+equal_numbers_do_not_rise : is_rising (two ∷ two ∷ []) ≡ false
+equal_numbers_do_not_rise = refl
+
+first_tab : next_tab None tabs ≡ Some 2
+first_tab = refl
+
+tab_after_another : next_tab (Some 2) tabs ≡ Some 7
+tab_after_another = refl
+
+no_tab_after_the_last : next_tab (Some 7) tabs ≡ None
+no_tab_after_the_last = refl
+
+-- a navigation of frame 5 empties its queue alone
+navigation : tabs_put 2 (frame 0 ∷ frame 5 ∷ frame 1 ∷ []) (Some 5) tabs
+    ≡ record two { queues = waiting 0 ∷ empty 5 ∷ waiting 1 ∷ [] } ∷ seven ∷ []
+navigation = refl
+
+-- a frame that goes takes its queue with it, and comes back with an empty one
+removal : tabs_put 2 (frame 0 ∷ frame 1 ∷ []) None tabs
+    ≡ record two { frames = frame 0 ∷ frame 1 ∷ []; queues = waiting 0 ∷ waiting 1 ∷ [] } ∷ seven ∷ []
+removal = refl
+
+number_that_comes_back : tabs_put 2 (frame 0 ∷ frame 1 ∷ frame 5 ∷ []) None (tabs_put 2 (frame 0 ∷ frame 1 ∷ []) None tabs)
+    ≡ record two { frames = frame 0 ∷ frame 1 ∷ frame 5 ∷ []; queues = waiting 0 ∷ waiting 1 ∷ empty 5 ∷ [] } ∷ seven ∷ []
+number_that_comes_back = refl
+
+-- a new top document, with no frame below
+top_goes : tabs_put 2 (frame 0 ∷ []) (Some 0) tabs
+    ≡ record two { frames = frame 0 ∷ []; queues = empty 0 ∷ [] } ∷ seven ∷ []
+top_goes = refl
+
+tab_between : tabs_put 5 (frame 0 ∷ []) None tabs
+    ≡ two ∷ record { number = 5; frames = frame 0 ∷ []; queues = empty 0 ∷ [] } ∷ seven ∷ []
+tab_between = refl
+
+closed_tab : without_tab 2 tabs ≡ seven ∷ []
+closed_tab = refl
+
+open_and_closed : (is_open 7 tabs ≡ true) × (is_open 3 tabs ≡ false)
+open_and_closed = (refl, refl)
+
+-- ---- documents and their keys
+
+-- a frame below the top whose document is opaque
+abbrev opaque : ℕ → PlainFrame
+opaque number = record { frame = number; parent = 0; document = loaded [] (record { same_origin = false; storage_access = true }) false address }
+
+abbrev label : ℕ → ℕ → Label
+label tab frame = record { tab = tab; frame = frame }
+
+-- all documents are of one origin and one site, so all have this key
+abbrev key : PlainKey
+key = record {
+  origin = record { https = true; ip = false; host = codes "a.test"; port = 443 };
+  top = record { https = true; host = codes "a.test" };
+  bit = false;
+}
+
+documents_by_number : documents tabs ≡ (label 2 0, key) ∷ (label 2 1, key) ∷ (label 2 5, key) ∷ (label 7 0, key) ∷ []
+unfolding frame_numbers
+documents_by_number = refl
+
+opaque_document_has_no_key : documents (record { number = 2; frames = frame 0 ∷ opaque 1 ∷ []; queues = [] } ∷ []) ≡ (label 2 0, key) ∷ []
+unfolding frame_numbers
+opaque_document_has_no_key = refl
+
+-- ---- events
+
+event_for_two : sent ((label 7 0, change) ∷ (label 2 5, change) ∷ []) tabs
+    ≡ record two { queues = waiting 0 ∷ record (lost 5) { events = change ∷ [] } ∷ waiting 1 ∷ [] }
+    ∷ record seven { queues = record (waiting 0) { events = change ∷ change ∷ [] } ∷ [] } ∷ []
+event_for_two = refl
+
+event_for_no_document : sent ((label 3 0, change) ∷ (label 7 5, change) ∷ []) tabs ≡ tabs
+event_for_no_document = refl
+
+-- a queue of 1,024 events, and one more
+full : PlainQueue
+full = record { frame = 0; events = replicate 1024 change; lost = 0 }
+
+event_is_lost : queue_at (sent ((label 1 0, change) ∷ []) (record { number = 1; frames = frame 0 ∷ []; queues = full ∷ [] } ∷ [])) (label 1 0)
+    ≡ record full { lost = 1 }
+unfolding full
+event_is_lost = refl
+
+taken_from_one : taken (label 2 1) tabs ≡ record two { queues = waiting 0 ∷ lost 5 ∷ empty 1 ∷ [] } ∷ seven ∷ []
+taken_from_one = refl
+
+document_that_is_there : (has_document tabs (label 2 5) ≡ true) × (has_document tabs (label 7 5) ≡ false) × (has_document tabs (label 3 0) ≡ false)
+document_that_is_there = (refl, refl, refl)
+
+ready_document : (is_ready (record { tabs = tabs; ready = record { number = 2; frames = 5 ∷ [] } ∷ []; room = 0 }) (label 2 5) ≡ true)
+    × (is_ready (record { tabs = tabs; ready = record { number = 2; frames = 5 ∷ [] } ∷ []; room = 0 }) (label 2 0) ≡ false)
+ready_document = (refl, refl)
+
+document_twice : (are_distinct (label 2 5 ∷ label 2 0 ∷ label 7 5 ∷ []) ≡ true) × (are_distinct (label 2 5 ∷ label 7 0 ∷ label 2 5 ∷ []) ≡ false)
+document_twice = (refl, refl)

@@ -1,0 +1,91 @@
+-- What contracts see of an open tab after a write to one of its queues.
+use Rattle.std.proofs.Common.{◌≡◌, ℕ, Bool, true, false, cond, List, [], ◌∷◌, map, Option, Some, None, refl, ap, sym, ◌∙◌, inl, inr}
+use Rattle.std.specs.Prelude.{◌&&◌, ◌||◌, ◌==◌, ◌≢◌, ◌⊎◌, unwrap_or, if◌then◌else◌}
+use Rattle.std.proofs.lemmas.Bool.Decides.{eqb_tells}
+use Rattle.frame_tree.specs.Tree.{PlainFrame, has_frame}
+use Rattle.live_state.specs.declared.frame_queue.FrameQueue.{FrameQueue}
+use Rattle.live_state.specs.Held.{IsChangedAt, held_at, is_held, plain_by, queues_of, ready_by, ready_of}
+use Rattle.live_state.specs.Queues.{is_among}
+use Rattle.live_state.specs.Tabs.{PlainQueue, empty_queue, queue_of}
+use Rattle.live_state.proofs.HeldLemmas.{find-queues, frame_by, held-absent}
+use Rattle.live_state.proofs.ListLemmas.{and_both, and_parts}
+
+pub queues-same : (frames : List PlainFrame) (old new : List FrameQueue)
+    → ((n : ℕ) → plain_by n (held_at n new) ≡ plain_by n (held_at n old)) → queues_of frames new ≡ queues_of frames old
+queues-same [] old new same = refl
+queues-same (f ∷ fs) old new same =
+    ap (λ q. q ∷ queues_of fs new) (same f.frame) ∙ ap (λ l. plain_by f.frame (held_at f.frame old) ∷ l) (queues-same fs old new same)
+
+-- one queue of the tab is changed
+pub queues-changed : (frame : ℕ) (change : PlainQueue → PlainQueue) (frames : List PlainFrame) (old new : List FrameQueue) → IsChangedAt frame change old new
+    → queues_of frames new ≡ map (λ queue. if queue.frame == frame then change queue else queue) (queues_of frames old)
+queues-changed frame change [] old new changed = refl
+queues-changed frame change (f ∷ fs) old new changed =
+    let q : PlainQueue = plain_by f.frame (held_at f.frame old) in
+    ap (λ q. q ∷ queues_of fs new) (changed.plain f.frame)
+    ∙ ap (λ m. (if m == frame then change q else q) ∷ queues_of fs new) (sym (frame_by f.frame (held_at f.frame old)))
+    ∙ ap (λ l. (if q.frame == frame then change q else q) ∷ l) (queues-changed frame change fs old new changed)
+
+held_by : (n : ℕ) (there : Bool) (h : Option FrameQueue) → (there ≡ false → h ≡ None)
+    → unwrap_or (cond there (Some (plain_by n h)) None) (empty_queue n) ≡ plain_by n h
+held_by n true h absent = refl
+held_by n false h absent = ap (plain_by n) (sym (absent refl))
+
+-- the queue of a frame is the one that is held, if there is one
+pub queue-held : (n : ℕ) (frames : List PlainFrame) (held : List FrameQueue) → is_held frames held ≡ true
+    → queue_of n (queues_of frames held) ≡ plain_by n (held_at n held)
+queue-held n frames held all =
+    ap (λ o. unwrap_or o (empty_queue n)) (find-queues n held frames)
+    ∙ held_by n (has_frame n frames) (held_at n held) (held-absent n frames held all)
+
+-- ---- the frames that are ready
+
+among_step : (n : ℕ) (r : ℕ → Bool) (f : PlainFrame) (rest : List ℕ) (there : Bool) (b : Bool) → r f.frame ≡ b
+    → (((f.frame == n) ≡ true) × (f.frame ≡ n)) ⊎ (((f.frame == n) ≡ false) × (f.frame ≢ n))
+    → is_among n rest ≡ (there && r n)
+    → is_among n (cond b (f.frame ∷ rest) rest) ≡ (((f.frame == n) || there) && r n)
+among_step n r f rest there true is (inl equal) more =
+    ap (λ t. t || is_among n rest) equal.0
+    ∙ sym (ap (λ t. (t || there) && r n) equal.0 ∙ ap r (sym equal.1) ∙ is)
+among_step n r f rest there false is (inl equal) more =
+    more
+    ∙ ap (λ t. there && t) (ap r (sym equal.1) ∙ is)
+    ∙ and_false there
+    ∙ sym (ap (λ t. (t || there) && r n) equal.0 ∙ ap r (sym equal.1) ∙ is)
+  where
+    and_false : (b : Bool) → (b && false) ≡ false
+    and_false true = refl
+    and_false false = refl
+among_step n r f rest there true is (inr differ) more =
+    ap (λ t. t || is_among n rest) differ.0 ∙ more ∙ sym (ap (λ t. (t || there) && r n) differ.0)
+among_step n r f rest there false is (inr differ) more =
+    more ∙ sym (ap (λ t. (t || there) && r n) differ.0)
+
+pub among-ready : (n : ℕ) (frames : List PlainFrame) (held : List FrameQueue)
+    → is_among n (ready_of frames held) ≡ (has_frame n frames && ready_by (held_at n held))
+among-ready n [] held = refl
+among-ready n (f ∷ fs) held =
+    among_step n (λ m. ready_by (held_at m held)) f (ready_of fs held) (has_frame n fs) (ready_by (held_at f.frame held)) refl (eqb_tells f.frame n)
+    (among-ready n fs held)
+
+-- a frame that is there is ready where its queue is
+pub ready-there : (n : ℕ) (frames : List PlainFrame) (held : List FrameQueue) → has_frame n frames ≡ true → ready_by (held_at n held) ≡ true
+    → is_among n (ready_of frames held) ≡ true
+ready-there n frames held there ready = among-ready n frames held ∙ and_both (has_frame n frames) (ready_by (held_at n held)) there ready
+
+pub ready-parts : (n : ℕ) (frames : List PlainFrame) (held : List FrameQueue) → is_among n (ready_of frames held) ≡ true
+    → (has_frame n frames ≡ true) × (ready_by (held_at n held) ≡ true)
+ready-parts n frames held ready = and_parts (has_frame n frames) (ready_by (held_at n held)) (sym (among-ready n frames held) ∙ ready)
+
+-- what is ready stays so
+pub ready-stays : (n : ℕ) (frames : List PlainFrame) (old new : List FrameQueue)
+    → (ready_by (held_at n old) ≡ true → ready_by (held_at n new) ≡ true)
+    → is_among n (ready_of frames old) ≡ true → is_among n (ready_of frames new) ≡ true
+ready-stays n frames old new stays ready =
+    let parts = ready-parts n frames old ready in ready-there n frames new parts.0 (stays parts.1)
+
+-- each frame has a queue
+pub queues-each : (frames : List PlainFrame) (held : List FrameQueue) → map (λ q. q.frame) (queues_of frames held) ≡ map (λ f. f.frame) frames
+queues-each [] held = refl
+queues-each (f ∷ fs) held =
+    ap (λ n. n ∷ map (λ q. q.frame) (queues_of fs held)) (frame_by f.frame (held_at f.frame held)) ∙ ap (λ l. f.frame ∷ l) (queues-each fs held)

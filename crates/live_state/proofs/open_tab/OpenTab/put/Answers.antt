@@ -1,0 +1,19 @@
+-- The queues that are kept are those of the frames afterwards.
+use Rattle.std.proofs.Common.{◌≡◌, true, ap, sym, ◌∙◌, subst, Some}
+use Rattle.live_state.specs.Held.{is_held, queues_of}
+use Rattle.live_state.specs.Tabs.{made_tab}
+use Rattle.live_state.proofs.HeldLemmas.{held-put, queues-put}
+use Rattle.live_state.proofs.open_tab.OpenTab.put.Goals as goal
+
+pub invariant_of-self : goal.invariant_of-self
+invariant_of-self c =
+    subst (λ held. is_held c.args.made held ≡ true) (sym c.keep_queues.ensures.kept) (held-put c.args.fresh c.args.made c.self.inside.queues.items)
+
+pub returns : goal.returns
+returns c =
+    let queues = ap (queues_of c.args.made) c.keep_queues.ensures.kept
+    ∙ sym (queues-put c.args.fresh c.self.inside.tab c.args.made c.self.inside.queues.items c.self.invariant) in record {
+      put =
+          ap (λ qs. record { number = c.self.inside.number; frames = c.args.made; queues = qs }) queues
+          ∙ ap (λ tab. made_tab tab.plain.number c.args.made c.args.fresh (Some tab.plain)) c.self.view_is;
+    }

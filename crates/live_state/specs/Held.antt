@@ -1,0 +1,73 @@
+-- An open tab, as the list of open tabs sees it, and the queues that it holds: a frame whose
+-- document has heard of no event may have none.
+use Rattle.std.specs.Prelude.{◌≡◌, ◌≢◌, ℕ, Bool, true, false, not, ◌==◌, ◌&&◌, List, map, filter, find, Option, Some, None, if◌then◌else◌}
+use Rattle.std.specs.List.{list_all}
+use Rattle.frame_tree.specs.Tree.{PlainFrame, has_frame}
+use Rattle.live_state.specs.Tabs.{PlainQueue, PlainTab, ReadyTab, empty_queue, is_fresh}
+use Rattle.live_state.specs.declared.frame_queue.FrameQueue.{FrameQueue}
+
+-- an open tab, and the frames whose queue takes one event more without taking memory
+pub record TabView : Type 0 where
+  pub plain : PlainTab
+  pub ready : List ℕ
+
+-- the ready frames of a tab, with its number
+abbrev pub ready_tab : TabView → ReadyTab
+ready_tab tab = record { number = tab.plain.number; frames = tab.ready }
+
+-- the queue of a frame that is held
+abbrev pub held_at : ℕ → List FrameQueue → Option FrameQueue
+held_at frame held = find (λ q. q.frame == frame) held
+
+-- a held queue, as contracts see it
+abbrev pub plain_by : ℕ → Option FrameQueue → PlainQueue
+plain_by frame None = empty_queue frame
+plain_by frame (Some q) = record { frame = frame; events = q.queue.events; lost = q.queue.lost }
+
+-- a held queue has room for one event more
+abbrev pub ready_by : Option FrameQueue → Bool
+ready_by None = false
+ready_by (Some q) = q.queue.reserved
+
+-- the queue of each frame
+abbrev pub queues_of : List PlainFrame → List FrameQueue → List PlainQueue
+queues_of frames held = map (λ f. plain_by f.frame (held_at f.frame held)) frames
+
+-- the frames whose queue is ready
+abbrev pub ready_of : List PlainFrame → List FrameQueue → List ℕ
+ready_of frames held = filter (λ frame. ready_by (held_at frame held)) (map (λ f. f.frame) frames)
+
+-- each held queue is that of a frame
+abbrev pub is_held : List PlainFrame → List FrameQueue → Bool
+is_held frames held = list_all (λ q. has_frame q.frame frames) held
+
+-- a queue stays: its document is not fresh, and its frame is there still
+abbrev pub stays : Option ℕ → List PlainFrame → ℕ → Bool
+stays fresh made frame = not (is_fresh fresh frame) && has_frame frame made
+
+-- contracts see the queue that they saw of each frame
+abbrev pub SeenAlike : List FrameQueue → List FrameQueue → Type 0
+SeenAlike old new = (n : ℕ) → plain_by n (held_at n new) ≡ plain_by n (held_at n old)
+
+-- the queue of a frame is ready if it was
+abbrev pub StaysReady : ℕ → List FrameQueue → List FrameQueue → Type 0
+StaysReady n old new = ready_by (held_at n old) ≡ true → ready_by (held_at n new) ≡ true
+
+-- each held queue is that of one of these frames if it was so before
+abbrev pub StaysHeld : List PlainFrame → List FrameQueue → List FrameQueue → Type 0
+StaysHeld frames old new = is_held frames old ≡ true → is_held frames new ≡ true
+
+-- the queue of this frame is changed so, and those of others stay; of these the ready stay ready
+pub record IsChangedAt (frame : ℕ) (change : PlainQueue → PlainQueue)
+    (old new : List FrameQueue) : Type 0 where
+  pub plain : (n : ℕ) → plain_by n (held_at n new)
+      ≡ (if n == frame then change (plain_by n (held_at n old)) else plain_by n (held_at n old))
+  pub others : (n : ℕ) → n ≢ frame → StaysReady n old new
+
+-- a tab with the queue of one frame changed
+abbrev pub changed_at : ℕ → (PlainQueue → PlainQueue) → PlainTab → PlainTab
+changed_at frame change tab = record {
+  number = tab.number;
+  frames = tab.frames;
+  queues = map (λ queue. if queue.frame == frame then change queue else queue) tab.queues;
+}

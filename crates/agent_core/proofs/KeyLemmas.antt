@@ -1,34 +1,47 @@
--- The key of a document in a tab has the site that the tab is at.
-use Rattle.std.proofs.Common.{◌≡◌, ℕ, List, [], ◌∷◌, Option, Some, None, map, refl, sym, subst, ◌∙◌}
-use Rattle.std.specs.Prelude.{option_map}
-use Rattle.origin_site.specs.Origin.{PlainOrigin}
-use Rattle.origin_site.specs.Site.{PlainSite}
-use Rattle.storage_key.specs.Context.{top_of}
-use Rattle.storage_key.specs.Key.{own_bit, storage_key}
-use Rattle.frame_tree.specs.Document.{PlainDocument}
-use Rattle.frame_tree.specs.Tree.{PlainFrame, chain_of, document_of, top_site}
-use Rattle.agent_model.specs.SiteStep.{key_at, key_of_document}
-use Rattle.agent_core.specs.Standing.{OpenTab}
-use Rattle.agent_core.specs.Steps.{IsOfSite}
+-- Keys of the program, and plain keys: one equality, and one audience.
+use Rattle.std.proofs.Common.{◌≡◌, ◌&&◌, Bool, true, false, cond, not, List, [], ◌∷◌, map, refl, ap, ◌∙◌}
+use Rattle.std.specs.Prelude.{filter}
+use Rattle.std.specs.Ordering.{eq_by_cmp}
+use Rattle.agent_base.specs.declared.refusals.Label.{Label}
+use Rattle.storage_key.specs.Key.{key_order}
+use Rattle.storage_key.specs.Plain.{plain_key}
+use Rattle.storage_key.specs.declared.key.StorageKey.{StorageKey}
+use Rattle.storage_key.specs.contracts.key.StorageKeyOrd.TheImpl.Laws as laws
+use Rattle.storage_key.specs.contracts.key.StorageKeyPartialEq as eq
+use Rattle.storage_events.specs.declared.event.AreaKind.{AreaKind}
+use Rattle.storage_events.specs.Audience.{audience, hears, in_reach, same_label}
+use Rattle.live_state.specs.Tabs.{PlainTab}
+use Rattle.live_state.specs.Documents.{documents, plain_keyed}
 
-top_read : (frames : List PlainFrame) → top_of (map (λ f. f.document.site) frames) ≡ top_site frames
-top_read [] = refl
-top_read (f ∷ frames) = refl
+-- the equality of the program's keys
+abbrev pub same_key : StorageKey → StorageKey → Bool
+same_key = (eq.TheImpl.eq-value).it
 
--- a document's key has the site of its chain's top
-pub of_site : (frame : ℕ) (tab : OpenTab) → top_site (chain_of frame tab.frames) ≡ top_site tab.frames → top_site tab.frames ≡ Some tab.site
-    → IsOfSite tab (key_at frame tab.frames)
-of_site frame tab chain top = of (document_of frame tab.frames)
+-- it is that of the plain keys
+pub same_as_plain : (a b : StorageKey) → same_key a b ≡ eq_by_cmp key_order (plain_key a) (plain_key b)
+same_as_plain a b = laws.matches_eq-law a b
+
+-- an audience by other keys, where they are told apart alike
+pub audience_alike : {A B : Type 0} (f : A → B) (same : A → A → Bool) (other : B → B → Bool) → ((a b : A) → same a b ≡ other (f a) (f b))
+    → (kind : AreaKind) (writer : Label) (key : A) (documents : List (Label × A))
+    → audience same kind writer key documents ≡ audience other kind writer (f key) (map (λ d. (d.0, f d.1)) documents)
+audience_alike f same other alike kind writer key [] = refl
+audience_alike f same other alike kind writer key (d ∷ ds) =
+    ap (λ b. map (λ d. d.0) (cond (in_reach kind writer d.0 && (not (same_label d.0 writer) && b)) (d ∷ filter (hears same kind writer key) ds) (filter (hears same kind writer key) ds))) (alike key d.1)
+    ∙ at (hears other kind writer (f key) (d.0, f d.1)) (audience_alike f same other alike kind writer key ds)
   where
-    sites : List (Option PlainSite)
-    sites = map (λ f. f.document.site) (chain_of frame tab.frames)
+    at : (b : Bool) → audience same kind writer key ds ≡ audience other kind writer (f key) (map (λ d. (d.0, f d.1)) ds)
+        → map (λ d. d.0) (cond b (d ∷ filter (hears same kind writer key) ds) (filter (hears same kind writer key) ds))
+        ≡ map (λ d. d.0) (cond b ((d.0, f d.1) ∷ filter (hears other kind writer (f key)) (map (λ d. (d.0, f d.1)) ds)) (filter (hears other kind writer (f key)) (map (λ d. (d.0, f d.1)) ds)))
+    at true later = ap (λ ls. d.0 ∷ ls) later
+    at false later = later
 
-    by_origin : (origin : Option PlainOrigin) → IsOfSite tab (Some (storage_key sites origin))
-    by_origin None = tt
-    by_origin (Some origin) =
-        subst (λ site. IsOfSite tab (Some (option_map (λ t. record { origin = origin; top = t; bit = own_bit sites }) site)))
-        (sym (top_read (chain_of frame tab.frames) ∙ chain ∙ top)) refl
+-- the audience among the program's documents is that among the plain ones
+pub audience_plain : (kind : AreaKind) (writer : Label) (key : StorageKey) (documents : List (Label × StorageKey))
+    → audience same_key kind writer key documents ≡ audience (eq_by_cmp key_order) kind writer (plain_key key) (map plain_keyed documents)
+audience_plain kind writer key documents = audience_alike plain_key same_key (eq_by_cmp key_order) same_as_plain kind writer key documents
 
-    of : (document : Option PlainDocument) → IsOfSite tab (option_map (key_of_document frame tab.frames) document)
-    of None = tt
-    of (Some document) = by_origin document.origin
+-- so it is the audience among the documents of all tabs
+pub audience_of : (kind : AreaKind) (writer : Label) (key : StorageKey) (found : List (Label × StorageKey)) (tabs : List PlainTab) → map plain_keyed found ≡ documents tabs
+    → audience same_key kind writer key found ≡ audience (eq_by_cmp key_order) kind writer (plain_key key) (documents tabs)
+audience_of kind writer key found tabs is = audience_plain kind writer key found ∙ ap (audience (eq_by_cmp key_order) kind writer (plain_key key)) is

@@ -1,6 +1,28 @@
-pub mod StandingLemmas
-pub mod PlaceLemmas
-pub mod TabsLemmas
-pub mod RowsLemmas
+-- The open tabs as a map, and where they are, after each call on the list of open tabs.
+pub mod LiveLemmas
+pub mod TabLemmas
+-- The tab and the document that a line names.
+pub mod FoundLemmas
+-- What an action makes of what is held.
+pub mod DoneLemmas
+pub mod ActLemmas
+-- Who hears of a change, and what is sent to them.
+pub mod MemberLemmas
+pub mod AudienceLemmas
 pub mod KeyLemmas
-pub mod StepsLemmas
+pub mod ToldLemmas
+pub mod HearerLemmas
+-- What is held after a change of an area.
+pub mod WriteLemmas
+-- The frames of each open tab.
+pub mod TreeLemmas
+pub mod FrameLemmas
+-- Session areas belong to open tabs.
+pub mod OwnedLemmas
+pub mod LeavesLemmas
+pub mod ActOwnedLemmas
+-- Each line of the agent.
+pub mod InTabLemmas
+pub mod StandingLemmas
+pub mod RunsLemmas
+pub mod OpenRunsLemmas

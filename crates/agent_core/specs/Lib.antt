@@ -1,6 +1,7 @@
 -- What contracts cite.
 pub mod Standing
-pub mod Plain
+-- What the agent keeps. No public clause rests on it.
+pub mod Kept
 -- What private functions compute. No public clause rests on it.
-pub mod Rows
+pub mod Parts
 pub mod Steps

@@ -1,62 +1,56 @@
 -- The state of the agent, as contracts see it, and the world that it stands for.
--- The agent keeps one list of tabs and one list of areas for all sites; the world has a partition
--- for each site.
-use Rattle.std.specs.Prelude.{ℕ, List, [], ◌∷◌, if◌then◌else◌}
+-- Source: none; the agent keeps one list of tabs and one storage for all sites, and the world has a
+-- partition for each site.
+use Rattle.std.specs.Prelude.{◌≡◌, ◌≤◌, ℕ, false, List, [], ◌∷◌, map, Option, Some, None}
+use Rattle.std.specs.FinMap as finite
 use Rattle.suffix_list.specs.Suffix.{Rule}
-use Rattle.origin_site.specs.Site.{PlainSite, same_plain_site}
-use Rattle.storage_key.specs.Key.{PlainKey}
-use Rattle.local_area.specs.Area.{Pair}
-use Rattle.frame_tree.specs.Tree.{PlainFrame}
-use Rattle.agent_model.specs.Partition.{Partition, Areas, Tabs, no_areas, no_tabs, with_area, with_frames, without_tab}
+use Rattle.origin_site.specs.Site.{PlainSite}
+use Rattle.frame_tree.specs.Tree.{top_site}
+use Rattle.live_state.specs.Tabs.{PlainTab}
+use Rattle.page_storage.specs.Stored.{Entries, held_with}
+use Rattle.agent_model.specs.Partition.{Tabs, Holdings, tab_named}
 use Rattle.agent_model.specs.Lines.{Places, AgentWorld, no_places, placed}
+use Rattle.agent_model.specs.Rest.{last_moment}
+use Rattle.agent_model.specs.Sessions.{has_session}
+use Rattle.agent_model.specs.Whole.{IsPlaced, whole_world}
 
--- an open tab: its number, the site that it is at, and its frames, the top first
-pub record OpenTab : Type 0 where
-  pub number : ℕ
-  pub site : PlainSite
-  pub frames : List PlainFrame
-
--- an area: its storage key and its pairs
-pub record AreaRow : Type 0 where
-  pub key : PlainKey
-  pub pairs : List Pair
-
--- the agent: the rules of its list, the clock, the open tabs and the areas
+-- the agent: the rules of its list, the clock, the open tabs in the order of their numbers, and the
+-- entries of its storage
 pub record AgentState : Type 0 where
   pub rules : List Rule
   pub now : ℕ
-  pub tabs : List OpenTab
-  pub rows : List AreaRow
+  pub tabs : List PlainTab
+  pub entries : Entries
 
--- the tabs that are at a site. Of two with one number the first counts.
-abbrev pub tabs_at : PlainSite → List OpenTab → Tabs
-tabs_at site [] = no_tabs
-tabs_at site (tab ∷ tabs) =
-    if same_plain_site site tab.site then with_frames tab.number tab.frames (tabs_at site tabs)
-    else without_tab tab.number (tabs_at site tabs)
+-- the open tabs by their numbers
+abbrev pub tabs_in : List PlainTab → Tabs
+tabs_in tabs = finite.from_entries (map (λ tab. (tab.number, tab)) tabs)
 
--- the areas under a site: those whose key has it
-abbrev pub areas_at : PlainSite → List AreaRow → Areas
-areas_at site [] = no_areas
-areas_at site (row ∷ rows) =
-    if same_plain_site site row.key.top then with_area row.key row.pairs (areas_at site rows)
-    else areas_at site rows
+-- a tab whose top document is at this site, or at none
+abbrev pub placed_by : ℕ → Option PlainSite → Places → Places
+placed_by tab None places = finite.remove places tab
+placed_by tab (Some site) places = placed tab site places
 
--- where each tab is
-abbrev pub places_of : List OpenTab → Places
-places_of [] = no_places
-places_of (tab ∷ tabs) = placed tab.number tab.site (places_of tabs)
+-- where each open tab is: at the site of its top document
+abbrev pub places_in : List PlainTab → Places
+places_in [] = no_places
+places_in (tab ∷ tabs) = placed_by tab.number (top_site tab.frames) (places_in tabs)
 
--- what a site has
-unfoldable pub partition_at : AgentState → PlainSite → Partition
-partition_at state site =
-    record { site = site; tabs = tabs_at site state.tabs; areas = areas_at site state.rows }
+-- what the agent holds for all sites
+abbrev pub held_in : AgentState → Holdings
+held_in state = held_with (tabs_in state.tabs) state.entries
+
+-- session areas belong to open tabs
+abbrev pub AreOwned : Holdings → Type 0
+AreOwned held = (tab : ℕ) → tab_named tab held ≡ None → has_session tab held ≡ false
+
+-- what each agent keeps: its clock is in time, each tab is at the site of its top document, and
+-- session areas belong to open tabs
+pub record IsStanding (state : AgentState) : Type 0 where
+  pub in_time : state.now ≤ last_moment
+  pub placed_all : IsPlaced (places_in state.tabs) (held_in state)
+  pub owned : AreOwned (held_in state)
 
 -- the world that the agent stands for
 unfoldable pub world_of : AgentState → AgentWorld
-world_of state =
-    record {
-      partition = partition_at state;
-      cells = tt;
-      rest = record { now = state.now; places = places_of state.tabs };
-    }
+world_of state = whole_world state.now (places_in state.tabs) (held_in state)

@@ -1,147 +1,107 @@
--- What each action makes of the agent's lists, and the reply to it.
-use Rattle.std.specs.Prelude.{◌≡◌, ℕ, Bool, false, nat_lt, List, [], Option, Some, None, Result, Ok, Err, codes, if◌then◌else◌}
-use Rattle.suffix_list.specs.Suffix.{Rule}
-use Rattle.origin_site.specs.Address.{PlainAddress}
-use Rattle.origin_site.specs.Site.{PlainSite, site_of_address}
-use Rattle.storage_key.specs.Key.{PlainKey}
-use Rattle.local_area.specs.Area.{Pair, quota, area_get, area_put, area_weight}
-use Rattle.local_area.specs.Put.{PutView, same, added, changed, put_answer}
-use Rattle.frame_tree.specs.declared.tab.TreeFault.{TreeFault}
-use Rattle.frame_tree.specs.Tree.{PlainFrame}
-use Rattle.frame_tree.specs.Calls.{opened}
-use Rattle.script_lines.specs.Script.{PlainAction}
-use Rattle.script_lines.specs.Reply.{PlainReply, PlainBody, Plain, Load, Text}
-use Rattle.agent_model.specs.SiteStep.{done, frames_after, refused_by, key_at}
-use Rattle.agent_core.specs.Standing.{AgentState, AreaRow, OpenTab}
-use Rattle.agent_core.specs.Rows.{tabs_put, tabs_without, pairs_in, rows_put}
+-- What a line makes of what the agent holds, and its reply.
+use Rattle.std.specs.Prelude.{◌≡◌, ℕ, Bool, true, List, Option, Some, None, Result, MatchResult, IfOk, OnOk, OnErr}
+use Rattle.unwinding.specs.World.{line_reply, world_step}
+use Rattle.agent_base.specs.declared.refusals.Label.{Label}
+use Rattle.agent_base.specs.declared.refusals.NoMemory.{NoMemory}
+use Rattle.origin_site.specs.Site.{PlainSite}
+use Rattle.frame_tree.specs.Tree.{top_site}
+use Rattle.live_state.specs.Queues.{frames_by}
+use Rattle.live_state.specs.Tabs.{PlainTab, is_open, tab_at}
+use Rattle.script_lines.specs.declared.reply.Reply.{Reply}
+use Rattle.script_lines.specs.declared.reply.ReplyBody.{ReplyBody}
+use Rattle.script_lines.specs.Plain.{body_of, reply_of}
+use Rattle.script_lines.specs.Reply.{PlainBody}
+use Rattle.script_lines.specs.Script.{PlainAction, Tick, Open, Close, Go, Frame, Nav, Drop, Click, Set, Get, Del, Clear, Len, Key}
+use Rattle.script_lines.specs.Script.{Events, Persisted, Estimate, Persist, Evict}
+use Rattle.agent_model.specs.Partition.{Holdings}
+use Rattle.agent_model.specs.SiteEvent.{Done}
+use Rattle.agent_model.specs.Documents.{Keyed}
+use Rattle.agent_model.specs.AreaActions.{set_item, remove_item, clear_area, get_item, get_name, get_length}
+use Rattle.agent_model.specs.Buckets.{get_mode, get_usage, persist}
+use Rattle.agent_model.specs.Sessions.{copy_sessions}
+use Rattle.agent_model.specs.TheMachine.{machine}
+use Rattle.agent_model.specs.Isolation.{printed}
+use Rattle.agent_core.specs.Standing.{AgentState, places_in, world_of}
+use Rattle.agent_core.specs.Kept.{HoldingsView}
+use Rattle.agent_core.specs.Parts.{held_of}
 
--- a reply
-abbrev pub replied : List ℕ → Option PlainSite → PlainBody → PlainReply
-replied name site body = record { name = name; site = site; body = body }
+-- ---- a line of the agent
 
--- ---- loads of top documents
+-- a line was run: its reply is the world's, and the agent stands for the world after it; or memory
+-- was wanting, and the agent stands for the world as it was
+pub record Runs (action : PlainAction) (old new : AgentState) (result : Result Reply NoMemory) : Type 0 where
+  pub reply : IfOk result (λ r. reply_of r ≡ printed (line_reply (machine old.rules) (world_of old) action))
+  pub world : OnOk result (world_of new ≡ world_step (machine old.rules) (world_of old) action)
+  pub rules : new.rules ≡ old.rules
+  pub unchanged : OnErr result (world_of new ≡ world_of old)
 
--- a tab whose top document is at this address
-abbrev pub loaded_tab : List Rule → ℕ → PlainAddress → OpenTab
-loaded_tab rules number url =
-    record { number = number; site = site_of_address rules url; frames = opened rules url }
+-- ---- loads
 
--- the agent with this tab
-abbrev pub with_tab : OpenTab → AgentState → AgentState
-with_tab tab state = record state { tabs = tabs_put tab state.tabs }
+-- the opener of a tab is open, if there is one
+abbrev pub is_there : Option ℕ → List PlainTab → Bool
+is_there None tabs = true
+is_there (Some opener) tabs = is_open opener tabs
 
--- the agent after an `open`, by the tab that has the number
-abbrev pub open_state : Option OpenTab → ℕ → PlainAddress → AgentState → AgentState
-open_state None number url state = with_tab (loaded_tab state.rules number url) state
-open_state (Some tab) number url state = state
+-- what is held with copies, for a tab, of the session areas of another under this site
+abbrev pub copied_under : Option PlainSite → (from to : ℕ) → Holdings → Holdings
+copied_under None from to held = held
+copied_under (Some site) from to held = copy_sessions site from to held
 
-abbrev pub open_reply : Option OpenTab → PlainAddress → AgentState → PlainReply
-open_reply None url state =
-    replied (codes "open") (Some (site_of_address state.rules url)) (Load None [])
-open_reply (Some tab) url state = replied (codes "open") None (Plain (codes "tab-exists"))
+-- the same for a tab with this opener, under the site that the opener is at
+abbrev pub with_copies : Option ℕ → ℕ → List PlainTab → Holdings → Holdings
+with_copies None to tabs held = held
+with_copies (Some opener) to tabs held =
+    copied_under (top_site (frames_by (tab_at opener tabs))) opener to held
 
--- the agent after a `go`
-abbrev pub go_state : Option OpenTab → ℕ → PlainAddress → AgentState → AgentState
-go_state None number url state = state
-go_state (Some tab) number url state = with_tab (loaded_tab state.rules number url) state
+-- ---- an action in an open tab
 
-abbrev pub go_reply : Option OpenTab → PlainAddress → AgentState → PlainReply
-go_reply None url state = replied (codes "go") None (Plain (codes "no-tab"))
-go_reply (Some tab) url state =
-    replied (codes "go") (Some (site_of_address state.rules url)) (Load None [])
+-- an action was done: this is held afterwards, this was answered, and each tab is where it was
+pub record IsDone (done : Done) (old new : HoldingsView) (body : PlainBody) : Type 0 where
+  pub held : held_of new ≡ done.held
+  pub answer : body ≡ done.body
+  pub places : places_in new.live.tabs ≡ places_in old.live.tabs
 
--- the agent after a `close`
-abbrev pub close_state : Option OpenTab → ℕ → AgentState → AgentState
-close_state None number state = state
-close_state (Some tab) number state = record state { tabs = tabs_without number state.tabs }
+-- what was held is held still, and each tab is where it was
+pub record Stays (old new : HoldingsView) : Type 0 where
+  pub held : held_of new ≡ held_of old
+  pub places : places_in new.live.tabs ≡ places_in old.live.tabs
 
-abbrev pub close_reply : Option OpenTab → PlainReply
-close_reply None = replied (codes "close") None (Plain (codes "no-tab"))
-close_reply (Some tab) = replied (codes "close") (Some tab.site) done
+-- an action was done, or memory was wanting and all stays
+abbrev pub Acts : Done → (old new : HoldingsView) → Result ReplyBody NoMemory → Type 0
+Acts done old new result =
+    MatchResult result (λ body. IsDone done old new (body_of body)) (λ _. Stays old new)
 
--- ---- actions on frames
+-- the document that an action in an open tab names
+abbrev pub label_of : PlainAction → Option Label
+label_of (Tick s) = None
+label_of (Open tab url opener noopener method) = None
+label_of (Close tab) = None
+label_of (Go tab url by_page method) = None
+label_of (Frame at parent url sandbox deny) = Some at
+label_of (Nav at url by_self method) = Some at
+label_of (Drop at) = Some at
+label_of (Click at) = Some at
+label_of (Set at area key value) = Some at
+label_of (Get at area key) = Some at
+label_of (Del at area key) = Some at
+label_of (Clear at area) = Some at
+label_of (Len at area) = Some at
+label_of (Key at area n) = Some at
+label_of (Events at) = Some at
+label_of (Persisted at) = Some at
+label_of (Estimate at) = Some at
+label_of (Persist at answer) = Some at
+label_of (Evict site) = None
 
--- the agent after an action on the frames of a tab, by what it makes of them
-abbrev pub frames_state : OpenTab → Result (List PlainFrame) TreeFault → AgentState → AgentState
-frames_state tab (Ok frames) state = with_tab (record tab { frames = frames }) state
-frames_state tab (Err why) state = state
-
-abbrev pub frames_body : PlainBody → Result (List PlainFrame) TreeFault → PlainBody
-frames_body body (Ok frames) = body
-frames_body body (Err why) = refused_by why
-
--- the agent after an action on frames, by the tab that has the number
-abbrev pub act_state : AgentState → Option OpenTab → PlainAction → AgentState
-act_state state None action = state
-act_state state (Some tab) action =
-    frames_state tab (frames_after state.rules state.now action tab.frames) state
-
-abbrev pub act_reply : AgentState → Option OpenTab → List ℕ → PlainBody → PlainAction → PlainReply
-act_reply state None name body action = replied name None (Plain (codes "no-tab"))
-act_reply state (Some tab) name body action =
-    replied name (Some tab.site) (frames_body body (frames_after state.rules state.now action tab.frames))
-
--- ---- actions on areas
-
--- whether a pair is refused: the area would weigh more than its quota, and it is not there already
-abbrev pub is_over_by : PutView → List Pair → Bool
-is_over_by same pairs = false
-is_over_by added pairs = nat_lt quota (area_weight pairs)
-is_over_by (changed before) pairs = nat_lt quota (area_weight pairs)
-
-abbrev pub is_over : List ℕ → List ℕ → List Pair → Bool
-is_over name value pairs = is_over_by (put_answer name value pairs) (area_put name value pairs)
-
--- the key of a document's area, by the tab that has the number
-abbrev pub key_found : Option OpenTab → ℕ → Option (Option PlainKey)
-key_found None frame = None
-key_found (Some tab) frame = key_at frame tab.frames
-
--- a key that was found has the site that its tab is at
-abbrev pub IsOfSite : OpenTab → Option (Option PlainKey) → Type 0
-IsOfSite tab None = Unit {0}
-IsOfSite tab (Some None) = Unit {0}
-IsOfSite tab (Some (Some key)) = key.top ≡ tab.site
-
--- the same, by the tab that has the number
-abbrev pub IsOfTab : Option OpenTab → ℕ → Type 0
-IsOfTab None frame = Unit {0}
-IsOfTab (Some tab) frame = IsOfSite tab (key_at frame tab.frames)
-
--- the rows after a `set` into an area, and the answer
-abbrev pub rows_set : PlainKey → List ℕ → List ℕ → List AreaRow → List AreaRow
-rows_set key name value rows =
-    if is_over name value (pairs_in key rows) then rows else rows_put key name value rows
-
-abbrev pub set_answer : PlainKey → List ℕ → List ℕ → List AreaRow → PlainBody
-set_answer key name value rows =
-    Plain (if is_over name value (pairs_in key rows) then codes "quota" else codes "ok")
-
--- the agent after a `set`, by the key of the document's area
-abbrev pub set_state : Option (Option PlainKey) → List ℕ → List ℕ → AgentState → AgentState
-set_state None name value state = state
-set_state (Some None) name value state = state
-set_state (Some (Some key)) name value state =
-    record state { rows = rows_set key name value state.rows }
-
-abbrev pub set_body : Option (Option PlainKey) → List ℕ → List ℕ → AgentState → PlainBody
-set_body None name value state = Plain (codes "no-frame")
-set_body (Some None) name value state = Plain (codes "security")
-set_body (Some (Some key)) name value state = set_answer key name value state.rows
-
--- what a `get` answers
-abbrev pub get_body : Option (Option PlainKey) → List ℕ → AgentState → PlainBody
-get_body None name state = Plain (codes "no-frame")
-get_body (Some None) name state = Plain (codes "security")
-get_body (Some (Some key)) name state = Text (area_get name (pairs_in key state.rows))
-
--- the replies, by the tab that has the number
-abbrev pub set_reply : Option OpenTab → ℕ → List ℕ → List ℕ → AgentState → PlainReply
-set_reply None frame name value state = replied (codes "set") None (Plain (codes "no-tab"))
-set_reply (Some tab) frame name value state =
-    replied (codes "set") (Some tab.site) (set_body (key_at frame tab.frames) name value state)
-
-abbrev pub get_reply : Option OpenTab → ℕ → List ℕ → AgentState → PlainReply
-get_reply None frame name state = replied (codes "get") None (Plain (codes "no-tab"))
-get_reply (Some tab) frame name state =
-    replied (codes "get") (Some tab.site) (get_body (key_at frame tab.frames) name state)
+-- what an action does that is done with the storage key of its document
+abbrev pub by_keyed : PlainTab → PlainAction → Option (Keyed → Holdings → Done)
+by_keyed tab (Set at area key value) = Some (set_item area key value)
+by_keyed tab (Get at area key) = Some (get_item area key)
+by_keyed tab (Del at area key) = Some (remove_item area key)
+by_keyed tab (Clear at area) = Some (clear_area area)
+by_keyed tab (Len at area) = Some (get_length area)
+by_keyed tab (Key at area n) = Some (get_name area n)
+by_keyed tab (Persisted at) = Some get_mode
+by_keyed tab (Estimate at) = Some get_usage
+by_keyed tab (Persist at answer) = Some (persist tab answer)
+by_keyed tab action = None

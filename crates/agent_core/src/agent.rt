@@ -1,55 +1,45 @@
-//! The agent: one list of tabs and one list of areas, for all sites.
-ghost use Rattle.std.specs.Prelude.{◌≡◌, ◌≤◌, [], IfOk, OnOk, OnErr, None, Some, codes, map, pos};
+//! The agent: one list of tabs and one storage, for all sites.
+ghost use Rattle.std.specs.Prelude.{◌≡◌, ◌≤◌, Bool, IfOk, Ok, OnOk, OnErr, Some};
 ghost use Rattle.unwinding.specs.World.{line_reply, world_step};
-ghost use Rattle.script_lines.specs.Plain.{action_of, body_of, reply_of};
-ghost use Rattle.script_lines.specs.Reply as reply_text;
-ghost use Rattle.agent_model.specs.Isolation.{printed};
-ghost use Rattle.agent_model.specs.Lines as spec;
-ghost use Rattle.agent_model.specs.TheMachine.{machine, beginning};
 ghost use Rattle.origin_site.specs.Plain.{plain_address, plain_site};
-ghost use Rattle.origin_site.specs.Site.{site_of_address};
-ghost use Rattle.storage_key.specs.Plain.{plain_key};
-ghost use Rattle.agent_core.specs.Standing.{AgentState, world_of};
-ghost use Rattle.agent_core.specs.Plain.{plain_row};
-ghost use Rattle.agent_core.specs.Rows.{tab_named};
-ghost use Rattle.agent_core.specs.Steps.{IsOfTab, act_reply, act_state, close_reply, close_state, get_reply, go_reply, go_state, key_found, loaded_tab, open_reply, open_state, replied, rows_set, set_answer, set_reply, set_state, with_tab};
+ghost use Rattle.script_lines.specs.Plain.{action_of, reply_of};
+ghost use Rattle.script_lines.specs.Script as plain;
+ghost use Rattle.script_lines.specs.declared.words.Method.{Method};
+ghost use Rattle.agent_model.specs.Isolation.{printed};
+ghost use Rattle.agent_model.specs.Rest as spec;
+ghost use Rattle.agent_model.specs.TheMachine.{machine, beginning};
+ghost use Rattle.agent_core.specs.Standing.{world_of};
+ghost use Rattle.agent_core.specs.Steps.{Runs, label_of};
 
+use crate::acts::name_of;
 use crate::clock::clock_after;
-use crate::replies::{load, loaded, plain, text, ticked};
-use crate::rows::{AreaRow, put_pair, value_in};
-use crate::tab::OpenTab;
-use crate::tabs::{act_at, drop_tab, put_tab, tab_named, tab_place};
+use crate::holdings::Holdings;
+use crate::replies::{answer, loaded, refused, replied, ticked};
 use agent_base::{Label, NoMemory};
-use frame_tree::TreeFault;
-use local_area::AreaFault;
 use origin_site::{Address, Site};
 use script_lines::{Action, Reply, ReplyBody};
 use std::alloc::Global;
 use std::marker::Model;
-use storage_key::StorageKey;
 use suffix_list::SuffixList;
 
-/// The storage of a browser: the tabs that are open, and the areas of all sites under a suffix list.
+/// The storage of a browser: the tabs that are open, and the storage of all sites under a suffix
+/// list.
 #[derive(Debug, Drop)]
 pub struct Agent<'l> {
     alloc: Global,
     list: &'l SuffixList,
     now: u64,
-    tabs: Vec<OpenTab>,
-    rows: Vec<AreaRow>,
+    held: Holdings,
 }
 
 impl<'l> Model for Agent<'l> {
-    ghost use Rattle.std.specs.Prelude.{◌≤◌, map};
-    ghost use Rattle.agent_model.specs.Lines.{last_moment};
-    ghost use Rattle.agent_core.specs.Plain.{plain_row};
-    ghost use Rattle.agent_core.specs.Standing.{AgentState};
+    ghost use Rattle.agent_core.specs.Standing.{AgentState, IsStanding};
 
     ghost Value = { AgentState };
 
-    ghost view = { λ a. record { rules = a.list.now.rules; now = a.now; tabs = a.tabs.items; rows = map plain_row a.rows.items } };
+    ghost view = { λ a. record { rules = a.list.now.rules; now = a.now; tabs = a.held.live.tabs; entries = a.held.storage } };
 
-    ghost invariant = { λ a. a.now ≤ last_moment };
+    ghost invariant = { λ a. IsStanding (record { rules = a.list.now.rules; now = a.now; tabs = a.held.live.tabs; entries = a.held.storage }) };
 }
 
 impl<'l> Agent<'l> {
@@ -64,8 +54,7 @@ impl<'l> Agent<'l> {
             alloc,
             list,
             now: start,
-            tabs: Vec::new(alloc),
-            rows: Vec::new(alloc),
+            held: Holdings::new(alloc),
         }
     }
 
@@ -83,189 +72,103 @@ impl<'l> Agent<'l> {
         ensures world { let here = world_of self.old in
             OnOk result (world_of self.new ≡ world_step (machine self.old.rules) here (action_of action.now)) }
         ensures rules { self.new.rules ≡ self.old.rules }
-        ensures unchanged { OnErr result (self.new ≡ self.old) }
+        ensures unchanged { OnErr result (world_of self.new ≡ world_of self.old) }
     {
         match action {
             Action::Tick { s } => Ok(self.tick(*s)),
-            Action::Open { tab, url, .. } => self.open(*tab, url),
+            Action::Open {
+                tab,
+                url,
+                opener,
+                noopener,
+                ..
+            } => self.open(*tab, url, *opener, *noopener),
             Action::Close { tab } => self.close(*tab),
             Action::Go { tab, url, .. } => self.go(*tab, url),
-            Action::Frame { at, .. } => {
-                let body = loaded(self.alloc);
-                self.act(*at, "frame", body, action)
-            }
-            Action::Nav { at, .. } => {
-                let body = loaded(self.alloc);
-                self.act(*at, "nav", body, action)
-            }
-            Action::Drop { at } => self.act(*at, "drop", ReplyBody::Plain { is: "ok" }, action),
-            Action::Click { at } => self.act(*at, "click", ReplyBody::Plain { is: "ok" }, action),
-            Action::Set { at, key, value } => self.set(*at, key, value),
-            Action::Get { at, key } => self.get(*at, key),
+            Action::Evict { site } => self.evict(site),
+            Action::Frame { at, .. }
+            | Action::Nav { at, .. }
+            | Action::Drop { at }
+            | Action::Click { at }
+            | Action::Set { at, .. }
+            | Action::Get { at, .. }
+            | Action::Del { at, .. }
+            | Action::Clear { at, .. }
+            | Action::Len { at, .. }
+            | Action::Key { at, .. }
+            | Action::Events { at }
+            | Action::Persisted { at }
+            | Action::Estimate { at }
+            | Action::Persist { at, .. } => self.act(*at, action),
         }
     }
 
     fn tick(&mut self, s: u32) -> Reply
-        ensures reply { let now = spec.clock_after self.old.now s in
-            reply_of result ≡ replied (codes "tick") None (reply_text.Now (pos now)) }
-        ensures state { self.new ≡ record self.old { now = spec.clock_after self.old.now s } }
+        ensures runs { Runs (plain.Tick s) self.old self.new (Ok result) }
     {
         let now = clock_after(self.now, s);
         self.now = now;
         ticked(now)
     }
 
-    fn open(&mut self, tab: u16, url: &Address) -> Result<Reply, NoMemory>
-        ensures reply { let found = tab_named tab self.old.tabs in
-            IfOk result (λ r. reply_of r ≡ open_reply found (plain_address url.now) self.old) }
-        ensures state { let found = tab_named tab self.old.tabs in
-            OnOk result (self.new ≡ open_state found tab (plain_address url.now) self.old) }
-        ensures unchanged { OnErr result (self.new ≡ self.old) }
+    fn open(
+        &mut self,
+        tab: u16,
+        url: &Address,
+        opener: Option<u16>,
+        noopener: bool,
+    ) -> Result<Reply, NoMemory>
+        ensures runs { (method : Method) → Runs (plain.Open tab (plain_address url.now) opener noopener method) self.old self.new result }
     {
-        match tab_named(&self.tabs, tab) {
-            Some(_) => Ok(plain("open", "tab-exists", None)),
-            None => self.show("open", tab, url),
+        if !self.held.is_there(opener) {
+            return Ok(refused("open", "no-tab"));
         }
+        if self.held.is_open(tab) {
+            return Ok(refused("open", "tab-exists"));
+        }
+        let copied = if noopener { None } else { opener };
+        let site = self.held.show(self.alloc, self.list, tab, url, copied)?;
+        Ok(replied("open", site, loaded(self.alloc)))
     }
 
     fn go(&mut self, tab: u16, url: &Address) -> Result<Reply, NoMemory>
-        ensures reply { let found = tab_named tab self.old.tabs in
-            IfOk result (λ r. reply_of r ≡ go_reply found (plain_address url.now) self.old) }
-        ensures state { let found = tab_named tab self.old.tabs in
-            OnOk result (self.new ≡ go_state found tab (plain_address url.now) self.old) }
-        ensures unchanged { OnErr result (self.new ≡ self.old) }
+        ensures runs { (by_page : Bool) (method : Method) → Runs (plain.Go tab (plain_address url.now) by_page method) self.old self.new result }
     {
-        match tab_named(&self.tabs, tab) {
-            Some(_) => self.show("go", tab, url),
-            None => Ok(plain("go", "no-tab", None)),
+        if !self.held.is_open(tab) {
+            return Ok(refused("go", "no-tab"));
         }
-    }
-
-    // Shows an address alone in the tab of a number, which is there or new.
-    fn show(&mut self, name: &'static str, tab: u16, url: &Address) -> Result<Reply, NoMemory>
-        ensures reply { let site = site_of_address self.old.rules (plain_address url.now) in
-            IfOk result (λ r. reply_of r ≡ replied name.now (Some site) (reply_text.Load None [])) }
-        ensures state { let made = loaded_tab self.old.rules tab (plain_address url.now) in
-            OnOk result (self.new ≡ with_tab made self.old) }
-        ensures unchanged { OnErr result (self.new ≡ self.old) }
-    {
-        let made = OpenTab::load(self.alloc, tab, url, self.list)?;
-        let reply = load(self.alloc, name, made.site().copy(self.alloc)?);
-        put_tab(&mut self.tabs, made)?;
-        Ok(reply)
+        let site = self.held.show(self.alloc, self.list, tab, url, None)?;
+        Ok(replied("go", site, loaded(self.alloc)))
     }
 
     fn close(&mut self, tab: u16) -> Result<Reply, NoMemory>
-        ensures reply { IfOk result (λ r. reply_of r ≡ close_reply (tab_named tab self.old.tabs)) }
-        ensures state { OnOk result (self.new ≡ close_state (tab_named tab self.old.tabs) tab self.old) }
-        ensures unchanged { OnErr result (self.new ≡ self.old) }
+        ensures runs { Runs (plain.Close tab) self.old self.new result }
     {
-        let Some(found) = tab_named(&self.tabs, tab) else {
-            return Ok(plain("close", "no-tab", None));
+        let Some(site) = self.held.site(self.alloc, tab)? else {
+            return Ok(refused("close", "no-tab"));
         };
-        let site = found.site().copy(self.alloc)?;
-        drop_tab(&mut self.tabs, tab);
-        Ok(plain("close", "ok", Some(site)))
+        self.held.close(tab);
+        Ok(replied("close", site, answer("ok")))
     }
 
-    // Does an action on the frames of a tab, which answers this where it is not refused.
-    fn act(
-        &mut self,
-        at: Label,
-        name: &'static str,
-        body: ReplyBody,
-        action: &Action,
-    ) -> Result<Reply, NoMemory>
-        ensures reply { let found = tab_named at.tab self.old.tabs in
-            IfOk result (λ r. reply_of r ≡ act_reply self.old found name.now (body_of body) (action_of action.now)) }
-        ensures state { let found = tab_named at.tab self.old.tabs in
-            OnOk result (self.new ≡ act_state self.old found (action_of action.now)) }
-        ensures unchanged { OnErr result (self.new ≡ self.old) }
+    fn evict(&mut self, site: &Site) -> Result<Reply, NoMemory>
+        ensures runs { Runs (plain.Evict (plain_site site.now)) self.old self.new result }
     {
-        let Some(place) = tab_place(&self.tabs, at.tab) else {
-            return Ok(plain(name, "no-tab", None));
-        };
-        let site = self.tabs[place].site().copy(self.alloc)?;
-        match act_at(
-            self.alloc,
-            &mut self.tabs,
-            place,
-            action,
-            self.now,
-            self.list,
-        ) {
-            Ok(()) => Ok(Reply {
-                name,
-                site: Some(site),
-                body,
-            }),
-            Err(TreeFault::NoFrame) => Ok(plain(name, "no-frame", Some(site))),
-            Err(TreeFault::FrameExists) => Ok(plain(name, "frame-exists", Some(site))),
-            Err(TreeFault::NoMemory) => Err(NoMemory),
-        }
+        let named = site.copy(self.alloc)?;
+        let cleared = self.held.evict(site)?;
+        Ok(replied("evict", named, ReplyBody::Cleared { cleared }))
     }
 
-    fn set(&mut self, at: Label, key: &str, value: &str) -> Result<Reply, NoMemory>
-        ensures reply { let found = tab_named at.tab self.old.tabs in
-            IfOk result (λ r. reply_of r ≡ set_reply found at.frame key.now value.now self.old) }
-        ensures state { let found = tab_named at.tab self.old.tabs in
-            OnOk result (self.new ≡ set_state (key_found found at.frame) key.now value.now self.old) }
-        ensures site { OnOk result (IsOfTab (tab_named at.tab self.old.tabs) at.frame) }
-        ensures unchanged { OnErr result (self.new ≡ self.old) }
+    // Does an action in a tab.
+    fn act(&mut self, at: Label, action: &Action) -> Result<Reply, NoMemory>
+        requires named { label_of (action_of action.now) ≡ Some at }
+        ensures runs { Runs (action_of action.now) self.old self.new result }
     {
-        let Some(tab) = tab_named(&self.tabs, at.tab) else {
-            return Ok(plain("set", "no-tab", None));
+        let name = name_of(action);
+        let Some(site) = self.held.site(self.alloc, at.tab)? else {
+            return Ok(refused(name, "no-tab"));
         };
-        let site = tab.site().copy(self.alloc)?;
-        match tab.key(self.alloc, at.frame)? {
-            None => Ok(plain("set", "no-frame", Some(site))),
-            Some(None) => Ok(plain("set", "security", Some(site))),
-            Some(Some(area)) => set_in(self.alloc, &mut self.rows, site, area, key, value),
-        }
-    }
-
-    fn get(&mut self, at: Label, key: &str) -> Result<Reply, NoMemory>
-        ensures reply { let found = tab_named at.tab self.old.tabs in
-            IfOk result (λ r. reply_of r ≡ get_reply found at.frame key.now self.old) }
-        ensures site { OnOk result (IsOfTab (tab_named at.tab self.old.tabs) at.frame) }
-        ensures state { self.new ≡ self.old }
-    {
-        let Some(tab) = tab_named(&self.tabs, at.tab) else {
-            return Ok(plain("get", "no-tab", None));
-        };
-        let site = tab.site().copy(self.alloc)?;
-        match tab.key(self.alloc, at.frame)? {
-            None => Ok(plain("get", "no-frame", Some(site))),
-            Some(None) => Ok(plain("get", "security", Some(site))),
-            Some(Some(area)) => {
-                let value = value_in(self.alloc, &self.rows, &area, key)?;
-                Ok(text("get", site, value))
-            }
-        }
-    }
-}
-
-// Sets a value in an area, and replies to the site of its tab.
-fn set_in(
-    alloc: Global,
-    rows: &mut Vec<AreaRow>,
-    site: Site,
-    area: StorageKey,
-    key: &str,
-    value: &str,
-) -> Result<Reply, NoMemory>
-    ensures reply { let before = map plain_row rows.old.items in
-        let answer = set_answer (plain_key area) key.now value.now before in
-        IfOk result (λ r. reply_of r ≡ replied (codes "set") (Some (plain_site site)) answer) }
-    ensures rows { let before = map plain_row rows.old.items in
-        OnOk result (map plain_row rows.new.items ≡ rows_set (plain_key area) key.now value.now before) }
-    ensures unchanged { OnErr result (rows.new.items ≡ rows.old.items) }
-{
-    let key = String::from_str(alloc, key)?;
-    let value = String::from_str(alloc, value)?;
-    match put_pair(alloc, rows, area, key, value) {
-        Ok(_) => Ok(plain("set", "ok", Some(site))),
-        Err(AreaFault::Quota(_)) => Ok(plain("set", "quota", Some(site))),
-        Err(AreaFault::NoMemory) => Err(NoMemory),
+        let body = self.held.act(self.alloc, self.list, self.now, at, action)?;
+        Ok(replied(name, site, body))
     }
 }

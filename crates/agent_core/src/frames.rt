@@ -1,26 +1,71 @@
 //! Actions on the frames of a tab.
-ghost use Rattle.std.specs.Prelude.{◌≡◌, ◌≤◌, IfOk, OnOk, OnErr, Some, false, option_map, pos, string_bytes};
+ghost use Rattle.std.specs.Prelude.{◌≡◌, ◌≤◌, OnErr, OnOk, Some, false, option_map, true, pos, string_bytes};
 ghost use Rattle.agent_base.specs.Answers.{Answers};
 ghost use Rattle.origin_site.specs.Plain.{plain_address};
-ghost use Rattle.storage_key.specs.Plain.{plain_key};
 ghost use Rattle.frame_tree.specs.Calls.{activated, navigated, without};
-ghost use Rattle.frame_tree.specs.Plain.{plain_document, plain_sandbox};
+ghost use Rattle.frame_tree.specs.Plain.{plain_sandbox};
 ghost use Rattle.frame_tree.specs.Sandbox.{sandbox_of};
-ghost use Rattle.frame_tree.specs.Tree.{chain_of, document_of, top_site};
-ghost use Rattle.script_lines.specs.Plain.{action_of};
-ghost use Rattle.agent_model.specs.Lines.{last_moment};
-ghost use Rattle.agent_model.specs.SiteStep.{frames_after, key_at, where_below, where_there};
+ghost use Rattle.frame_tree.specs.Tree.{top_site};
+ghost use Rattle.live_state.specs.Tabs.{PlainTab, tab_at};
+ghost use Rattle.script_lines.specs.Plain.{action_of, body_of};
+ghost use Rattle.agent_model.specs.Rest.{last_moment};
+ghost use Rattle.agent_model.specs.Frames.{act_on_frames, frames_after, fresh_frame, where_below, where_there};
+ghost use Rattle.agent_core.specs.Kept.{adds_number};
+ghost use Rattle.agent_core.specs.Parts.{held_of};
+ghost use Rattle.agent_core.specs.Steps.{Acts};
 
-use agent_base::NoMemory;
-use frame_tree::{Document, Sandbox, Tab, TreeFault};
+use crate::holdings::Holdings;
+use crate::replies::answer;
+use agent_base::{Label, NoMemory};
+use frame_tree::{Sandbox, Tab, TreeFault};
 use origin_site::Address;
-use script_lines::Action;
+use script_lines::{Action, ReplyBody};
 use std::alloc::Global;
-use storage_key::{StorageKey, key_of};
 use suffix_list::SuffixList;
 
-/// Does an action on the frames of a tab, at this moment. A refusal leaves them as they are.
-pub fn act(
+impl Holdings {
+    /// Does an action on the frames of a tab, which answers this where it is not refused.
+    pub fn act_on_frames(
+        &mut self,
+        alloc: Global,
+        list: &SuffixList,
+        now: u64,
+        at: Label,
+        action: &Action,
+        body: ReplyBody,
+    ) -> Result<ReplyBody, NoMemory>
+        requires { now ≤ last_moment }
+        ensures acts { (tab : PlainTab) → tab_at at.tab self.old.live.tabs ≡ Some tab
+            → Acts (act_on_frames list.now.rules now (action_of action.now) at.tab tab (body_of body) (held_of self.old)) self.old self.new result }
+    {
+        let Some(tab) = self.live.tab(at.tab) else {
+            return Err(NoMemory);
+        };
+        let mut made = tab.copy()?;
+        match act(alloc, &mut made, action, now, list) {
+            Ok(()) => {
+                self.live.put_tab(at.tab, made, fresh_frame(action));
+                Ok(body)
+            }
+            Err(TreeFault::NoFrame) => Ok(answer("no-frame")),
+            Err(TreeFault::FrameExists) => Ok(answer("frame-exists")),
+            Err(TreeFault::NoMemory) => Err(NoMemory),
+        }
+    }
+}
+
+// The frame whose document an action replaces.
+fn fresh_frame(action: &Action) -> Option<u8>
+    ensures { result ≡ fresh_frame (action_of action.now) }
+{
+    match action {
+        Action::Nav { at, .. } => Some(at.frame),
+        _ => None,
+    }
+}
+
+// Does an action on the frames of a tab, at this moment. A refusal leaves them as they are.
+fn act(
     alloc: Global,
     tab: &mut Tab,
     action: &Action,
@@ -31,6 +76,7 @@ pub fn act(
     ensures answer { Answers (λ _. tab.new) TreeFault.NoMemory
         (frames_after list.now.rules now (action_of action.now) tab.old) result }
     ensures site { top_site tab.new ≡ top_site tab.old }
+    ensures number { OnOk result (adds_number (action_of action.now) ≡ true) }
     ensures unchanged { OnErr result (tab.new ≡ tab.old) }
 {
     match action {
@@ -108,21 +154,4 @@ fn click(tab: &mut Tab, frame: u8, now: u64) -> Result<(), TreeFault>
         Ok(()) => Ok(()),
         Err(_) => Err(TreeFault::NoFrame),
     }
-}
-
-/// The storage key of a frame's document. The chain above it begins with the tab's top.
-pub fn document_key(
-    alloc: Global,
-    tab: &Tab,
-    frame: u8,
-    document: &Document,
-) -> Result<Option<StorageKey>, NoMemory>
-    requires { Some (plain_document document.now) ≡ document_of frame tab.now }
-    ensures key { IfOk result (λ key. Some (option_map plain_key key) ≡ key_at frame tab.now) }
-    ensures site { OnOk result (top_site (chain_of frame tab.now) ≡ top_site tab.now) }
-{
-    let Ok(chain) = tab.chain(frame) else {
-        return Err(NoMemory);
-    };
-    key_of(alloc, chain.as_slice(), document.origin.as_ref())
 }

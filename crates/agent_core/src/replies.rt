@@ -3,7 +3,7 @@ ghost use Rattle.std.specs.Prelude.{◌≡◌, ◌≤◌, [], Some, None, codes,
 ghost use Rattle.origin_site.specs.Plain.{plain_site};
 ghost use Rattle.script_lines.specs.Plain.{body_of, reply_of};
 ghost use Rattle.script_lines.specs.Reply as reply_text;
-ghost use Rattle.agent_model.specs.Lines.{last_moment};
+ghost use Rattle.agent_model.specs.Rest.{last_moment};
 
 use origin_site::Site;
 use script_lines::{Reply, ReplyBody};
@@ -21,46 +21,41 @@ pub fn ticked(now: u64) -> Reply
     }
 }
 
-/// A reply without further members.
-pub fn plain(name: &'static str, is: &'static str, site: Option<Site>) -> Reply
-    ensures { reply_of result ≡ record { name = name.now; site = option_map plain_site site; body = reply_text.Plain is.now } }
+/// A reply that is of no site.
+pub fn refused(name: &'static str, is: &'static str) -> Reply
+    ensures { reply_of result ≡ record { name = name.now; site = None; body = reply_text.Plain is.now } }
 {
     Reply {
         name,
-        site,
-        body: ReplyBody::Plain { is },
+        site: None,
+        body: answer(is),
     }
 }
 
-/// The reply to a load that sent no cookie and stored none.
-pub fn load(alloc: Global, name: &'static str, site: Site) -> Reply
-    ensures { reply_of result ≡ record { name = name.now; site = Some (plain_site site); body = reply_text.Load None [] } }
+/// A reply of a site.
+pub fn replied(name: &'static str, site: Site, body: ReplyBody) -> Reply
+    ensures { reply_of result ≡ record { name = name.now; site = Some (plain_site site); body = body_of body } }
 {
     Reply {
         name,
         site: Some(site),
-        body: loaded(alloc),
+        body,
     }
 }
 
-/// The answer to such a load.
+/// An answer alone.
+pub fn answer(is: &'static str) -> ReplyBody
+    ensures { body_of result ≡ reply_text.Plain is.now }
+{
+    ReplyBody::Plain { is }
+}
+
+/// The answer to a load that sent no cookie and stored none.
 pub fn loaded(alloc: Global) -> ReplyBody
     ensures { body_of result ≡ reply_text.Load None [] }
 {
     ReplyBody::Load {
         cookie: None,
         set: Vec::new(alloc),
-    }
-}
-
-/// The reply of a look-up.
-pub fn text(name: &'static str, site: Site, value: Option<String>) -> Reply
-    ensures { let body = reply_text.Text (option_map string_bytes value) in
-        reply_of result ≡ record { name = name.now; site = Some (plain_site site); body = body } }
-{
-    Reply {
-        name,
-        site: Some(site),
-        body: ReplyBody::Text { value },
     }
 }

@@ -1,19 +1,22 @@
 -- The facts that the general law asks of this machine, and the law.
 use Rattle.std.proofs.Common.{◌≡◌, ℕ, Bool, true, false, cond, List, [], ◌∷◌, ◌++◌, Option, Some, None, refl, sym, ap, subst, ◌∙◌}
-use Rattle.std.specs.Prelude.{filter}
+use Rattle.std.proofs.lemmas.Bool.{true≢false}
+use Rattle.std.specs.Prelude.{filter, is_some}
 use Rattle.unwinding.specs.World.{SiteReply, of_site}
-use Rattle.origin_site.specs.Site.{PlainSite, same_plain_site}
-use Rattle.script_lines.specs.Reply.{reply_text}
-use Rattle.agent_model.specs.Partition.{Partition}
-use Rattle.agent_model.specs.SiteStep.{Answer, TimedEvent, Leaves, Nothing, site_step}
-use Rattle.origin_site.specs.Site.{site_of_address}
-use Rattle.agent_model.specs.Lines.{AgentWorld, side_event, is_left, site_at}
-use Rattle.unwinding.specs.Machine.{WorldOf}
 use Rattle.unwinding.specs.Facts.{Facts, IsQuiet}
 use Rattle.unwinding.proofs.EpochReplies.{lines_replies}
 use Rattle.suffix_list.specs.Suffix.{Rule}
-use Rattle.script_lines.specs.Script.{PlainAction, Tick, Open, Close, Go, Frame, Nav, Drop, Click, Set, Get}
+use Rattle.origin_site.specs.Site.{PlainSite, same_plain_site, site_of_address}
 use Rattle.origin_site.proofs.SameLemmas.{same_plain_site-Decides}
+use Rattle.live_state.specs.Tabs.{PlainTab}
+use Rattle.script_lines.specs.Reply.{reply_text}
+use Rattle.script_lines.specs.Script.{PlainAction, Open, Close, Go}
+use Rattle.agent_model.specs.Partition.{tab_named}
+use Rattle.agent_model.specs.SiteEvent.{Leaves, Copies, Closes, TimedEvent, Answer}
+use Rattle.agent_model.specs.Sessions.{has_session}
+use Rattle.agent_model.specs.SiteStep.{site_step, close_at}
+use Rattle.agent_model.specs.Lines.{AgentWorld, site_at, timed}
+use Rattle.agent_model.specs.SideEvents.{where_so, copies, leaves, closes, side_event}
 use Rattle.agent_model.specs.TheMachine.{machine, beginning}
 use Rattle.agent_model.specs.Isolation.{IsIsolated, HasIsolatedLines, replies_to, answers_of, local_script, site_run, is_of, text_of, lines_of_site, lines_alone, printed}
 
@@ -21,29 +24,53 @@ use Rattle.agent_model.specs.Isolation.{IsIsolated, HasIsolatedLines, replies_to
 abbrev IsSound : AgentWorld → Type 0
 IsSound world = Unit {0}
 
-quiet : (rules : List Rule) (w : AgentWorld) (l : PlainAction) (s : PlainSite) (e : TimedEvent)
-    → side_event rules w l s ≡ Some e → IsQuiet (machine rules) w.cells (w.partition s) e
-unfolding machine side_event site_step
-quiet rules w (Tick n) s e is = cc
-quiet rules w (Open tab url method) s e is = cc
-quiet rules w (Close tab) s e is = cc
-quiet rules w (Frame at parent url sandbox deny) s e is = cc
-quiet rules w (Nav at url by_self method) s e is = cc
-quiet rules w (Drop at) s e is = cc
-quiet rules w (Click at) s e is = cc
-quiet rules w (Set at key value) s e is = cc
-quiet rules w (Get at key) s e is = cc
-quiet rules w (Go tab url by_page method) s e is = at (is_left s (site_at tab w.rest.places) (site_of_address rules url)) is
-  where
-    leaves : TimedEvent
-    leaves = record { moment = w.rest.now; event = Leaves tab }
+module _ (rules : List Rule) (w : AgentWorld) (s : PlainSite) where
+  -- an event is quiet at a site
+  abbrev IsQuietHere : TimedEvent → Type 0
+  IsQuietHere e = IsQuiet (machine rules) w.cells (w.partition s) e
 
-    of : (d : TimedEvent) → ◌≡◌ {A = Option TimedEvent} (Some leaves) (Some d) → leaves ≡ d
-    of d is = cc
+  without_reply : (e : TimedEvent) → (site_step rules (w.partition s) tt e).reply ≡ None → (site_step rules (w.partition s) tt e).changes ≡ [] → IsQuietHere e
+  unfolding machine
+  without_reply e reply changes = record { names_none = refl; sweeps_none = refl; no_reply = reply; no_changes = changes }
 
-    at : (b : Bool) → cond b (Some leaves) None ≡ Some e → IsQuiet (machine rules) w.cells (w.partition s) e
-    at true is = subst (λ d. IsQuiet (machine rules) w.cells (w.partition s) d) (of e is) (record { names_none = refl; sweeps_none = refl; no_reply = refl; no_changes = refl })
-    at false is = cc
+  -- an event that occurs where something is so
+  so_quiet : (so : Bool) (d e : TimedEvent) → (so ≡ true → IsQuietHere d) → where_so so d ≡ Some e → IsQuietHere e
+  so_quiet true d e quiet is =
+      let same : d ≡ e = cc in
+      subst IsQuietHere same (quiet refl)
+  so_quiet false d e quiet is = cc
+
+  copies_quiet : (tab : ℕ) (opener : Option ℕ) (noopener : Bool) (here : Option PlainSite) (e : TimedEvent)
+      → copies w tab opener noopener here s ≡ Some e → IsQuietHere e
+  unfolding site_step
+  copies_quiet tab (Some opener) false None e is = so_quiet _ (timed w (Copies opener tab)) e (λ so. without_reply (timed w (Copies opener tab)) refl refl) is
+  copies_quiet tab (Some opener) false (Some here) e is = cc
+  copies_quiet tab (Some opener) true here e is = cc
+  copies_quiet tab None noopener here e is = cc
+
+  leaves_quiet : (tab : ℕ) (here : Option PlainSite) (target : PlainSite) (e : TimedEvent) → leaves w tab here target s ≡ Some e → IsQuietHere e
+  unfolding site_step
+  leaves_quiet tab here target e is = so_quiet _ (timed w (Leaves tab)) e (λ so. without_reply (timed w (Leaves tab)) refl refl) is
+
+  -- a tab is closed quietly at a site that it is not at
+  close_quiet : (tab : ℕ) (there : Option PlainTab) → tab_named tab (w.partition s).held ≡ there
+      → cond (is_some there) false (has_session tab (w.partition s).held) ≡ true → IsQuietHere (timed w (Closes tab))
+  unfolding site_step
+  close_quiet tab None is so =
+      without_reply (timed w (Closes tab))
+      (ap (λ (t : Option PlainTab). (close_at tab t (w.partition s)).reply) is) (ap (λ (t : Option PlainTab). (close_at tab t (w.partition s)).changes) is)
+  close_quiet tab (Some closed) is so = absurd (true≢false (sym so))
+
+  closes_quiet : (tab : ℕ) (here : Option PlainSite) (e : TimedEvent) → closes w tab here s ≡ Some e → IsQuietHere e
+  closes_quiet tab None e is = cc
+  closes_quiet tab (Some here) e is = so_quiet _ (timed w (Closes tab)) e (close_quiet tab (tab_named tab (w.partition s).held) refl) is
+
+quiet : (rules : List Rule) (w : AgentWorld) (l : PlainAction) (s : PlainSite) (e : TimedEvent) → side_event rules w l s ≡ Some e → IsQuietHere rules w s e
+unfolding side_event
+quiet rules w (Open tab url opener noopener method) s e is = copies_quiet rules w s tab opener noopener (site_at tab w.rest.places) e is
+quiet rules w (Go tab url by_page method) s e is = leaves_quiet rules w s tab (site_at tab w.rest.places) (site_of_address rules url) e is
+quiet rules w (Close tab) s e is = closes_quiet rules w s tab (site_at tab w.rest.places) e is
+quiet rules w action s e is = cc
 
 pub facts : (rules : List Rule) → Facts (machine rules) IsSound
 unfolding machine

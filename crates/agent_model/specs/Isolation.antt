@@ -8,7 +8,7 @@ use Rattle.origin_site.specs.Site.{PlainSite, same_plain_site}
 use Rattle.script_lines.specs.Script.{PlainAction}
 use Rattle.script_lines.specs.Reply.{PlainReply, reply_text}
 use Rattle.agent_model.specs.Partition.{Partition}
-use Rattle.agent_model.specs.SiteStep.{TimedEvent, Answer, Nothing}
+use Rattle.agent_model.specs.SiteEvent.{TimedEvent, Answer, Nothing}
 use Rattle.agent_model.specs.TheMachine.{machine, beginning}
 
 -- the replies to the lines of a script, each with the site that it belongs to
@@ -57,7 +57,8 @@ lines_of_site site told = text_of (filter (λ one. is_of site one.site) told)
 
 -- the text of answers of one site
 unfoldable pub lines_alone : PlainSite → List Answer → List ℕ
-lines_alone site answers = text_of (map (λ answer. record { site = Some site; reply = answer }) answers)
+lines_alone site answers =
+    text_of (map (λ answer. record { site = Some site; reply = answer }) answers)
 
 -- the answers to each site are those of its own machine
 abbrev pub IsIsolated : Type 0

@@ -1,58 +1,93 @@
--- What one site has: the tabs that are at it, with their frames, and the storage areas under it.
--- Source: Storage Standard, "Model"; HTML, "Web storage", where an area belongs to a storage key.
+-- What one site has: its open tabs, and the storage under it.
+-- Source: Storage Standard, "Model" (sheds, shelves, buckets and their modes); HTML, "Navigables"
+-- and "Web storage", where an area belongs to a storage key.
 -- Our own choice: storage is divided by the site of the top document first. A storage key has that
 -- site, so that the areas under a site are those whose key has it.
 use Rattle.std.specs.Prelude.{ℕ, List, Option}
-use Rattle.std.specs.Ordering.{nat_cmp}
+use Rattle.std.specs.Ordering.{nat_cmp, ordering_then}
+use Rattle.std.specs.declared.cmp.Ordering.{Ordering}
 use Rattle.std.specs.FinMap as map
 use Rattle.unwinding.specs.FiniteCells.{Full, get_cell, set_cell}
 use Rattle.origin_site.specs.Site.{PlainSite}
 use Rattle.storage_key.specs.Key.{PlainKey, key_order}
 use Rattle.local_area.specs.Area.{Pair}
-use Rattle.frame_tree.specs.Tree.{PlainFrame}
+use Rattle.storage_events.specs.declared.event.AreaKind.{AreaKind}
+use Rattle.storage_events.specs.declared.event.AreaKind.TheVariants.{Local, Session}
+use Rattle.live_state.specs.Tabs.{PlainTab}
+
+-- ---- areas
 
 -- an area for each storage key. One that is empty and one that is absent are the same.
 abbrev pub Areas : Type 0
 Areas = map.FinMap key_order (Full Pair)
 
--- no area
-unfoldable pub no_areas : Areas
-no_areas = map.empty
+-- session areas belong to a tab and a storage key
+abbrev pub SessionKey : Type 0
+SessionKey = ℕ × PlainKey
 
--- the pairs of a key's area, in their order
-abbrev pub area_of : PlainKey → Areas → List Pair
-area_of key areas = get_cell key_order areas key
+-- by tab, and then by key
+abbrev pub session_order : SessionKey → SessionKey → Ordering
+session_order a b = ordering_then (nat_cmp a.0 b.0) (key_order a.1 b.1)
 
--- the areas with one replaced
-abbrev pub with_area : PlainKey → List Pair → Areas → Areas
-with_area key pairs areas = set_cell key_order key pairs areas
+-- a session area for each tab and key. One that is empty and one that is absent are the same.
+abbrev pub SessionAreas : Type 0
+SessionAreas = map.FinMap session_order (Full Pair)
 
--- tabs by their numbers, each as the list of its frames
+-- the keys whose bucket is persistent. That of every other key is best-effort.
+abbrev pub Keys : Type 0
+Keys = map.FinMap key_order (Unit {0})
+
+-- ---- tabs
+
+-- open tabs by their numbers
 abbrev pub Tabs : Type 0
-Tabs = map.FinMap nat_cmp (List PlainFrame)
+Tabs = map.FinMap nat_cmp PlainTab
 
--- no tab
-unfoldable pub no_tabs : Tabs
-no_tabs = map.empty
+-- ---- what is held
 
--- the frames of a tab, the top first
-abbrev pub frames_of : ℕ → Tabs → Option (List PlainFrame)
-frames_of tab tabs = map.get tabs tab
+-- open tabs, and storage: local areas with the modes of their buckets, and session areas
+pub record Holdings : Type 0 where
+  pub tabs : Tabs
+  pub areas : Areas
+  pub persistent : Keys
+  pub sessions : SessionAreas
 
--- the tabs with these frames in one, which is there or new
-abbrev pub with_frames : ℕ → List PlainFrame → Tabs → Tabs
-with_frames tab frames tabs = map.insert tabs tab frames
+-- nothing at all
+unfoldable pub no_holdings : Holdings
+no_holdings =
+    record { tabs = map.empty; areas = map.empty; persistent = map.empty; sessions = map.empty }
 
--- the tabs without one
-abbrev pub without_tab : ℕ → Tabs → Tabs
-without_tab tab tabs = map.remove tabs tab
+-- the open tab of a number
+abbrev pub tab_named : ℕ → Holdings → Option PlainTab
+tab_named number held = map.get held.tabs number
+
+-- the holdings with this tab at a number, which is open or new
+abbrev pub with_tab : ℕ → PlainTab → Holdings → Holdings
+with_tab number tab held = record held { tabs = map.insert held.tabs number tab }
+
+-- the holdings without the tab of a number
+abbrev pub without_tab : ℕ → Holdings → Holdings
+without_tab number held = record held { tabs = map.remove held.tabs number }
+
+-- the pairs of an area of a tab's document, in their order
+abbrev pub area_of : AreaKind → ℕ → PlainKey → Holdings → List Pair
+area_of Local tab key held = get_cell key_order held.areas key
+area_of Session tab key held = get_cell session_order held.sessions (tab, key)
+
+-- the holdings with one area replaced
+abbrev pub with_area : AreaKind → ℕ → PlainKey → List Pair → Holdings → Holdings
+with_area Local tab key pairs held =
+    record held { areas = set_cell key_order key pairs held.areas }
+with_area Session tab key pairs held =
+    record held { sessions = set_cell session_order (tab, key) pairs held.sessions }
+
+-- ---- one site
 
 -- what one site has
 pub record Partition : Type 0 where
   pub site : PlainSite
-  pub tabs : Tabs
-  pub areas : Areas
+  pub held : Holdings
 
 -- a site that no tab has reached, and under which nothing is stored
 unfoldable pub empty_partition : PlainSite → Partition
-empty_partition site = record { site = site; tabs = no_tabs; areas = no_areas }
+empty_partition site = record { site = site; held = no_holdings }

@@ -5,8 +5,11 @@ use Rattle.suffix_list.specs.Suffix.{Rule}
 use Rattle.origin_site.specs.Site.{PlainSite, same_plain_site}
 use Rattle.script_lines.specs.Script.{PlainAction}
 use Rattle.agent_model.specs.Partition.{Partition, empty_partition}
-use Rattle.agent_model.specs.SiteStep.{TimedEvent, Answer, Nothing, site_step}
-use Rattle.agent_model.specs.Lines.{Rest, AgentWorld, no_places, main_event, side_event, refusal, rest_after}
+use Rattle.agent_model.specs.SiteEvent.{TimedEvent, Answer, Nothing}
+use Rattle.agent_model.specs.SiteStep.{site_step}
+use Rattle.agent_model.specs.Lines.{Rest, AgentWorld, no_places, main_event}
+use Rattle.agent_model.specs.SideEvents.{side_event}
+use Rattle.agent_model.specs.Rest.{refusal, rest_after}
 
 -- the machine under a list of rules. No event consults a cell.
 unfoldable pub machine : List Rule
@@ -37,4 +40,8 @@ machine rules =
 -- the world in which a run begins: no tab is open, and nothing is stored
 unfoldable pub beginning : ℕ → AgentWorld
 beginning start =
-    record { partition = empty_partition; cells = tt; rest = record { now = start; places = no_places } }
+    record {
+      partition = empty_partition;
+      cells = tt;
+      rest = record { now = start; places = no_places };
+    }

@@ -11,7 +11,7 @@ use Rattle.script_lines.specs.declared.script.Line.{Line}
 use Rattle.script_lines.specs.Script.{PlainAction}
 use Rattle.script_lines.specs.Plain.{action_of}
 use Rattle.script_lines.specs.Reply.{reply_text}
-use Rattle.agent_model.specs.SiteStep.{Answer}
+use Rattle.agent_model.specs.SiteEvent.{Answer}
 use Rattle.agent_model.specs.Lines.{AgentWorld}
 use Rattle.agent_model.specs.TheMachine.{machine, beginning}
 use Rattle.agent_model.specs.Isolation.{printed, text_of, replies_to, transcript}

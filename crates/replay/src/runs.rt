@@ -6,7 +6,7 @@ ghost use Rattle.unwinding.specs.World.{line_reply, world_step};
 ghost use Rattle.script_lines.specs.Plain.{action_of, line_of};
 ghost use Rattle.script_lines.specs.Reply.{reply_text};
 ghost use Rattle.agent_model.specs.Isolation.{printed, transcript};
-ghost use Rattle.agent_model.specs.Lines.{last_moment};
+ghost use Rattle.agent_model.specs.Rest.{last_moment};
 ghost use Rattle.agent_model.specs.TheMachine.{machine};
 ghost use Rattle.agent_core.specs.Standing.{world_of};
 ghost use Rattle.replay.specs.Runs.{ListRead, ScriptRead, Writes, WritesText, WritesUsage, HasSiteLines, ScriptCause, ListCause, ReadCause, LeavesScript, TellsFault};

@@ -10,7 +10,7 @@ use Rattle.script_lines.specs.Script.{PlainAction, PlainFault, NotJson, UnknownA
 use Rattle.script_lines.specs.Script.{LineTooLong, TooLong, NotUtf8, ReadFault, BadHeader, NoMemory}
 use Rattle.script_lines.specs.Fields.{Field, Mark, built, not_built, built_fields, Meanings, formed}
 use Rattle.script_lines.specs.Fields.{field_of, fields_of, given, has_headers, then_ok}
-use Rattle.script_lines.specs.Actions.{Row, When}
+use Rattle.script_lines.specs.Rows.{Row, When}
 use Rattle.script_lines.specs.Grammar.{action_by, action_by_fields, action_by_mark, action_named}
 use Rattle.script_lines.specs.Grammar.{action_of_bytes, first_unknown, is_blank, json_of, line_limit}
 use Rattle.script_lines.specs.Grammar.{line_of_bytes, lines_from, lines_of, refused, row_named}

@@ -10,7 +10,7 @@ use Rattle.script_lines.specs.declared.words.Prompt.TheVariants.{Dismiss}
 use Rattle.script_lines.specs.Script.{PlainFault, BadField, BadHeader}
 use Rattle.script_lines.specs.Pairs.{each_of, rise_from}
 use Rattle.script_lines.specs.Fields.{Field, Meaning, field_of, required, defaulted, built, whole}
-use Rattle.script_lines.specs.Fields.{any_text, truth, site_name, method_name, header_list, area_name}
+use Rattle.script_lines.specs.Fields.{truth, site_name, method_name, header_list, area_name}
 use Rattle.script_lines.specs.Fields.{loader, navigator, prompt_answer, consent, cut_list, optional}
 
 -- what the member `a` of a line is

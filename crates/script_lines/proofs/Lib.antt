@@ -1,4 +1,5 @@
 pub mod StandardFacts
+pub mod ActionFacts
 pub mod FieldFacts
 pub mod ReplyFacts
 pub mod LineLemmas
@@ -6,4 +7,4 @@ pub mod MemberLemmas
 pub mod ReplyLemmas
 pub mod FaultLemmas
 pub mod PairLemmas
-pub mod RowLemmas
+pub mod NameLemmas

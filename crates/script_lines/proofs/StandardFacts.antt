@@ -1,6 +1,6 @@
 -- Values of the script and reply formats, so that a wrong rule in the specs does not check.
 use Rattle.std.proofs.Common.{◌≡◌, ◌∙◌, refl, ap, length, ℕ, List, [], ◌∷◌}
-use Rattle.std.proofs.Common.{Some, None, Result, Ok, Err, true, false}
+use Rattle.std.proofs.Common.{None, Result, Ok, Err, true, false}
 use Rattle.std.specs.Prelude.{codes, nat_lt, not}
 use Rattle.std.proofs.lemmas.Bool.{cond-true, cond-false}
 use Rattle.std.specs.Str.{is_utf8, chars}
@@ -10,7 +10,9 @@ use Rattle.serde_json.specs.Read.{read}
 use Rattle.script_lines.specs.Script.{PlainAction, Tick, Open, Set, Get, PlainFault, NotJson}
 use Rattle.script_lines.specs.Script.{UnknownAction, BadField, LineTooLong, TooLong, NotUtf8}
 use Rattle.script_lines.specs.Fields.{then_ok}
-use Rattle.script_lines.specs.Actions.{table, label}
+use Rattle.script_lines.specs.Actions.{table}
+use Rattle.script_lines.specs.Rows.{label}
+use Rattle.storage_events.specs.declared.event.AreaKind.TheVariants.{Local}
 use Rattle.script_lines.specs.declared.words.Method.TheVariants as method
 use Rattle.script_lines.specs.Grammar.{json_of, action_of_bytes, action_of_data}
 use Rattle.script_lines.specs.Grammar.{lines_from, line_of_bytes, lines_of, script_of_bytes}
@@ -26,7 +28,7 @@ opens : line (codes "{\"do\":\"open\",\"tab\":1,\"url\":\"https://a.test\"}") �
   host = codes "a.test";
   port = 443;
   path = codes "/";
-}) method.Get)
+}) None false method.Get)
 unfolding table serde_json_on_literals url_on_literals
 opens = refl
 
@@ -39,11 +41,11 @@ unfolding table serde_json_on_literals
 ticks_too_far = refl
 
 -- members may stand in any order, and of two of one name the later counts
-sets : line (codes "{\"value\":\"v\",\"key\":\"k\",\"tab\":1,\"do\":\"set\",\"tab\":65535}") ≡ Ok (Set (label 65535 0) (codes "k") (codes "v"))
+sets : line (codes "{\"value\":\"v\",\"key\":\"k\",\"tab\":1,\"do\":\"set\",\"tab\":65535}") ≡ Ok (Set (label 65535 0) Local (codes "k") (codes "v"))
 unfolding table serde_json_on_literals
 sets = refl
 
-gets : line (codes " {\"do\":\"get\",\"tab\":2,\"key\":\"\"}\r") ≡ Ok (Get (label 2 0) [])
+gets : line (codes " {\"do\":\"get\",\"tab\":2,\"key\":\"\"}\r") ≡ Ok (Get (label 2 0) Local [])
 unfolding table serde_json_on_literals
 gets = refl
 
@@ -74,7 +76,7 @@ unfolding table serde_json_on_literals
 unknown_members = refl
 
 -- a row that is not built, and a field that is not built
-not_built_row : line (codes "{\"do\":\"evict\",\"site\":\"https://a.test\"}") ≡ Err (UnknownAction 1)
+not_built_row : line (codes "{\"do\":\"cookie\",\"tab\":1}") ≡ Err (UnknownAction 1)
 unfolding table serde_json_on_literals
 not_built_row = refl
 

@@ -15,7 +15,8 @@ use Rattle.script_lines.specs.Script.{PlainAction, PlainLine, PlainScript, Plain
 use Rattle.script_lines.specs.Script.{UnknownAction, BadField, LineTooLong, TooLong, NotUtf8}
 use Rattle.script_lines.specs.Fields.{Field, Mark, built, not_built, built_fields, Meanings}
 use Rattle.script_lines.specs.Fields.{then_ok, fields_of}
-use Rattle.script_lines.specs.Actions.{Row, When, table}
+use Rattle.script_lines.specs.Rows.{Row, When}
+use Rattle.script_lines.specs.Actions.{table}
 
 -- the most bytes of a script
 abbrev pub script_limit : ℕ

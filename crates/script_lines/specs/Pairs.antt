@@ -4,7 +4,7 @@
 -- calls of cuts rise.
 use Rattle.std.specs.Prelude.{ℕ, ◌+◌, Bool, true, not, ◌||◌, ◌&&◌, ◌==◌, nat_le, List, [], ◌∷◌, length}
 use Rattle.std.specs.Prelude.{Option, Some, None, option_and_then, if◌then◌else◌}
-use Rattle.std.specs.List.{list_all, list_any}
+use Rattle.std.specs.List.{list_any}
 use Rattle.disk_model.specs.declared.schedule.Cut.{Cut}
 use Rattle.http_header.specs.FieldName.{is_field_name}
 use Rattle.serde_json.specs.Data.{Data, Items, no_items, item}

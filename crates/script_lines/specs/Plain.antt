@@ -7,17 +7,12 @@ use Rattle.storage_events.specs.Event.{plain_event}
 use Rattle.script_lines.specs.Script.{PlainAction, PlainHeadPair, PlainLine, PlainScript}
 use Rattle.script_lines.specs.Script.{PlainFault}
 use Rattle.script_lines.specs.Script as plain
-use Rattle.script_lines.specs.Actions as table
-use Rattle.script_lines.specs.Actions.{Row}
 use Rattle.script_lines.specs.Grammar.{script_of_bytes}
 use Rattle.script_lines.specs.Reply.{PlainBody, PlainReply}
 use Rattle.script_lines.specs.Reply as plain_reply
-use Rattle.script_lines.specs.declared.actions.ActionName.{ActionName}
-use Rattle.script_lines.specs.declared.actions.ActionName.TheVariants as name
-use Rattle.script_lines.specs.declared.script.Action.{Action}
-use Rattle.script_lines.specs.declared.script.Action.TheVariants.{Tick, Open, Close, Go, Frame}
-use Rattle.script_lines.specs.declared.script.Action.TheVariants.{Nav, Drop, Click, Set, Get}
-use Rattle.script_lines.specs.declared.script.HeadPair.{HeadPair}
+use Rattle.script_lines.specs.declared.action.Action.{Action}
+use Rattle.script_lines.specs.declared.action.Action.TheVariants as action
+use Rattle.script_lines.specs.declared.action.HeadPair.{HeadPair}
 use Rattle.script_lines.specs.declared.script.Line.{Line}
 use Rattle.script_lines.specs.declared.script.Script.{Script}
 use Rattle.script_lines.specs.declared.script.ScriptFault.{ScriptFault}
@@ -37,46 +32,28 @@ head_pair_of pair = record { name = string_bytes pair.name; value = string_bytes
 
 -- an action
 abbrev pub action_of : Action → PlainAction
-action_of (Tick s) = plain.Tick s
-action_of (Open tab url method) = plain.Open tab (plain_address url) method
-action_of (Close tab) = plain.Close tab
-action_of (Go tab url by_page method) = plain.Go tab (plain_address url) by_page method
-action_of (Frame at parent url sandbox deny) =
+action_of (action.Tick s) = plain.Tick s
+action_of (action.Open tab url opener noopener method) =
+    plain.Open tab (plain_address url) opener noopener method
+action_of (action.Close tab) = plain.Close tab
+action_of (action.Go tab url by_page method) = plain.Go tab (plain_address url) by_page method
+action_of (action.Frame at parent url sandbox deny) =
     plain.Frame at parent (plain_address url) (option_map string_bytes sandbox) deny
-action_of (Nav at url by_self method) = plain.Nav at (plain_address url) by_self method
-action_of (Drop at) = plain.Drop at
-action_of (Click at) = plain.Click at
-action_of (Set at key value) = plain.Set at (string_bytes key) (string_bytes value)
-action_of (Get at key) = plain.Get at (string_bytes key)
-
--- the row of the table that a name stands for
-abbrev pub row_of : ActionName → Row
-row_of name.Disk = table.disk_row
-row_of name.Tick = table.tick_row
-row_of name.Restart = table.restart_row
-row_of name.Open = table.open_row
-row_of name.Close = table.close_row
-row_of name.Go = table.go_row
-row_of name.Frame = table.frame_row
-row_of name.Nav = table.nav_row
-row_of name.Drop = table.drop_row
-row_of name.Click = table.click_row
-row_of name.Fetch = table.fetch_row
-row_of name.Set = table.set_row
-row_of name.Get = table.get_row
-row_of name.Del = table.del_row
-row_of name.Clear = table.whole_area_row
-row_of name.Len = table.whole_area_row
-row_of name.Key = table.key_row
-row_of name.Events = table.document_row
-row_of name.Cookie = table.document_row
-row_of name.Has = table.document_row
-row_of name.Persisted = table.document_row
-row_of name.Estimate = table.document_row
-row_of name.SetCookie = table.setcookie_row
-row_of name.Request = table.request_row
-row_of name.Persist = table.persist_row
-row_of name.Evict = table.evict_row
+action_of (action.Nav at url by_self method) = plain.Nav at (plain_address url) by_self method
+action_of (action.Drop at) = plain.Drop at
+action_of (action.Click at) = plain.Click at
+action_of (action.Set at area key value) =
+    plain.Set at area (string_bytes key) (string_bytes value)
+action_of (action.Get at area key) = plain.Get at area (string_bytes key)
+action_of (action.Del at area key) = plain.Del at area (string_bytes key)
+action_of (action.Clear at area) = plain.Clear at area
+action_of (action.Len at area) = plain.Len at area
+action_of (action.Key at area n) = plain.Key at area n
+action_of (action.Events at) = plain.Events at
+action_of (action.Persisted at) = plain.Persisted at
+action_of (action.Estimate at) = plain.Estimate at
+action_of (action.Persist at answer) = plain.Persist at answer
+action_of (action.Evict site) = plain.Evict (plain_site site)
 
 -- a line
 abbrev pub line_of : Line → PlainLine

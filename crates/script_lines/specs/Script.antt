@@ -2,28 +2,59 @@
 use Rattle.std.specs.Prelude.{ℕ, Bool, List, Option}
 use Rattle.agent_base.specs.declared.refusals.Label.{Label}
 use Rattle.origin_site.specs.Address.{PlainAddress}
+use Rattle.origin_site.specs.Site.{PlainSite}
+use Rattle.storage_events.specs.declared.event.AreaKind.{AreaKind}
 use Rattle.script_lines.specs.declared.words.Method.{Method}
+use Rattle.script_lines.specs.declared.words.Prompt.{Prompt}
 
 -- a header field that a load's response has: its name and its value, as they are written
 pub record PlainHeadPair : Type 0 where
   pub name : List ℕ
   pub value : List ℕ
 
--- what a line asks for. The clock is moved by so many seconds. A tab is opened with a top document,
--- is closed, or goes to another one. A frame is added to a tab, navigates, is dropped or clicked. An
--- area of a document, which is named by its tab and frame, is written and read.
+-- what a line asks for. A document is named by its tab and frame, and has two areas.
 pub data PlainAction : Type 0 where
+  -- the clock is moved by so many seconds
   Tick : (s : ℕ) → PlainAction
-  Open : (tab : ℕ) (url : PlainAddress) (method : Method) → PlainAction
+  -- a tab is opened with a top document. Its load is started by the opener's top document, or by
+  -- the user where there is no opener. With `noopener` it gets no copy of the opener's areas.
+  Open : (tab : ℕ) (url : PlainAddress) (opener : Option ℕ) (noopener : Bool) (method : Method)
+      → PlainAction
+  -- a tab is closed
   Close : (tab : ℕ) → PlainAction
+  -- a tab goes to another top document, which its page starts or the user
   Go : (tab : ℕ) (url : PlainAddress) (by_page : Bool) (method : Method) → PlainAction
+  -- a frame is added below a parent, with the text of its `sandbox` attribute
   Frame : (at : Label) (parent : ℕ) (url : PlainAddress) (sandbox : Option (List ℕ)) (deny : Bool)
       → PlainAction
+  -- a frame goes to another document, which its own document starts or its parent's
   Nav : (at : Label) (url : PlainAddress) (by_self : Bool) (method : Method) → PlainAction
+  -- a frame is removed
   Drop : (at : Label) → PlainAction
+  -- a user clicks on a document
   Click : (at : Label) → PlainAction
-  Set : (at : Label) (key value : List ℕ) → PlainAction
-  Get : (at : Label) (key : List ℕ) → PlainAction
+  -- a name of an area gets a value
+  Set : (at : Label) (area : AreaKind) (key value : List ℕ) → PlainAction
+  -- what is the value of a name of an area?
+  Get : (at : Label) (area : AreaKind) (key : List ℕ) → PlainAction
+  -- a name of an area is removed, with its value
+  Del : (at : Label) (area : AreaKind) (key : List ℕ) → PlainAction
+  -- an area is emptied
+  Clear : (at : Label) (area : AreaKind) → PlainAction
+  -- how many names has an area?
+  Len : (at : Label) (area : AreaKind) → PlainAction
+  -- which name stands at this place of an area, from 0?
+  Key : (at : Label) (area : AreaKind) (n : ℕ) → PlainAction
+  -- which storage events has a document, and how many were lost? It has none of them afterwards.
+  Events : (at : Label) → PlainAction
+  -- is the bucket of a document persistent?
+  Persisted : (at : Label) → PlainAction
+  -- what does the local area of a document weigh?
+  Estimate : (at : Label) → PlainAction
+  -- a document asks for a persistent bucket, and the user answers this. No line has `Dismiss` here.
+  Persist : (at : Label) (answer : Prompt) → PlainAction
+  -- the local areas under a top-level site are emptied, but for those of persistent buckets
+  Evict : (site : PlainSite) → PlainAction
 
 -- a line that is not skipped, with its number, from 1
 pub record PlainLine : Type 0 where

@@ -5,6 +5,7 @@
 //! whose texts are lists of bytes; the grammar is a table of actions with their fields.
 #![tactic(auto)]
 
+mod action;
 mod actions;
 mod fields;
 mod members;
@@ -12,12 +13,14 @@ mod pairs;
 mod printer;
 mod reader;
 mod reply;
+mod rows;
 mod script;
 #[cfg(test)]
 mod tests;
 mod words;
 
+pub use action::{Action, HeadPair};
 pub use printer::print;
 pub use reply::{Reply, ReplyBody};
-pub use script::{Action, HeadPair, Line, Script, ScriptFault};
+pub use script::{Line, Script, ScriptFault};
 pub use words::{Method, Prompt};

@@ -5,13 +5,13 @@ use std::alloc::Global;
 use std::test::Fail;
 
 // What reading these bytes answers.
-fn script_of(alloc: Global, bytes: Vec<u8>) -> Result<Script, ScriptFault> {
+pub fn script_of(alloc: Global, bytes: Vec<u8>) -> Result<Script, ScriptFault> {
     let mut source = MemSource::new(bytes, Vec::new(alloc));
     Script::read(alloc, &mut source)
 }
 
 // The message of a fault, through a copy of it.
-fn message_of(alloc: Global, why: &ScriptFault) -> Result<String, Fail> {
+pub fn message_of(alloc: Global, why: &ScriptFault) -> Result<String, Fail> {
     let copy = why.copy(alloc)?;
     Ok(format!(in alloc; "{copy}")?)
 }
@@ -91,7 +91,7 @@ const FAULTS: [(&[u8], &[u8]); 25] = [
         b"script line 1: bad field s",
     ),
     (
-        b"{\"do\":\"evict\",\"site\":\"https://a.test\"}",
+        b"{\"do\":\"cookie\",\"tab\":1}",
         b"script line 1: unknown action",
     ),
     (
@@ -126,7 +126,7 @@ fn line_text(alloc: Global, line: &Line) -> Result<String, Fail> {
 }
 
 // The same of each line.
-fn lines_text(alloc: Global, script: &Script) -> Result<String, Fail> {
+pub fn lines_text(alloc: Global, script: &Script) -> Result<String, Fail> {
     let mut shown = String::new(alloc);
     for line in &script.lines {
         shown.push_str(line_text(alloc, line)?.as_str())?;
@@ -147,8 +147,9 @@ const LINES: &[u8] = b"{\"do\":\"open\",\"tab\":65535,\"url\":\"https://a.test\"
     {\"key\":\"k\",\"do\":\"get\",\"tab\":1}";
 
 const ACTIONS: &str = "1 Open { tab: 65535, url: Address { text: \"https://a.test/\", \
-    https: true, ip: false, host: \"a.test\", port: 443, path: \"/\" }, method: Get }\n\
-    3 Get { at: Label { tab: 1, frame: 0 }, key: \"k\" }\n";
+    https: true, ip: false, host: \"a.test\", port: 443, path: \"/\" }, opener: None, \
+    noopener: false, method: Get }\n\
+    3 Get { at: Label { tab: 1, frame: 0 }, area: Local, key: \"k\" }\n";
 
 #[test]
 fn lines_of_a_script(rt: HostRuntime) -> Result<(), Fail> {

@@ -1,7 +1,7 @@
 use Rattle.std.proofs.Common.{ap, bytes_eq, option_map, ◌∙◌}
 use Rattle.script_lines.specs.Actions.{table}
-use Rattle.script_lines.specs.Plain.{row_of}
-use Rattle.script_lines.proofs.RowLemmas.{first_value-map, names}
+use Rattle.script_lines.specs.Names.{row_of}
+use Rattle.script_lines.proofs.NameLemmas.{first_value-map, names}
 use Rattle.script_lines.proofs.actions.action_named.Goals as goal
 
 pub returns : goal.returns

@@ -1,9 +1,15 @@
-use Rattle.std.proofs.Common.{refl}
-use Rattle.agent_model.specs.Partition.{empty_partition}
-use Rattle.agent_model.specs.TheMachine.{beginning}
-use Rattle.agent_core.specs.Standing.{partition_at, world_of}
+use Rattle.std.proofs.Common.{ap, ◌∙◌}
+use Rattle.agent_model.specs.Partition.{no_holdings}
+use Rattle.agent_model.specs.Lines.{no_places}
+use Rattle.agent_model.proofs.WorldBeginningLemmas.{beginning_placed, beginning_whole}
+use Rattle.agent_core.specs.Standing.{places_in}
+use Rattle.agent_core.proofs.OwnedLemmas.{owned_nothing}
+use Rattle.agent_core.proofs.StandingLemmas.{stands, world_is}
 use Rattle.agent_core.proofs.agent.Agent.new.Goals as goal
 
-pub returns : goal.returns
-unfolding world_of partition_at beginning empty_partition
-returns c = record { beginning = rw (c.new.ensures.items, c.new-2.ensures.items) refl; rules = refl }
+pub invariant_of-result : goal.invariant_of-result
+invariant_of-result c = stands _ no_places no_holdings (ap places_in c.new.ensures.tabs) c.new.ensures.held c.requires beginning_placed owned_nothing
+
+pub returns-clause-beginning : goal.returns-clause-beginning
+returns-clause-beginning c =
+    world_is _ no_places no_holdings (ap places_in c.new.ensures.tabs) c.new.ensures.held ∙ beginning_whole c.args.start

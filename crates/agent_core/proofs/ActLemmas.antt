@@ -1,0 +1,48 @@
+-- An action in an open tab that is done on its frames, or on the queue of a document.
+use Rattle.std.proofs.Common.{◌≡◌, ℕ, Bool, true, false, List, [], Some, None, ap}
+use Rattle.suffix_list.specs.Suffix.{Rule}
+use Rattle.agent_base.specs.declared.refusals.Label.{Label}
+use Rattle.live_state.specs.Tabs.{PlainTab}
+use Rattle.script_lines.specs.Reply.{PlainBody, Load}
+use Rattle.script_lines.specs.Script.{PlainAction, Frame, Nav, Drop, Click, Events}
+use Rattle.agent_model.specs.Partition.{Holdings}
+use Rattle.agent_model.specs.SiteEvent.{ok}
+use Rattle.agent_model.specs.Frames.{act_on_frames}
+use Rattle.agent_model.specs.Queues.{take_events}
+use Rattle.agent_model.specs.SiteStep.{act_in}
+use Rattle.agent_core.specs.Steps.{label_of}
+
+-- an action that loads a frame
+abbrev pub loads_frame : PlainAction → Bool
+loads_frame (Frame at parent url sandbox deny) = true
+loads_frame (Nav at url by_self method) = true
+loads_frame action = false
+
+-- an action on frames that loads none
+abbrev pub marks_frame : PlainAction → Bool
+marks_frame (Drop at) = true
+marks_frame (Click at) = true
+marks_frame action = false
+
+module _ (rules : List Rule) (now : ℕ) (at : Label) (tab : PlainTab) (held : Holdings) where
+  -- the action, by the document that it names and by its answer
+  named : (action : PlainAction) (own : Label) (body told : PlainBody) → Some own ≡ Some at → body ≡ told
+      → act_on_frames rules now action at.tab tab body held ≡ act_on_frames rules now action own.tab tab told held
+  named action own body told is same =
+      let label : at ≡ own = cc is in
+      λ i. act_on_frames rules now action (label i).tab tab (same i) held
+
+  pub load_acts : (action : PlainAction) (body : PlainBody) → loads_frame action ≡ true → label_of action ≡ Some at → body ≡ Load None []
+      → act_on_frames rules now action at.tab tab body held ≡ act_in rules now action tab held
+  load_acts (Frame own parent url sandbox deny) body is label told = named (Frame own parent url sandbox deny) own body (Load None []) label told
+  load_acts (Nav own url by_self method) body is label told = named (Nav own url by_self method) own body (Load None []) label told
+  load_acts action body is label told = absurd (cc is)
+
+  pub mark_acts : (action : PlainAction) (body : PlainBody) → marks_frame action ≡ true → label_of action ≡ Some at → body ≡ ok
+      → act_on_frames rules now action at.tab tab body held ≡ act_in rules now action tab held
+  mark_acts (Drop own) body is label told = named (Drop own) own body ok label told
+  mark_acts (Click own) body is label told = named (Click own) own body ok label told
+  mark_acts action body is label told = absurd (cc is)
+
+  pub take_acts : (own : Label) → label_of (Events own) ≡ Some at → take_events at tab held ≡ act_in rules now (Events own) tab held
+  take_acts own is = let label : at ≡ own = cc is in ap (λ l. take_events l tab held) label

@@ -1,0 +1,54 @@
+-- The tab and the document that a line names, where they are found.
+use Rattle.std.proofs.Common.{◌≡◌, ◌==◌, ℕ, Bool, true, false, cond, not, List, [], ◌∷◌, Option, Some, None, refl, sym, ap, ◌∙◌}
+use Rattle.std.specs.Prelude.{find, is_some, option_map}
+use Rattle.std.proofs.lemmas.Bool.{eq-eqb}
+use Rattle.frame_tree.specs.Document.{PlainDocument}
+use Rattle.frame_tree.specs.Tree.{PlainFrame, IsTree, document_of, has_frame, top_site}
+use Rattle.frame_tree.proofs.TopLemmas.{top-marked}
+use Rattle.live_state.specs.Queues.{frames_by}
+use Rattle.live_state.specs.Tabs.{PlainTab}
+use Rattle.live_state.proofs.ListLemmas.{is_some-find, is_some-map}
+use Rattle.agent_model.proofs.PlacedLemmas.{top_is}
+
+-- ---- tabs
+
+-- the frames that were found are those of the tab
+pub frames_found : (found : Option PlainTab) (frames : List PlainFrame) → Some frames ≡ option_map (λ t. t.frames) found → frames_by found ≡ frames
+frames_found None frames is = absurd (cc is)
+frames_found (Some tab) frames is = cc is
+
+-- and where there are none, no tab is open
+pub none_found : (found : Option PlainTab) → None ≡ option_map (λ t. t.frames) found → found ≡ None
+none_found None is = refl
+none_found (Some tab) is = absurd (cc is)
+
+-- an open tab has the frames that were found
+pub frames_are : (found : Option PlainTab) (frames : List PlainFrame) (tab : PlainTab) → Some frames ≡ option_map (λ t. t.frames) found → found ≡ Some tab → tab.frames ≡ frames
+frames_are found frames tab is there = sym (ap frames_by there) ∙ frames_found found frames is
+
+-- ---- documents
+
+-- a document is found where its frame is
+pub document_there : (frame : ℕ) (frames : List PlainFrame) → is_some (document_of frame frames) ≡ has_frame frame frames
+document_there frame frames = is_some-map (λ f. f.document) (find (λ f. f.frame == frame) frames) ∙ is_some-find (λ f. f.frame == frame) frames
+
+-- the top is frame 0: a change of every other frame leaves its site
+top_zero : (top : PlainFrame) (below : List PlainFrame) → IsTree (top ∷ below) → (top.frame == 0) ≡ true
+top_zero top below tree = at (top.frame == 0) kept
+  where
+    bare : PlainDocument → PlainDocument
+    bare document = record document { site = None }
+
+    kept : (cond (not (top.frame == 0)) (record top { document = bare top.document }) top).document.site ≡ top.document.site
+    kept = top-marked (λ f. not (f.frame == 0)) bare (λ f zero other. absurd (cc (ap not (eq-eqb f.frame 0 zero), other))) (top ∷ below) tree
+
+    at : (b : Bool) → (cond (not b) (record top { document = bare top.document }) top).document.site ≡ top.document.site → b ≡ true
+    at true same = refl
+    at false same = absurd (cc (ap is_some same, top_is (top ∷ below) tree))
+
+-- the document of frame 0 has the site of the top
+pub top_found : (frames : List PlainFrame) (document : PlainDocument) → IsTree frames → document_of 0 frames ≡ Some document → top_site frames ≡ document.site
+top_found [] document tree is = absurd tree
+top_found (top ∷ below) document tree is =
+    let found : Some top.document ≡ Some document = ap (λ b. option_map (λ (f : PlainFrame). f.document) (cond b (Some top) (find (λ f. f.frame == 0) below))) (sym (top_zero top below tree)) ∙ is in
+    cc found

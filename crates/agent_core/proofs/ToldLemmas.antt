@@ -1,0 +1,92 @@
+-- A change is told: what is sent to the documents of the list, and told to those of the map.
+use Rattle.std.proofs.Common.{◌≡◌, ◌||◌, ℕ, Bool, true, false, cond, List, [], ◌∷◌, map, Option, Some, None, refl, sym, ap, ◌∙◌}
+use Rattle.std.proofs.lemmas.Cmp.{nat_cmp_total}
+use Rattle.std.specs.Prelude.{find, option_map}
+use Rattle.std.specs.List.{list_any}
+use Rattle.std.specs.Ordering.{eq_by_cmp, nat_cmp}
+use Rattle.std.specs.FinMap.{nat_cmp-IsAntisymmetric, same_map}
+use Rattle.agent_base.specs.declared.refusals.Label.{Label}
+use Rattle.storage_key.specs.Key.{key_order}
+use Rattle.storage_events.specs.declared.event.AreaKind.{AreaKind}
+use Rattle.storage_events.specs.Audience.{audience, same_label}
+use Rattle.storage_events.specs.Event.{EventView}
+use Rattle.storage_events.specs.declared.event.Event.{Event}
+use Rattle.live_state.specs.Tabs.{PlainQueue, PlainTab, is_rising, tab_at}
+use Rattle.live_state.specs.Documents.{documents}
+use Rattle.live_state.specs.Queues.{plain_sent, event_for, label_of, queue_told, sent, with_queues}
+use Rattle.agent_model.specs.Documents.{Keyed, hears_at, told, told_queue, told_tab}
+use Rattle.agent_model.proofs.KeptLemmas.{get_mapped}
+use Rattle.agent_core.specs.Standing.{tabs_in}
+use Rattle.agent_core.specs.Kept.{AreTrees}
+use Rattle.agent_core.proofs.LiveLemmas.{number_found, tab_found}
+use Rattle.agent_core.proofs.TabLemmas.{queues_found}
+use Rattle.agent_core.proofs.MemberLemmas.{passes}
+use Rattle.agent_core.proofs.AudienceLemmas.{in_audience}
+
+-- one event for each of these documents
+abbrev pub each_told : EventView → List Label → List (Label × EventView)
+each_told event to = map (λ label. (label, event)) to
+
+-- a document that is among them has the event
+event_sent : (label : Label) (event : EventView) (to : List Label)
+    → event_for label (each_told event to) ≡ cond (list_any (λ l. same_label l label) to) (Some event) None
+event_sent label event [] = refl
+event_sent label event (l ∷ to) = at (same_label l label) (event_sent label event to)
+  where
+    at : (b : Bool) → event_for label (each_told event to) ≡ cond (list_any (λ l. same_label l label) to) (Some event) None
+        → option_map (λ entry. entry.1) (cond b (Some (l, event)) (find (λ entry. same_label entry.0 label) (each_told event to)))
+        ≡ cond (b || list_any (λ l. same_label l label) to) (Some event) None
+    at true later = refl
+    at false later = later
+
+-- events of the program that are such ones are for these documents
+pub labels_sent : (event : EventView) (to : List Label) (events : List (Label × Event)) → map plain_sent events ≡ each_told event to → map (λ e. e.0) events ≡ to
+labels_sent event to events is = sym (plain events) ∙ ap (map (λ e. e.0)) is ∙ told to
+  where
+    plain : (events : List (Label × Event)) → map (λ e. e.0) (map plain_sent events) ≡ map (λ e. e.0) events
+    plain [] = refl
+    plain (e ∷ events) = ap (λ l. e.0 ∷ l) (plain events)
+
+    told : (to : List Label) → map (λ e. e.0) (each_told event to) ≡ to
+    told [] = refl
+    told (label ∷ to) = ap (λ l. label ∷ l) (told to)
+
+module _ (kind : AreaKind) (writer : Keyed) (event : EventView) (tabs : List PlainTab) (rising : is_rising tabs ≡ true) (trees : AreTrees tabs) where
+  -- the documents that hear
+  abbrev hearers : List Label
+  hearers = audience (eq_by_cmp key_order) kind writer.at writer.key (documents tabs)
+
+  abbrev change : Label → PlainQueue → PlainQueue
+  change label queue = queue_told (event_for label (each_told event hearers)) queue
+
+  module _ (tab : PlainTab) (is : tab_at tab.number tabs ≡ Some tab) where
+    queue_sent : (queue : PlainQueue) → change (label_of tab queue) queue ≡ told_queue kind writer event tab.number tab queue
+    queue_sent queue =
+        ap (λ event. queue_told event queue) (event_sent (label_of tab queue) event hearers
+        ∙ ap (λ b. cond b (Some event) None) (in_audience kind writer (label_of tab queue) tabs rising trees
+        ∙ ap (passes (λ tab'. hears_at kind writer tab.number tab' queue.frame)) is))
+        ∙ at (hears_at kind writer tab.number tab queue.frame)
+      where
+        at : (b : Bool) → queue_told (cond b (Some event) None) queue ≡ cond b (queue_told (Some event) queue) queue
+        at true = refl
+        at false = refl
+
+    queues_sent : (queues : List PlainQueue) → map (λ queue. change (label_of tab queue) queue) queues ≡ map (told_queue kind writer event tab.number tab) queues
+    queues_sent [] = refl
+    queues_sent (queue ∷ queues) = λ i. queue_sent queue i ∷ queues_sent queues i
+
+  -- a tab that is sent the event is told
+  tab_sent : (number : ℕ) (found : Option PlainTab) → tab_at number tabs ≡ found
+      → option_map (with_queues change) found ≡ option_map (told_tab kind writer event number) found
+  tab_sent number None is = refl
+  tab_sent number (Some tab) is =
+      let same : tab.number ≡ number = number_found number tabs tab is in
+      ap (λ queues. Some (record tab { queues = queues })) (queues_sent tab (ap (λ n. tab_at n tabs) same ∙ is) tab.queues)
+      ∙ ap (λ n. Some (told_tab kind writer event n tab)) same
+
+  -- what is sent to the documents that hear, in the list, is told to every document of the map
+  pub tabs_after_send : tabs_in (sent (each_told event hearers) tabs) ≡ told kind writer event (tabs_in tabs)
+  tabs_after_send = same_map nat_cmp_total nat_cmp-IsAntisymmetric _ _ (λ q.
+      tab_found q (sent (each_told event hearers) tabs) ∙ queues_found change tabs q ∙ tab_sent q (tab_at q tabs) refl
+      ∙ sym (get_mapped nat_cmp nat_cmp_total nat_cmp-IsAntisymmetric (told_tab kind writer event) (tabs_in tabs) q
+      ∙ ap (option_map (told_tab kind writer event q)) (tab_found q tabs)))

@@ -1,0 +1,101 @@
+-- What is held after a change was stored and told.
+use Rattle.std.proofs.Common.{◌≡◌, ◌<◌, ◌≤◌, ◌⊎◌, inl, inr, ℕ, Bool, true, false, cond, List, Option, Some, None, Bor, refl, sym, ap, subst, ◌∙◌}
+use Rattle.std.proofs.lemmas.Bool.{le-ltb, lt-ltb}
+use Rattle.std.specs.Prelude.{codes, is_none, option_copied}
+use Rattle.std.specs.Ordering.{eq_by_cmp}
+use Rattle.agent_base.specs.declared.refusals.Label.{Label}
+use Rattle.storage_key.specs.Key.{PlainKey, key_order}
+use Rattle.local_area.specs.Area.{Pair, area_get, area_remove, area_weight, quota}
+use Rattle.local_area.specs.declared.area.AreaFault.{AreaFault}
+use Rattle.local_area.specs.declared.area.AreaFault.TheVariants as fault
+use Rattle.storage_events.specs.declared.event.AreaKind.{AreaKind}
+use Rattle.storage_events.specs.declared.event.AreaKind.TheVariants.{Local, Session}
+use Rattle.storage_events.specs.Audience.{audience}
+use Rattle.storage_events.specs.Event.{EventView}
+use Rattle.live_state.specs.Tabs.{is_rising}
+use Rattle.live_state.specs.Documents.{documents}
+use Rattle.live_state.specs.Queues.{sent}
+use Rattle.page_storage.specs.Stored.{held_with}
+use Rattle.script_lines.specs.Reply.{PlainBody, Plain}
+use Rattle.agent_model.specs.Partition.{Holdings, Tabs, with_area}
+use Rattle.agent_model.specs.SiteEvent.{answers, ok}
+use Rattle.agent_model.specs.AreaActions.{change_event, pairs_of, remove_by, remove_item, store, write}
+use Rattle.agent_model.specs.Documents.{Keyed, told}
+use Rattle.agent_core.specs.Standing.{places_in, tabs_in}
+use Rattle.agent_core.specs.Kept.{AreTrees, HoldingsView}
+use Rattle.agent_core.specs.Parts.{held_of}
+use Rattle.agent_core.specs.Steps.{IsDone}
+use Rattle.agent_core.proofs.DoneLemmas.{held_beside, tabs_held}
+use Rattle.agent_core.proofs.TabLemmas.{places_after_send}
+use Rattle.agent_core.proofs.ToldLemmas.{each_told, tabs_after_send}
+
+-- ---- a change is stored and told
+
+-- the tabs do not change where an area does
+tabs_kept : (kind : AreaKind) (tab : ℕ) (key : PlainKey) (pairs : List Pair) (held : Holdings) → (with_area kind tab key pairs held).tabs ≡ held.tabs
+tabs_kept Local tab key pairs held = refl
+tabs_kept Session tab key pairs held = refl
+
+module _ (event : EventView) (writer : Keyed) (change : List Pair → List Pair) (old mid new : HoldingsView) (trees : AreTrees mid.live.tabs)
+    (tabs : mid.live.tabs ≡ old.live.tabs) (entries : mid.storage ≡ old.storage) (rising : is_rising old.live.tabs ≡ true) where
+  -- the pairs of the area after the change, and what is held with them
+  abbrev pairs : List Pair
+  pairs = change (pairs_of event.area writer (held_of old))
+
+  abbrev with_pairs : Holdings → Holdings
+  with_pairs held = with_area event.area writer.at.tab writer.key (change (pairs_of event.area writer held)) held
+
+  -- the area has its pairs, and each document that hears is told
+  pub is_written : (seen : EventView) (events : List (Label × EventView)) (body : PlainBody) → seen ≡ event
+      → events ≡ each_told seen (audience (eq_by_cmp key_order) seen.area writer.at writer.key (documents old.live.tabs))
+      → new.live.tabs ≡ sent events mid.live.tabs → ((tabs : Tabs) → held_with tabs new.storage ≡ with_pairs (held_with tabs mid.storage))
+      → body ≡ ok → IsDone (write event.area writer pairs event (held_of old)) old new body
+  is_written seen events body is these after stored answer = record {
+    held =
+        held_beside (tabs_in old.live.tabs) (tabs_in new.live.tabs) new.storage
+        ∙ ap {A = Holdings} (λ held. record held { tabs = tabs_in new.live.tabs })
+        (stored (tabs_in old.live.tabs) ∙ ap (λ entries. with_pairs (held_with (tabs_in old.live.tabs) entries)) entries)
+        ∙ ap {B = Holdings} (λ tabs. record (with_pairs (held_of old)) { tabs = tabs })
+        (ap tabs_in (after ∙ λ i. sent ((these ∙ ap (λ e. each_told e (audience (eq_by_cmp key_order) e.area writer.at writer.key (documents old.live.tabs))) is) i) (tabs i))
+        ∙ tabs_after_send event.area writer event old.live.tabs rising (subst AreTrees tabs trees)
+        ∙ ap (told event.area writer event) (sym (tabs_kept event.area writer.at.tab writer.key pairs (held_of old) ∙ tabs_held (tabs_in old.live.tabs) old.storage)));
+    answer = answer;
+    places = ap places_in after ∙ places_after_send events mid.live.tabs ∙ ap places_in tabs;
+  }
+
+-- ---- within the quota
+
+module _ (kind : AreaKind) (writer : Keyed) (pairs : List Pair) (event : EventView) (held : Holdings) (old new : HoldingsView) (body : PlainBody) where
+  abbrev stores : Bool → Type 0
+  stores past = IsDone (cond past (answers (Plain (codes "quota")) held) (write kind writer pairs event held)) old new body
+
+  pub is_stored : area_weight pairs ≤ quota → IsDone (write kind writer pairs event held) old new body → IsDone (store kind writer pairs event held) old new body
+  is_stored within done = subst stores (sym (le-ltb quota (area_weight pairs) within)) done
+
+  pub is_refused : quota < area_weight pairs → IsDone (answers (Plain (codes "quota")) held) old new body → IsDone (store kind writer pairs event held) old new body
+  is_refused past done = subst stores (sym (lt-ltb quota (area_weight pairs) past)) done
+
+-- a refusal for the quota passes it
+pub is_past : (why : AreaFault) (said weight : ℕ) → why ≡ fault.Quota said → (why ≡ fault.NoMemory) ⊎ ((why ≡ fault.Quota weight) × (quota < weight)) → quota < weight
+is_past why said weight refused (inl none) = let differ : fault.Quota said ≡ fault.NoMemory = sym refused ∙ none in absurd (cc differ)
+is_past why said weight refused (inr past) = past.1
+
+-- ---- by what is there
+
+-- a reference to a text is there where the text is
+pub none_copied : {X : Type 0} (found : Option (Bor X)) → is_none (option_copied found) ≡ is_none found
+none_copied None = refl
+none_copied (Some found) = refl
+
+module _ (kind : AreaKind) (writer : Keyed) (name : List ℕ) (held : Holdings) where
+  -- a name that is there is removed
+  removes : (found : Option (List ℕ)) → is_none found ≡ false
+      → write kind writer (area_remove name (pairs_of kind writer held)) (change_event kind writer (Some name) found None) held ≡ remove_by found kind writer name held
+  removes None there = absurd (cc there)
+  removes (Some before) there = refl
+
+  pub is_removed : (found : Option (List ℕ)) (old new : HoldingsView) (body : PlainBody) → is_none found ≡ false → found ≡ area_get name (pairs_of kind writer held)
+      → IsDone (write kind writer (area_remove name (pairs_of kind writer held)) (change_event kind writer (Some name) found None) held) old new body
+      → IsDone (remove_item kind name writer held) old new body
+  is_removed found old new body there is done =
+      subst (λ done. IsDone done old new body) (removes found there ∙ ap (λ found. remove_by found kind writer name held) is) done

@@ -1,0 +1,22 @@
+use Rattle.std.proofs.Common.{ℕ, Ok, ap, subst, sym, ◌∙◌}
+use Rattle.std.specs.Prelude.{pos}
+use Rattle.script_lines.specs.Reply.{Now}
+use Rattle.script_lines.specs.Script.{Tick}
+use Rattle.agent_model.specs.Isolation.{printed}
+use Rattle.agent_model.proofs.WorldLemmas.{told_nowhere}
+use Rattle.agent_core.specs.Standing.{AgentState}
+use Rattle.agent_core.specs.Steps.{Runs}
+use Rattle.agent_core.proofs.StandingLemmas.{runs_from}
+use Rattle.agent_core.proofs.RunsLemmas.{runs_ticked}
+use Rattle.agent_core.proofs.agent.Agent.tick.Goals as goal
+
+pub returns : goal.returns
+returns c =
+    let here = c.self.inside in
+    let old : AgentState = record { rules = here.list.now.rules; now = here.now; tabs = here.held.live.tabs; entries = here.held.storage } in
+    let later = c.clock_after-now.ensures.value in
+    record {
+      runs = runs_from c.self.view_is
+          (subst (λ now. Runs (Tick c.args.s) old (record old { now = now }) (Ok c.ticked.result)) (sym later)
+          (runs_ticked old c.args.s c.ticked.result (c.ticked.ensures ∙ ap (λ (now : ℕ). printed (told_nowhere (Tick c.args.s) (Now (pos now)))) later)));
+    }

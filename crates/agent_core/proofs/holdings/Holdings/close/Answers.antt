@@ -1,0 +1,22 @@
+use Rattle.std.proofs.Common.{ap, sym, subst, ◌∙◌}
+use Rattle.page_storage.specs.Stored.{held_with, without_areas}
+use Rattle.agent_core.specs.Kept.{AreTrees}
+use Rattle.agent_core.specs.Standing.{places_in, tabs_in}
+use Rattle.agent_core.proofs.TabLemmas.{places_after_close, tabs_after_close}
+use Rattle.agent_core.proofs.TreeLemmas.{trees_after_close}
+use Rattle.agent_core.proofs.holdings.Holdings.close.Goals as goal
+
+pub invariant_of-self : goal.invariant_of-self
+invariant_of-self c =
+    subst (λ tabs. AreTrees tabs) (sym c.drop_tab.ensures.dropped) (trees_after_close c.args.tab c.self.inside.live.tabs c.self.invariant)
+
+pub returns-clause-held : goal.returns-clause-held
+unfolding held_with
+returns-clause-held c = rw (← c.self.view_is)
+    (c.close.ensures.closed (tabs_in c.drop_tab.new.self.tabs)
+    ∙ ap (λ tabs. let before = held_with tabs c.self.inside.storage in record before { sessions = without_areas c.args.tab before.sessions })
+    (ap tabs_in c.drop_tab.ensures.dropped ∙ tabs_after_close c.args.tab c.self.inside.live.tabs))
+
+pub returns-clause-places : goal.returns-clause-places
+returns-clause-places c = rw (← c.self.view_is)
+    (ap places_in c.drop_tab.ensures.dropped ∙ places_after_close c.args.tab c.self.inside.live.tabs)

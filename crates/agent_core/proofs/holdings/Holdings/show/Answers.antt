@@ -1,0 +1,50 @@
+use Rattle.std.proofs.Common.{List, Some, refl, ap, ◌∙◌}
+use Rattle.origin_site.specs.Plain.{plain_address}
+use Rattle.origin_site.specs.Site.{site_of_address}
+use Rattle.frame_tree.specs.Calls.{opened}
+use Rattle.live_state.specs.Tabs.{LiveView, PlainTab, tabs_put}
+use Rattle.page_storage.specs.Stored.{held_with}
+use Rattle.agent_model.specs.Lines.{placed}
+use Rattle.agent_model.specs.Sessions.{arrive}
+use Rattle.agent_core.specs.Kept.{HoldingsView}
+use Rattle.agent_core.specs.Parts.{held_of}
+use Rattle.agent_core.specs.Standing.{places_in, tabs_in}
+use Rattle.agent_core.specs.Steps.{with_copies}
+use Rattle.agent_core.proofs.DoneLemmas.{shown_held, shown_places, shown_trees}
+use Rattle.agent_core.proofs.holdings.Holdings.show.Goals as goal
+
+pub invariant_of-self-3 : goal.invariant_of-self-3
+invariant_of-self-3 c =
+    let rules = c.args.list.now.rules in
+    let middle : HoldingsView = record { live = c.self-2.inside.live; storage = c.self-2.inside.storage } in
+    let after : HoldingsView = record { live = c.put_tab.new.self; storage = c.self-2.inside.storage } in
+    shown_trees rules c.args.tab (plain_address c.args.url.now) middle after
+    (c.put_tab.ensures.put
+    ∙ ap (λ frames. tabs_put c.args.tab frames (Some 0) middle.live.tabs) (c.in_ok-made.ensures.opened ∙ ap (opened rules) c.in_ok-copy.ensures.same))
+    c.self-2.invariant
+
+pub returns-clause-held : goal.returns-clause-held
+returns-clause-held c =
+    let rules = c.args.list.now.rules in
+    let middle : HoldingsView = record { live = c.self-2.inside.live; storage = c.self-2.inside.storage } in
+    let after : HoldingsView = record { live = c.put_tab.new.self; storage = c.self-2.inside.storage } in
+    shown_held rules c.args.tab (plain_address c.args.url.now) middle after
+    (c.put_tab.ensures.put
+    ∙ ap (λ frames. tabs_put c.args.tab frames (Some 0) middle.live.tabs) (c.in_ok-made.ensures.opened ∙ ap (opened rules) c.in_ok-copy.ensures.same))
+    refl
+    ∙ ap (λ h. (arrive rules c.args.tab (plain_address c.args.url.now) h).held)
+    (ap held_of c.self-2.view_is ∙ c.in_ok-copy_areas.ensures.held
+    ∙ ap (λ (tabs : List PlainTab). with_copies c.args.opener c.args.tab tabs (held_with (tabs_in tabs) c.self.inside.storage)) c.in_ok-reserve.ensures.same.0
+    ∙ ap (λ (h : HoldingsView). with_copies c.args.opener c.args.tab h.live.tabs (held_of h)) c.self.view_is)
+
+pub returns-clause-places : goal.returns-clause-places
+returns-clause-places c =
+    let rules = c.args.list.now.rules in
+    let middle : HoldingsView = record { live = c.self-2.inside.live; storage = c.self-2.inside.storage } in
+    let after : HoldingsView = record { live = c.put_tab.new.self; storage = c.self-2.inside.storage } in
+    shown_places rules c.args.tab (plain_address c.args.url.now) middle after
+    (c.put_tab.ensures.put
+    ∙ ap (λ frames. tabs_put c.args.tab frames (Some 0) middle.live.tabs) (c.in_ok-made.ensures.opened ∙ ap (opened rules) c.in_ok-copy.ensures.same))
+    ∙ ap (λ (tabs : List PlainTab). placed c.args.tab (site_of_address rules (plain_address c.args.url.now)) (places_in tabs))
+    (ap (λ (h : HoldingsView). h.live.tabs) c.self-2.view_is ∙ ap (λ (l : LiveView). l.tabs) c.in_ok-copy_areas.ensures.live
+    ∙ c.in_ok-reserve.ensures.same.0 ∙ ap (λ (h : HoldingsView). h.live.tabs) c.self.view_is)

@@ -1,0 +1,139 @@
+//! Actions in an open tab.
+ghost use Rattle.std.specs.Prelude.{◌≡◌, ◌≤◌, Some};
+ghost use Rattle.storage_key.specs.Plain.{plain_key};
+ghost use Rattle.frame_tree.specs.Document.{PlainDocument};
+ghost use Rattle.live_state.specs.Tabs.{PlainTab, tab_at};
+ghost use Rattle.script_lines.specs.Plain.{action_of};
+ghost use Rattle.agent_model.specs.Partition as model;
+ghost use Rattle.agent_model.specs.Rest.{last_moment};
+ghost use Rattle.agent_model.specs.SiteEvent.{Done};
+ghost use Rattle.agent_model.specs.Documents.{Keyed, with_key};
+ghost use Rattle.agent_model.specs.SiteStep.{act_in, action_name};
+ghost use Rattle.agent_core.specs.Parts.{document_at, held_of};
+ghost use Rattle.agent_core.specs.Steps.{Acts, by_keyed, label_of};
+
+use crate::documents::{Found, key_at};
+use crate::holdings::Holdings;
+use crate::replies::{answer, loaded};
+use agent_base::{Label, NoMemory};
+use script_lines::{Action, ReplyBody};
+use std::alloc::Global;
+use storage_key::StorageKey;
+use suffix_list::SuffixList;
+
+/// The name of an action.
+pub fn name_of(action: &Action) -> &'static str
+    ensures { result.now ≡ action_name (action_of action.now) }
+{
+    match action {
+        Action::Tick { .. } => "tick",
+        Action::Open { .. } => "open",
+        Action::Close { .. } => "close",
+        Action::Go { .. } => "go",
+        Action::Frame { .. } => "frame",
+        Action::Nav { .. } => "nav",
+        Action::Drop { .. } => "drop",
+        Action::Click { .. } => "click",
+        Action::Set { .. } => "set",
+        Action::Get { .. } => "get",
+        Action::Del { .. } => "del",
+        Action::Clear { .. } => "clear",
+        Action::Len { .. } => "len",
+        Action::Key { .. } => "key",
+        Action::Events { .. } => "events",
+        Action::Persisted { .. } => "persisted",
+        Action::Estimate { .. } => "estimate",
+        Action::Persist { .. } => "persist",
+        Action::Evict { .. } => "evict",
+    }
+}
+
+impl Holdings {
+    /// Does an action in an open tab, at this moment.
+    pub fn act(
+        &mut self,
+        alloc: Global,
+        list: &SuffixList,
+        now: u64,
+        at: Label,
+        action: &Action,
+    ) -> Result<ReplyBody, NoMemory>
+        requires now { now ≤ last_moment }
+        requires named { label_of (action_of action.now) ≡ Some at }
+        ensures acts { (tab : PlainTab) → tab_at at.tab self.old.live.tabs ≡ Some tab
+            → Acts (act_in list.now.rules now (action_of action.now) tab (held_of self.old)) self.old self.new result }
+    {
+        match action {
+            Action::Frame { .. } | Action::Nav { .. } => {
+                self.act_on_frames(alloc, list, now, at, action, loaded(alloc))
+            }
+            Action::Drop { .. } | Action::Click { .. } => {
+                self.act_on_frames(alloc, list, now, at, action, answer("ok"))
+            }
+            Action::Events { .. } => Ok(self.take(at)),
+            _ => self.act_with_key(alloc, at, action),
+        }
+    }
+
+    // Does an action that is done with the storage key of its document.
+    fn act_with_key(
+        &mut self,
+        alloc: Global,
+        at: Label,
+        action: &Action,
+    ) -> Result<ReplyBody, NoMemory>
+        ensures acts { (tab : PlainTab) → tab_at at.tab self.old.live.tabs ≡ Some tab
+            → (done : Keyed → model.Holdings → Done) → by_keyed tab (action_of action.now) ≡ Some done
+            → Acts (with_key at tab done (held_of self.old)) self.old self.new result }
+    {
+        let Some(tab) = self.live.tab(at.tab) else {
+            return Err(NoMemory);
+        };
+        match key_at(alloc, tab, at.frame)? {
+            Found::NoFrame => Ok(answer("no-frame")),
+            Found::Opaque => Ok(answer("security")),
+            Found::Keyed(key) => self.act_under(alloc, at, key, action),
+        }
+    }
+
+    // Does such an action under this key.
+    fn act_under(
+        &mut self,
+        alloc: Global,
+        at: Label,
+        key: StorageKey,
+        action: &Action,
+    ) -> Result<ReplyBody, NoMemory>
+        ensures acts { (tab : PlainTab) → tab_at at.tab self.old.live.tabs ≡ Some tab
+            → (document : PlainDocument) → document_at at self.old.live.tabs ≡ Some document
+            → (done : Keyed → model.Holdings → Done) → by_keyed tab (action_of action.now) ≡ Some done
+            → let writer : Keyed = record { at = at; document = document; key = plain_key key } in
+            Acts (done writer (held_of self.old)) self.old self.new result }
+    {
+        match action {
+            Action::Set {
+                area,
+                key: name,
+                value,
+                ..
+            } => self.set(alloc, at, *area, key, name, value),
+            Action::Get {
+                area,
+                key: name,
+                ..
+            } => self.get(alloc, *area, at.tab, &key, name),
+            Action::Del {
+                area,
+                key: name,
+                ..
+            } => self.del(alloc, at, *area, key, name),
+            Action::Clear { area, .. } => self.clear(alloc, at, *area, key),
+            Action::Len { area, .. } => Ok(self.len(*area, at.tab, &key)),
+            Action::Key { area, n, .. } => self.name_at(alloc, *area, at.tab, &key, *n),
+            Action::Persisted { .. } => Ok(self.persisted(&key)),
+            Action::Estimate { .. } => Ok(self.estimate(&key)),
+            Action::Persist { answer, .. } => self.persist(at, key, *answer),
+            _ => Err(NoMemory),
+        }
+    }
+}

@@ -1,0 +1,202 @@
+//! Actions on the areas of a document.
+ghost use Rattle.std.specs.Prelude.{◌≡◌, ◌↔◌, IfOk, IsTrue, Some, length, option_copied, option_map, string_bytes};
+ghost use Rattle.storage_key.specs.Plain.{plain_key};
+ghost use Rattle.local_area.specs.Area.{area_get, area_nth, area_put};
+ghost use Rattle.frame_tree.specs.Document.{PlainDocument};
+ghost use Rattle.storage_events.specs.Event.{plain_event};
+ghost use Rattle.script_lines.specs.Plain.{body_of};
+ghost use Rattle.script_lines.specs.Reply as reply_text;
+ghost use Rattle.agent_model.specs.Partition.{area_of};
+ghost use Rattle.agent_model.specs.AreaActions.{clear_area, pairs_of, remove_item, set_item, store};
+ghost use Rattle.agent_model.specs.Documents.{Keyed};
+ghost use Rattle.agent_core.specs.Parts.{document_at, held_of};
+ghost use Rattle.agent_core.specs.Steps.{Acts};
+
+use crate::events::change;
+use crate::holdings::Holdings;
+use crate::replies::answer;
+use agent_base::{Label, NoMemory};
+use local_area::AreaFault;
+use script_lines::ReplyBody;
+use std::alloc::Global;
+use storage_events::{AreaKind, Event};
+use storage_key::StorageKey;
+
+impl Holdings {
+    // The value of a name in an area.
+    fn value(&self, area: AreaKind, tab: u16, key: &StorageKey, name: &str) -> Option<&str>
+        ensures value { option_copied result ≡ area_get name.now (area_of area tab (plain_key key.now) (held_of self.now)) }
+    {
+        match self.storage.area(area, tab, key) {
+            Some(pairs) => pairs.get(name),
+            None => None,
+        }
+    }
+
+    // The name at a place of an area.
+    fn name(&self, area: AreaKind, tab: u16, key: &StorageKey, n: u32) -> Option<&str>
+        ensures name { option_copied result ≡ area_nth n (area_of area tab (plain_key key.now) (held_of self.now)) }
+    {
+        match self.storage.area(area, tab, key) {
+            Some(pairs) => pairs.key(n),
+            None => None,
+        }
+    }
+
+    /// Answers the value of a name.
+    pub fn get(
+        &self,
+        alloc: Global,
+        area: AreaKind,
+        tab: u16,
+        key: &StorageKey,
+        name: &str,
+    ) -> Result<ReplyBody, NoMemory>
+        ensures body { let pairs = area_of area tab (plain_key key.now) (held_of self.now) in
+            IfOk result (λ body. body_of body ≡ reply_text.Text (area_get name.now pairs)) }
+    {
+        let value = copy_of(alloc, self.value(area, tab, key, name))?;
+        Ok(ReplyBody::Text { value })
+    }
+
+    /// Answers the name at a place.
+    pub fn name_at(
+        &self,
+        alloc: Global,
+        area: AreaKind,
+        tab: u16,
+        key: &StorageKey,
+        n: u32,
+    ) -> Result<ReplyBody, NoMemory>
+        ensures body { let pairs = area_of area tab (plain_key key.now) (held_of self.now) in
+            IfOk result (λ body. body_of body ≡ reply_text.Text (area_nth n pairs)) }
+    {
+        let value = copy_of(alloc, self.name(area, tab, key, n))?;
+        Ok(ReplyBody::Text { value })
+    }
+
+    /// Answers the number of pairs.
+    pub fn len(&self, area: AreaKind, tab: u16, key: &StorageKey) -> ReplyBody
+        ensures body { let pairs = area_of area tab (plain_key key.now) (held_of self.now) in
+            body_of result ≡ reply_text.Number (length pairs) }
+    {
+        let value = match self.storage.area(area, tab, key) {
+            Some(pairs) => pairs.len() as u64,
+            None => 0,
+        };
+        ReplyBody::Number { value }
+    }
+
+    /// Gives a name a value. Nothing happens where it has that value.
+    pub fn set(
+        &mut self,
+        alloc: Global,
+        at: Label,
+        area: AreaKind,
+        key: StorageKey,
+        name: &str,
+        value: &str,
+    ) -> Result<ReplyBody, NoMemory>
+        ensures acts { (document : PlainDocument) → document_at at self.old.live.tabs ≡ Some document
+            → let writer : Keyed = record { at = at; document = document; key = plain_key key } in
+            Acts (set_item area name.now value.now writer (held_of self.old)) self.old self.new result }
+    {
+        let before = self.value(area, at.tab, &key, name);
+        if is_text(before, value) {
+            return Ok(answer("ok"));
+        }
+        let event = change(alloc, area, Some(name), before, Some(value), self.url(at))?;
+        self.store(alloc, at, key, event, name, value)
+    }
+
+    // Stores a pair, and tells each document that hears of it.
+    fn store(
+        &mut self,
+        alloc: Global,
+        at: Label,
+        key: StorageKey,
+        event: Event,
+        name: &str,
+        value: &str,
+    ) -> Result<ReplyBody, NoMemory>
+        ensures acts { (document : PlainDocument) → document_at at self.old.live.tabs ≡ Some document
+            → let writer : Keyed = record { at = at; document = document; key = plain_key key } in
+            let pairs = area_put name.now value.now (pairs_of event.area writer (held_of self.old)) in
+            Acts (store event.area writer pairs (plain_event event) (held_of self.old)) self.old self.new result }
+    {
+        let events = self.broadcast(alloc, at, &key, &event)?;
+        let name = String::from_str(alloc, name)?;
+        let value = String::from_str(alloc, value)?;
+        match self.storage.put(event.area, at.tab, key, name, value) {
+            Ok(_) => {
+                self.live.send(events);
+                Ok(answer("ok"))
+            }
+            Err(AreaFault::Quota(_)) => Ok(answer("quota")),
+            Err(AreaFault::NoMemory) => Err(NoMemory),
+        }
+    }
+
+    /// Removes a name. Nothing happens where it is absent.
+    pub fn del(
+        &mut self,
+        alloc: Global,
+        at: Label,
+        area: AreaKind,
+        key: StorageKey,
+        name: &str,
+    ) -> Result<ReplyBody, NoMemory>
+        ensures acts { (document : PlainDocument) → document_at at self.old.live.tabs ≡ Some document
+            → let writer : Keyed = record { at = at; document = document; key = plain_key key } in
+            Acts (remove_item area name.now writer (held_of self.old)) self.old self.new result }
+    {
+        let before = self.value(area, at.tab, &key, name);
+        if before.is_none() {
+            return Ok(answer("ok"));
+        }
+        let event = change(alloc, area, Some(name), before, None, self.url(at))?;
+        let events = self.broadcast(alloc, at, &key, &event)?;
+        self.storage.remove(area, at.tab, key, name)?;
+        self.live.send(events);
+        Ok(answer("ok"))
+    }
+
+    /// Empties an area. That is told also where it was empty.
+    pub fn clear(
+        &mut self,
+        alloc: Global,
+        at: Label,
+        area: AreaKind,
+        key: StorageKey,
+    ) -> Result<ReplyBody, NoMemory>
+        ensures acts { (document : PlainDocument) → document_at at self.old.live.tabs ≡ Some document
+            → let writer : Keyed = record { at = at; document = document; key = plain_key key } in
+            Acts (clear_area area writer (held_of self.old)) self.old self.new result }
+    {
+        let event = change(alloc, area, None, None, None, self.url(at))?;
+        let events = self.broadcast(alloc, at, &key, &event)?;
+        self.storage.clear(area, at.tab, key)?;
+        self.live.send(events);
+        Ok(answer("ok"))
+    }
+}
+
+// Whether there is a text, and it is this one.
+fn is_text(found: Option<&str>, text: &str) -> bool
+    ensures { IsTrue result ↔ (option_copied found.entry ≡ Some text.now) }
+{
+    match found {
+        Some(found) => found == text,
+        None => false,
+    }
+}
+
+// A copy of a text, if there is one.
+fn copy_of(alloc: Global, text: Option<&str>) -> Result<Option<String>, NoMemory>
+    ensures { IfOk result (λ copy. option_map string_bytes copy ≡ option_copied text.entry) }
+{
+    match text {
+        Some(text) => Ok(Some(String::from_str(alloc, text)?)),
+        None => Ok(None),
+    }
+}

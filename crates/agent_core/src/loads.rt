@@ -1,0 +1,89 @@
+//! Loads of top documents, and tabs that are closed.
+ghost use Rattle.std.specs.Prelude.{◌≡◌, ℕ, false, IfOk, OnErr, OnOk, Some};
+ghost use Rattle.std.specs.FinMap as finite;
+ghost use Rattle.origin_site.specs.Plain.{plain_address, plain_site};
+ghost use Rattle.origin_site.specs.Site.{site_of_address};
+ghost use Rattle.live_state.specs.Tabs.{is_open};
+ghost use Rattle.agent_model.specs.Lines.{placed};
+ghost use Rattle.agent_model.specs.Sessions.{arrive, close, has_session};
+ghost use Rattle.agent_core.specs.Standing.{places_in};
+ghost use Rattle.agent_core.specs.Parts.{held_of};
+ghost use Rattle.agent_core.specs.Steps.{Stays, is_there, with_copies};
+
+use crate::documents::site_of_tab;
+use crate::holdings::Holdings;
+use agent_base::NoMemory;
+use frame_tree::Tab;
+use origin_site::{Address, Site};
+use std::alloc::Global;
+use suffix_list::SuffixList;
+
+impl Holdings {
+    /// Whether a tab is open.
+    pub fn is_open(&self, tab: u16) -> bool
+        ensures open { result ≡ is_open tab self.now.live.tabs }
+    {
+        self.live.tab(tab).is_some()
+    }
+
+    /// Whether the opener of a tab is open, if it has one.
+    pub fn is_there(&self, opener: Option<u16>) -> bool
+        ensures there { result ≡ is_there opener self.now.live.tabs }
+    {
+        match opener {
+            Some(opener) => self.is_open(opener),
+            None => true,
+        }
+    }
+
+    /// Shows an address alone in a tab, which is open or new. Answers the site that is reached.
+    pub fn show(
+        &mut self,
+        alloc: Global,
+        list: &SuffixList,
+        tab: u16,
+        url: &Address,
+        opener: Option<u16>,
+    ) -> Result<Site, NoMemory>
+        requires fresh { (from : ℕ) → opener ≡ Some from → has_session tab (held_of self.old) ≡ false }
+        ensures site { IfOk result (λ site. plain_site site ≡ site_of_address list.now.rules (plain_address url.now)) }
+        ensures held { let copied = with_copies opener tab self.old.live.tabs (held_of self.old) in
+            OnOk result (held_of self.new ≡ (arrive list.now.rules tab (plain_address url.now) copied).held) }
+        ensures places { let target = site_of_address list.now.rules (plain_address url.now) in
+            OnOk result (places_in self.new.live.tabs ≡ placed tab target (places_in self.old.live.tabs)) }
+        ensures unchanged { OnErr result (Stays self.old self.new) }
+    {
+        let made = Tab::new(alloc, url.copy(alloc)?, list)?;
+        let site = site_of_tab(alloc, &made)?;
+        self.live.reserve(tab)?;
+        self.copy_areas(alloc, opener, tab)?;
+        self.live.put_tab(tab, made, Some(0));
+        Ok(site)
+    }
+
+    // Copies the session areas of an opener, under the site that it is at, to a new tab.
+    fn copy_areas(&mut self, alloc: Global, opener: Option<u16>, tab: u16) -> Result<(), NoMemory>
+        requires fresh { (from : ℕ) → opener ≡ Some from → has_session tab (held_of self.old) ≡ false }
+        ensures held { OnOk result (held_of self.new ≡ with_copies opener tab self.old.live.tabs (held_of self.old)) }
+        ensures live { self.new.live ≡ self.old.live }
+        ensures unchanged { OnErr result (held_of self.new ≡ held_of self.old) }
+    {
+        let Some(opener) = opener else {
+            return Ok(());
+        };
+        let Some(found) = self.live.tab(opener) else {
+            return Ok(());
+        };
+        let site = site_of_tab(alloc, found)?;
+        self.storage.copy_tab(&site, opener, tab)
+    }
+
+    /// Closes a tab. Its session areas go with it.
+    pub fn close(&mut self, tab: u16)
+        ensures held { held_of self.new ≡ close tab (held_of self.old) }
+        ensures places { places_in self.new.live.tabs ≡ finite.remove (places_in self.old.live.tabs) tab }
+    {
+        self.storage.close(tab);
+        self.live.drop_tab(tab);
+    }
+}

@@ -1,0 +1,85 @@
+//! Actions on the buckets of documents.
+ghost use Rattle.std.specs.Prelude.{◌≡◌, Some};
+ghost use Rattle.storage_key.specs.Plain.{plain_key};
+ghost use Rattle.frame_tree.specs.Calls.{is_https_chain};
+ghost use Rattle.frame_tree.specs.Document.{PlainDocument};
+ghost use Rattle.local_area.specs.Area.{area_weight};
+ghost use Rattle.live_state.specs.Tabs.{PlainTab, tab_at};
+ghost use Rattle.script_lines.specs.Plain.{body_of};
+ghost use Rattle.script_lines.specs.Reply as reply_text;
+ghost use Rattle.storage_events.specs.declared.event.AreaKind.TheVariants.{Local};
+ghost use Rattle.agent_model.specs.Partition.{area_of};
+ghost use Rattle.agent_model.specs.Buckets.{is_grant, is_persistent, persist};
+ghost use Rattle.agent_core.specs.Parts.{held_of};
+ghost use Rattle.agent_core.specs.Steps.{Acts};
+
+use crate::holdings::Holdings;
+use crate::replies::answer;
+use agent_base::{Label, NoMemory};
+use script_lines::{Prompt, ReplyBody};
+use storage_key::StorageKey;
+
+impl Holdings {
+    /// Answers whether the bucket of a key is persistent.
+    pub fn persisted(&self, key: &StorageKey) -> ReplyBody
+        ensures body { body_of result ≡ reply_text.Truth (is_persistent (plain_key key.now) (held_of self.now)) }
+    {
+        ReplyBody::Truth {
+            value: self.storage.is_persistent(key),
+        }
+    }
+
+    /// Answers what the local area of a key weighs.
+    pub fn estimate(&self, key: &StorageKey) -> ReplyBody
+        ensures body { let pairs = area_of Local 0 (plain_key key.now) (held_of self.now) in
+            body_of result ≡ reply_text.Estimate (area_weight pairs) }
+    {
+        ReplyBody::Estimate {
+            usage: self.storage.usage(key) as u64,
+        }
+    }
+
+    /// Makes the bucket of a document persistent, where it is in a secure context and the prompt
+    /// grants it.
+    pub fn persist(
+        &mut self,
+        at: Label,
+        key: StorageKey,
+        prompt: Prompt,
+    ) -> Result<ReplyBody, NoMemory>
+        ensures acts { (tab : PlainTab) → tab_at at.tab self.old.live.tabs ≡ Some tab → (document : PlainDocument)
+            → Acts (persist tab prompt (record { at = at; document = document; key = plain_key key }) (held_of self.old)) self.old self.new result }
+    {
+        if !self.is_secure(at) {
+            return Ok(answer("insecure"));
+        }
+        if self.storage.is_persistent(&key) {
+            return Ok(ReplyBody::Truth { value: true });
+        }
+        if !is_grant(prompt) {
+            return Ok(ReplyBody::Truth { value: false });
+        }
+        self.storage.persist(key)?;
+        Ok(ReplyBody::Truth { value: true })
+    }
+
+    // Whether each document from the top to this one is https.
+    fn is_secure(&self, at: Label) -> bool
+        ensures secure { (tab : PlainTab) → tab_at at.tab self.now.live.tabs ≡ Some tab
+            → result ≡ is_https_chain at.frame tab.frames }
+    {
+        match self.live.tab(at.tab) {
+            Some(tab) => tab.https_chain(at.frame),
+            None => false,
+        }
+    }
+}
+
+fn is_grant(prompt: Prompt) -> bool
+    ensures { result ≡ is_grant prompt }
+{
+    match prompt {
+        Prompt::Grant => true,
+        _ => false,
+    }
+}

@@ -1,0 +1,36 @@
+//! The sites that open tabs are at, and evictions of a site.
+ghost use Rattle.std.specs.Prelude.{◌≡◌, IfOk, OnErr, OnOk, option_map};
+ghost use Rattle.origin_site.specs.Plain.{plain_site};
+ghost use Rattle.script_lines.specs.Reply.{Cleared};
+ghost use Rattle.agent_model.specs.Buckets.{evict};
+ghost use Rattle.agent_model.specs.Lines.{site_at};
+ghost use Rattle.agent_core.specs.Standing.{places_in};
+ghost use Rattle.agent_core.specs.Parts.{held_of};
+
+use crate::documents::site_of_tab;
+use crate::holdings::Holdings;
+use agent_base::NoMemory;
+use origin_site::Site;
+use std::alloc::Global;
+
+impl Holdings {
+    /// The site that a tab is at, where it is open.
+    pub fn site(&self, alloc: Global, tab: u16) -> Result<Option<Site>, NoMemory>
+        ensures site { IfOk result (λ site. option_map plain_site site ≡ site_at tab (places_in self.now.live.tabs)) }
+    {
+        match self.live.tab(tab) {
+            Some(found) => Ok(Some(site_of_tab(alloc, found)?)),
+            None => Ok(None),
+        }
+    }
+
+    /// Evicts the storage of a site, and counts the areas that went. No tab is closed.
+    pub fn evict(&mut self, site: &Site) -> Result<u32, NoMemory>
+        ensures held { OnOk result (held_of self.new ≡ (evict (plain_site site.now) (held_of self.old)).held) }
+        ensures count { IfOk result (λ count. (evict (plain_site site.now) (held_of self.old)).body ≡ Cleared count) }
+        ensures live { self.new.live ≡ self.old.live }
+        ensures unchanged { OnErr result (held_of self.new ≡ held_of self.old) }
+    {
+        self.storage.evict(site)
+    }
+}

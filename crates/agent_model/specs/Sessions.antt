@@ -1,0 +1,54 @@
+-- What loads and closings make of tabs and their session areas.
+-- Source: HTML, "Navigables" and "Navigation"; Storage Standard, "Storage sheds", where a tab's
+-- session storage is copied to one that its page opens.
+-- Our own choice: a copy has the areas under the site that the opener is at, and no others. A tab
+-- keeps its session areas while it is at other sites.
+use Rattle.std.specs.Prelude.{ℕ, ◌==◌, ◌&&◌, Bool, not, List, [], ◌++◌, map, None}
+use Rattle.std.specs.List.{list_any}
+use Rattle.std.specs.FinMap as finite
+use Rattle.suffix_list.specs.Suffix.{Rule}
+use Rattle.unwinding.specs.FiniteCells.{Full}
+use Rattle.origin_site.specs.Address.{PlainAddress}
+use Rattle.origin_site.specs.Site.{PlainSite, same_plain_site}
+use Rattle.local_area.specs.Area.{Pair}
+use Rattle.frame_tree.specs.Calls.{opened}
+use Rattle.live_state.specs.Tabs.{made_tab}
+use Rattle.script_lines.specs.Reply.{Load}
+use Rattle.agent_model.specs.Partition.{SessionKey, Holdings, with_tab, without_tab}
+use Rattle.agent_model.specs.SiteEvent.{Done, answers}
+
+-- a tab shows this address alone, whatever it showed before
+abbrev pub arrive : List Rule → ℕ → PlainAddress → Holdings → Done
+arrive rules number url held =
+    answers (Load None []) (with_tab number (made_tab number (opened rules url) None None) held)
+
+-- a session area belongs to a tab
+abbrev pub is_of_tab : ℕ → SessionKey → Bool
+is_of_tab number key = key.0 == number
+
+-- a tab has a session area, which is not empty
+abbrev pub has_session : ℕ → Holdings → Bool
+has_session number held = list_any (is_of_tab number) (finite.keys held.sessions)
+
+-- a tab is closed, and its session areas are gone
+abbrev pub close : ℕ → Holdings → Holdings
+close number held =
+    record (without_tab number held) {
+      sessions = finite.retain_keys held.sessions (λ key. not (is_of_tab number key));
+    }
+
+-- a session area is one of a tab, under a site
+abbrev pub is_copied : PlainSite → ℕ → SessionKey → Bool
+is_copied site from key = is_of_tab from key && same_plain_site site key.1.top
+
+-- a session area, for another tab
+abbrev pub for_tab : ℕ → SessionKey × Full Pair → SessionKey × Full Pair
+for_tab number entry = ((number, entry.0.1), entry.1)
+
+-- a tab gets copies of another one's session areas under a site
+abbrev pub copy_sessions : PlainSite → (from to : ℕ) → Holdings → Holdings
+copy_sessions site from to held =
+    let copied = finite.entries (finite.retain_keys held.sessions (is_copied site from)) in
+    record held {
+      sessions = finite.from_entries (map (for_tab to) copied ++ finite.entries held.sessions);
+    }

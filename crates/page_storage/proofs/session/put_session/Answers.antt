@@ -1,0 +1,44 @@
+use Rattle.std.proofs.Common.{◌≡◌, IfOk, OnErr, string_bytes, ap, ◌∙◌, subst}
+use Rattle.std.specs.Result.{is_ok}
+use Rattle.std.proofs.lemmas.Result.{on_ok_weaker, on_err_weaker}
+use Rattle.unwinding.specs.FiniteCells.{set_cell}
+use Rattle.storage_key.specs.Plain.{plain_key}
+use Rattle.local_area.specs.Area.{area_put}
+use Rattle.local_area.specs.Put.{plain_put, put_answer}
+use Rattle.session_area.specs.Sessions.{SameAreas}
+use Rattle.agent_model.specs.Partition.{session_order}
+use Rattle.page_storage.specs.Stored.{sessions_in}
+use Rattle.page_storage.proofs.OrderOfKeys.{order, alike}
+use Rattle.page_storage.proofs.SessionWrites.{session_held, sessions_written, sessions_same, sessions_kept}
+use Rattle.page_storage.specs.Within.{IsWithin}
+use Rattle.page_storage.proofs.WithinLemmas.{put_within}
+use Rattle.page_storage.proofs.session.put_session.Goals as goal
+
+pub returns-in-Ok-clause-stored : goal.returns-in-Ok-clause-stored
+returns-in-Ok-clause-stored c = on_ok_weaker c.put.result (λ stored.
+    sessions_written order alike c.args.tab c.args.key c.put.new.self c.args.sessions.now _ (c.area_mut.follows.holds c.put.new.self (ap is_ok c.in-Ok.is))
+    ∙ ap (λ pairs. set_cell session_order (c.args.tab, plain_key c.args.key) pairs (sessions_in c.args.sessions.now))
+    (stored ∙ ap (area_put (string_bytes c.args.name) (string_bytes c.args.value)) (c.in-Ok.ensures.area ∙ session_held order alike c.args.tab c.args.key c.args.sessions.now)))
+    c.put.ensures.stored
+
+pub returns-in-Ok-clause-answer : goal.returns-in-Ok-clause-answer
+returns-in-Ok-clause-answer c =
+    subst (λ before. IfOk c.put.result (λ p. plain_put p ≡ put_answer (string_bytes c.args.name) (string_bytes c.args.value) before))
+    (c.in-Ok.ensures.area ∙ session_held order alike c.args.tab c.args.key c.args.sessions.now) c.put.ensures.answer
+
+pub returns-in-Ok-clause-unchanged : goal.returns-in-Ok-clause-unchanged
+returns-in-Ok-clause-unchanged c = on_err_weaker c.put.result (λ kept.
+    sessions_same order alike c.args.tab c.args.key c.put.new.self c.args.sessions.now _ (c.area_mut.follows.holds c.put.new.self (ap is_ok c.in-Ok.is))
+    (kept ∙ c.in-Ok.ensures.area))
+    c.put.ensures.unchanged
+
+pub returns-in-Err-clause-unchanged : goal.returns-in-Err-clause-unchanged
+returns-in-Err-clause-unchanged c =
+    sessions_kept c.args.sessions.now _
+    (subst (λ r. OnErr r (SameAreas c.args.sessions.now c.area_mut.follows.lender-at-none)) c.in-Err.is c.area_mut.follows.holds-at-none)
+
+pub returns-in-Ok-clause-quota : goal.returns-in-Ok-clause-quota
+returns-in-Ok-clause-quota c =
+    subst (λ before. IsWithin (string_bytes c.args.name) (string_bytes c.args.value) before c.put.result)
+    (c.in-Ok.ensures.area ∙ session_held order alike c.args.tab c.args.key c.args.sessions.now)
+    (put_within (string_bytes c.args.name) (string_bytes c.args.value) _ c.put.result c.put.ensures.quota c.put.ensures.causes)

@@ -1,0 +1,139 @@
+-- Lines of each action that is built, so that a wrong row in the specs does not check.
+use Rattle.std.proofs.Common.{◌≡◌, refl, ℕ, List, [], Some, None, Result, Ok, Err, true, false}
+use Rattle.std.specs.Prelude.{codes}
+use Rattle.url.proofs.OnLiterals.{url_on_literals}
+use Rattle.serde_json.proofs.OnLiterals.{serde_json_on_literals}
+use Rattle.serde_json.specs.Read.{read}
+use Rattle.origin_site.specs.Address.{PlainAddress}
+use Rattle.storage_events.specs.declared.event.AreaKind.TheVariants.{Local, Session}
+use Rattle.script_lines.specs.declared.words.Method.TheVariants as method
+use Rattle.script_lines.specs.declared.words.Prompt.TheVariants.{Grant, Deny}
+use Rattle.script_lines.specs.Script.{PlainAction, Open, Close, Go, Frame, Nav, Drop, Click, Set, Get}
+use Rattle.script_lines.specs.Script.{Del, Clear, Len, Key, Events, Persisted, Estimate, Persist, Evict}
+use Rattle.script_lines.specs.Script.{PlainFault, BadField}
+use Rattle.script_lines.specs.Fields.{then_ok}
+use Rattle.script_lines.specs.Rows.{label}
+use Rattle.script_lines.specs.Actions.{table}
+use Rattle.script_lines.specs.Grammar.{json_of, action_of_data}
+
+-- what a line of valid UTF-8 reads as, with the number 1
+abbrev line : List ℕ → Result PlainAction PlainFault
+line text = then_ok (json_of 1 (read text)) (action_of_data 1)
+
+abbrev bad : List ℕ → Result PlainAction PlainFault
+bad name = Err (BadField 1 name)
+
+-- `https://a.test/`
+abbrev home : PlainAddress
+home = record {
+  text = codes "https://a.test/";
+  https = true;
+  ip = false;
+  host = codes "a.test";
+  port = 443;
+  path = codes "/";
+}
+
+opens_from_an_opener : line (codes "{\"do\":\"open\",\"tab\":2,\"url\":\"https://a.test/\",\"opener\":1,\"noopener\":true}") ≡ Ok (Open 2 home (Some 1) true method.Get)
+unfolding table serde_json_on_literals url_on_literals
+opens_from_an_opener = refl
+
+opener_zero : line (codes "{\"do\":\"open\",\"tab\":2,\"url\":\"https://a.test/\",\"opener\":0}") ≡ bad (codes "opener")
+unfolding table serde_json_on_literals url_on_literals
+opener_zero = refl
+
+closes : line (codes "{\"do\":\"close\",\"tab\":1}") ≡ Ok (Close 1)
+unfolding table serde_json_on_literals
+closes = refl
+
+goes : line (codes "{\"do\":\"go\",\"tab\":1,\"url\":\"https://a.test/\",\"by\":\"page\"}") ≡ Ok (Go 1 home true method.Get)
+unfolding table serde_json_on_literals url_on_literals
+goes = refl
+
+adds_a_frame : line (codes "{\"do\":\"frame\",\"tab\":1,\"frame\":2,\"url\":\"https://a.test/\",\"deny\":true}") ≡ Ok (Frame (label 1 2) 0 home None true)
+unfolding table serde_json_on_literals url_on_literals
+adds_a_frame = refl
+
+navigates : line (codes "{\"do\":\"nav\",\"tab\":1,\"frame\":2,\"url\":\"https://a.test/\",\"by\":\"self\",\"method\":\"POST\"}") ≡ Ok (Nav (label 1 2) home true method.Post)
+unfolding table serde_json_on_literals url_on_literals
+navigates = refl
+
+drops : line (codes "{\"do\":\"drop\",\"tab\":1,\"frame\":255}") ≡ Ok (Drop (label 1 255))
+unfolding table serde_json_on_literals
+drops = refl
+
+drops_no_top_document : line (codes "{\"do\":\"drop\",\"tab\":1,\"frame\":0}") ≡ bad (codes "frame")
+unfolding table serde_json_on_literals
+drops_no_top_document = refl
+
+clicks : line (codes "{\"do\":\"click\",\"tab\":1}") ≡ Ok (Click (label 1 0))
+unfolding table serde_json_on_literals
+clicks = refl
+
+sets_in_a_session : line (codes "{\"do\":\"set\",\"tab\":1,\"area\":\"session\",\"key\":\"k\",\"value\":\"\"}") ≡ Ok (Set (label 1 0) Session (codes "k") [])
+unfolding table serde_json_on_literals
+sets_in_a_session = refl
+
+area_before_key : line (codes "{\"do\":\"set\",\"tab\":1,\"area\":\"shared\",\"key\":1}") ≡ bad (codes "area")
+unfolding table serde_json_on_literals
+area_before_key = refl
+
+gets_in_a_frame : line (codes "{\"do\":\"get\",\"tab\":1,\"frame\":2,\"key\":\"k\"}") ≡ Ok (Get (label 1 2) Local (codes "k"))
+unfolding table serde_json_on_literals
+gets_in_a_frame = refl
+
+deletes : line (codes "{\"do\":\"del\",\"tab\":1,\"area\":\"session\",\"key\":\"k\"}") ≡ Ok (Del (label 1 0) Session (codes "k"))
+unfolding table serde_json_on_literals
+deletes = refl
+
+clears : line (codes "{\"do\":\"clear\",\"tab\":1}") ≡ Ok (Clear (label 1 0) Local)
+unfolding table serde_json_on_literals
+clears = refl
+
+counts : line (codes "{\"do\":\"len\",\"tab\":1,\"area\":\"session\"}") ≡ Ok (Len (label 1 0) Session)
+unfolding table serde_json_on_literals
+counts = refl
+
+last_place : line (codes "{\"do\":\"key\",\"tab\":1,\"n\":4294967295}") ≡ Ok (Key (label 1 0) Local 4294967295)
+unfolding table serde_json_on_literals
+last_place = refl
+
+past_the_last_place : line (codes "{\"do\":\"key\",\"tab\":1,\"n\":4294967296}") ≡ bad (codes "n")
+unfolding table serde_json_on_literals
+past_the_last_place = refl
+
+takes_events : line (codes "{\"do\":\"events\",\"tab\":1,\"frame\":2}") ≡ Ok (Events (label 1 2))
+unfolding table serde_json_on_literals
+takes_events = refl
+
+events_of_no_area : line (codes "{\"do\":\"events\",\"tab\":1,\"area\":\"local\"}") ≡ bad (codes "area")
+unfolding table serde_json_on_literals
+events_of_no_area = refl
+
+asks_the_mode : line (codes "{\"do\":\"persisted\",\"tab\":1}") ≡ Ok (Persisted (label 1 0))
+unfolding table serde_json_on_literals
+asks_the_mode = refl
+
+asks_the_weight : line (codes "{\"do\":\"estimate\",\"tab\":1}") ≡ Ok (Estimate (label 1 0))
+unfolding table serde_json_on_literals
+asks_the_weight = refl
+
+persists : line (codes "{\"do\":\"persist\",\"tab\":1,\"answer\":\"grant\"}") ≡ Ok (Persist (label 1 0) Grant)
+unfolding table serde_json_on_literals
+persists = refl
+
+persist_is_denied : line (codes "{\"do\":\"persist\",\"tab\":1,\"answer\":\"deny\"}") ≡ Ok (Persist (label 1 0) Deny)
+unfolding table serde_json_on_literals
+persist_is_denied = refl
+
+persist_is_not_dismissed : line (codes "{\"do\":\"persist\",\"tab\":1,\"answer\":\"dismiss\"}") ≡ bad (codes "answer")
+unfolding table serde_json_on_literals
+persist_is_not_dismissed = refl
+
+evicts : line (codes "{\"do\":\"evict\",\"site\":\"https://a.test\"}") ≡ Ok (Evict (record { https = true; host = codes "a.test" }))
+unfolding table serde_json_on_literals url_on_literals
+evicts = refl
+
+evicts_no_address : line (codes "{\"do\":\"evict\",\"site\":\"https://a.test/\"}") ≡ bad (codes "site")
+unfolding table serde_json_on_literals url_on_literals
+evicts_no_address = refl

@@ -1,0 +1,92 @@
+-- What a row of the table of actions is, and what several rows have.
+-- Source: the script format of docs/FORMATS.md. Our own choice: all of it. A row that is not built
+-- is of an unknown action, and the mark of a field counts where the row is built.
+use Rattle.std.specs.Prelude.{ℕ, List, [], ◌∷◌, codes}
+use Rattle.agent_base.specs.declared.refusals.Label.{Label}
+use Rattle.storage_events.specs.declared.event.AreaKind.{AreaKind}
+use Rattle.storage_events.specs.declared.event.AreaKind.TheVariants.{Local}
+use Rattle.script_lines.specs.declared.words.Method.TheVariants as method
+use Rattle.script_lines.specs.Script.{PlainAction}
+use Rattle.script_lines.specs.Fields.{Field, Kind, Mark, built, not_built, required, defaulted}
+use Rattle.script_lines.specs.Fields.{built_fields, Meanings, whole, any_text, address_text}
+use Rattle.script_lines.specs.Fields.{method_name, header_list, area_name}
+
+-- what is there where the mark says so
+abbrev pub When : Mark → Type 0 → Type 0
+When built A = A
+When not_built A = Unit {0}
+
+-- a kind of line: whether it counts, its fields in order, and the action that they give
+pub record Row : Type 0 where
+  pub mark : Mark
+  pub fields : List Field
+  pub action : When mark (Meanings (built_fields fields) → PlainAction)
+
+-- a row that is not built
+abbrev pub later : List Field → Row
+later fields = record { mark = not_built; fields = fields; action = tt }
+
+-- ---- fields that several rows have
+
+-- the number of a tab, from 1 to 65,535
+abbrev pub tab_number : Kind
+tab_number = whole 1 65535
+
+-- the number of a frame, from 0, which is the top document, to 255
+abbrev pub frame_number : Kind
+frame_number = whole 0 255
+
+abbrev pub tab : Field
+tab = required built (codes "tab") tab_number
+
+abbrev pub frame : Field
+frame = defaulted built (codes "frame") frame_number 0
+
+-- a frame that is not the top document
+abbrev pub inner_frame : Field
+inner_frame = required built (codes "frame") (whole 1 255)
+
+abbrev pub url : Field
+url = required built (codes "url") address_text
+
+abbrev pub method_field : Field
+method_field = defaulted built (codes "method") method_name method.Get
+
+abbrev pub head : Field
+head = defaulted not_built (codes "head") header_list []
+
+abbrev pub area : Field
+area = defaulted built (codes "area") area_name Local
+
+abbrev pub key : Field
+key = required built (codes "key") any_text
+
+-- ---- rows of one form
+
+-- the document of a tab in a frame
+abbrev pub label : ℕ → ℕ → Label
+label tab frame = record { tab = tab; frame = frame }
+
+-- a document and nothing besides
+abbrev pub document_row : (Label → PlainAction) → Row
+document_row action = record {
+  mark = built;
+  fields = tab ∷ frame ∷ [];
+  action = λ (tab, (frame, _)). action (label tab frame);
+}
+
+-- an area of a document
+abbrev pub area_row : (Label → AreaKind → PlainAction) → Row
+area_row action = record {
+  mark = built;
+  fields = tab ∷ frame ∷ area ∷ [];
+  action = λ (tab, (frame, (area, _))). action (label tab frame) area;
+}
+
+-- a name of an area
+abbrev pub name_row : (Label → AreaKind → List ℕ → PlainAction) → Row
+name_row action = record {
+  mark = built;
+  fields = tab ∷ frame ∷ area ∷ key ∷ [];
+  action = λ (tab, (frame, (area, (key, _)))). action (label tab frame) area key;
+}

@@ -1,0 +1,252 @@
+//! What a line asks for.
+ghost use Rattle.std.specs.Prelude.{◌≡◌, IfOk, option_map, string_bytes};
+ghost use Rattle.script_lines.specs.Plain.{action_of, head_pair_of};
+
+use crate::{Method, Prompt};
+use agent_base::{Label, NoMemory};
+use origin_site::{Address, Site};
+use std::alloc::Global;
+use storage_events::AreaKind;
+
+/// A header field of a load's response, as it is written.
+#[derive(Debug, Drop, PartialEq, Eq)]
+pub struct HeadPair {
+    pub name: String,
+    pub value: String,
+}
+
+/// What a line asks for.
+#[derive(Debug, Drop, PartialEq, Eq)]
+pub enum Action {
+    /// Moves the clock by so many seconds.
+    Tick {
+        s: u32,
+    },
+    /// Opens a tab with a top document, started by the opener's page or by the user.
+    Open {
+        tab: u16,
+        url: Address,
+        opener: Option<u16>,
+        /// The tab gets no copy of the opener's session areas.
+        noopener: bool,
+        method: Method,
+    },
+    /// Closes a tab.
+    Close {
+        tab: u16,
+    },
+    /// Goes to another top document, started by the page or by the user.
+    Go {
+        tab: u16,
+        url: Address,
+        by_page: bool,
+        method: Method,
+    },
+    /// Adds a frame below a parent, with the text of its `sandbox` attribute.
+    Frame {
+        at: Label,
+        parent: u8,
+        url: Address,
+        sandbox: Option<String>,
+        deny: bool,
+    },
+    /// Navigates a frame, started by itself or by its parent.
+    Nav {
+        at: Label,
+        url: Address,
+        by_self: bool,
+        method: Method,
+    },
+    /// Removes a frame.
+    Drop {
+        at: Label,
+    },
+    /// Activates a document, as a user's click does.
+    Click {
+        at: Label,
+    },
+    /// Gives a name of an area a value.
+    Set {
+        at: Label,
+        area: AreaKind,
+        key: String,
+        value: String,
+    },
+    /// Asks for the value of a name of an area.
+    Get {
+        at: Label,
+        area: AreaKind,
+        key: String,
+    },
+    /// Removes a name of an area, with its value.
+    Del {
+        at: Label,
+        area: AreaKind,
+        key: String,
+    },
+    /// Empties an area.
+    Clear {
+        at: Label,
+        area: AreaKind,
+    },
+    /// Asks how many names an area has.
+    Len {
+        at: Label,
+        area: AreaKind,
+    },
+    /// Asks for the name at a place of an area, from 0.
+    Key {
+        at: Label,
+        area: AreaKind,
+        n: u32,
+    },
+    /// Takes the storage events that a document has.
+    Events {
+        at: Label,
+    },
+    /// Asks whether a document's bucket is persistent.
+    Persisted {
+        at: Label,
+    },
+    /// Asks what a document's local area weighs.
+    Estimate {
+        at: Label,
+    },
+    /// Asks for a persistent bucket of a document. The answer of a line is never `Dismiss`.
+    Persist {
+        at: Label,
+        answer: Prompt,
+    },
+    /// Empties the local areas under a top-level site, but for those of persistent buckets.
+    Evict {
+        site: Site,
+    },
+}
+
+impl HeadPair {
+    /// The same pair, over memory of its own.
+    pub fn copy(&self, alloc: Global) -> Result<HeadPair, NoMemory>
+        ensures same { IfOk result (λ p. head_pair_of p ≡ head_pair_of self.now) }
+    {
+        Ok(HeadPair {
+            name: String::from_str(alloc, self.name.as_str())?,
+            value: String::from_str(alloc, self.value.as_str())?,
+        })
+    }
+}
+
+impl Action {
+    /// The same action, over memory of its own.
+    pub fn copy(&self, alloc: Global) -> Result<Action, NoMemory>
+        ensures same { IfOk result (λ a. action_of a ≡ action_of self.now) }
+    {
+        match self {
+            Action::Tick { s } => Ok(Action::Tick { s: *s }),
+            Action::Open {
+                tab,
+                url,
+                opener,
+                noopener,
+                method,
+            } => Ok(Action::Open {
+                tab: *tab,
+                url: url.copy(alloc)?,
+                opener: *opener,
+                noopener: *noopener,
+                method: *method,
+            }),
+            Action::Close { tab } => Ok(Action::Close { tab: *tab }),
+            Action::Go {
+                tab,
+                url,
+                by_page,
+                method,
+            } => Ok(Action::Go {
+                tab: *tab,
+                url: url.copy(alloc)?,
+                by_page: *by_page,
+                method: *method,
+            }),
+            Action::Frame {
+                at,
+                parent,
+                url,
+                sandbox,
+                deny,
+            } => Ok(Action::Frame {
+                at: *at,
+                parent: *parent,
+                url: url.copy(alloc)?,
+                sandbox: copy_of_text(alloc, sandbox)?,
+                deny: *deny,
+            }),
+            Action::Nav {
+                at,
+                url,
+                by_self,
+                method,
+            } => Ok(Action::Nav {
+                at: *at,
+                url: url.copy(alloc)?,
+                by_self: *by_self,
+                method: *method,
+            }),
+            Action::Drop { at } => Ok(Action::Drop { at: *at }),
+            Action::Click { at } => Ok(Action::Click { at: *at }),
+            Action::Set {
+                at,
+                area,
+                key,
+                value,
+            } => Ok(Action::Set {
+                at: *at,
+                area: *area,
+                key: String::from_str(alloc, key.as_str())?,
+                value: String::from_str(alloc, value.as_str())?,
+            }),
+            Action::Get { at, area, key } => Ok(Action::Get {
+                at: *at,
+                area: *area,
+                key: String::from_str(alloc, key.as_str())?,
+            }),
+            Action::Del { at, area, key } => Ok(Action::Del {
+                at: *at,
+                area: *area,
+                key: String::from_str(alloc, key.as_str())?,
+            }),
+            Action::Clear { at, area } => Ok(Action::Clear {
+                at: *at,
+                area: *area,
+            }),
+            Action::Len { at, area } => Ok(Action::Len {
+                at: *at,
+                area: *area,
+            }),
+            Action::Key { at, area, n } => Ok(Action::Key {
+                at: *at,
+                area: *area,
+                n: *n,
+            }),
+            Action::Events { at } => Ok(Action::Events { at: *at }),
+            Action::Persisted { at } => Ok(Action::Persisted { at: *at }),
+            Action::Estimate { at } => Ok(Action::Estimate { at: *at }),
+            Action::Persist { at, answer } => Ok(Action::Persist {
+                at: *at,
+                answer: *answer,
+            }),
+            Action::Evict { site } => Ok(Action::Evict {
+                site: site.copy(alloc)?,
+            }),
+        }
+    }
+}
+
+// A copy of a text, if there is one.
+fn copy_of_text(alloc: Global, text: &Option<String>) -> Result<Option<String>, NoMemory>
+    ensures { IfOk result (λ copy. option_map string_bytes copy ≡ option_map string_bytes text.now) }
+{
+    match text {
+        Some(text) => Ok(Some(String::from_str(alloc, text.as_str())?)),
+        None => Ok(None),
+    }
+}

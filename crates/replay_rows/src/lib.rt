@@ -4,7 +4,11 @@
 #![tactic(auto)]
 
 #[cfg(test)]
+mod areas;
+#[cfg(test)]
 mod clocks;
+#[cfg(test)]
+mod events;
 #[cfg(test)]
 mod faults;
 #[cfg(test)]
@@ -23,3 +27,5 @@ mod refusals;
 mod row;
 #[cfg(test)]
 mod script_faults;
+#[cfg(test)]
+mod sessions;

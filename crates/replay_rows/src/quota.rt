@@ -27,6 +27,7 @@ fn an_area_is_filled_to_its_last_byte(rt: HostRuntime) -> Result<(), Fail> {
     script.push_str(&set_line(alloc, "f", 242_875)?)?;
     script.push_str(&set_line(alloc, "a", 1_000_000)?)?;
     script.push_str("{\"do\":\"get\",\"tab\":1,\"key\":\"g\"}\n")?;
+    script.push_str("{\"do\":\"estimate\",\"tab\":1}\n{\"do\":\"len\",\"tab\":1}\n")?;
     let mut list_host = host(alloc, source(alloc, "", &[])?)?;
     let mut lines = source(alloc, &script, &[])?;
     let mut out = sink(alloc, &[])?;
@@ -52,6 +53,8 @@ fn an_area_is_filled_to_its_last_byte(rt: HostRuntime) -> Result<(), Fail> {
         "{\"do\":\"set\",\"is\":\"quota\",\"site\":\"https://a.test\"}\n",
         "{\"do\":\"set\",\"is\":\"ok\",\"site\":\"https://a.test\"}\n",
         "{\"do\":\"get\",\"is\":\"ok\",\"site\":\"https://a.test\",\"value\":null}\n",
+        "{\"do\":\"estimate\",\"is\":\"ok\",\"quota\":5242880,\"site\":\"https://a.test\",\"usage\":5242880}\n",
+        "{\"do\":\"len\",\"is\":\"ok\",\"site\":\"https://a.test\",\"value\":6}\n",
     );
     assert!(rt; out.bytes() == want.as_bytes());
     Ok(())

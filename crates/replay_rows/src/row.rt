@@ -58,9 +58,14 @@ pub fn host(alloc: Global, list: MemSource) -> Result<MemHost, Fail>
 
 /// Room for what a row prints.
 pub fn sink(alloc: Global, fails: &[u64]) -> Result<MemSink, Fail> {
+    sink_of(alloc, 100_000, fails)
+}
+
+/// Room for so many bytes.
+pub fn sink_of(alloc: Global, room: usize, fails: &[u64]) -> Result<MemSink, Fail> {
     let mut numbers = Vec::new(alloc);
     numbers.extend_from_slice(fails)?;
-    match MemSink::new(alloc, 100_000, numbers) {
+    match MemSink::new(alloc, room, numbers) {
         Ok(sink) => Ok(sink),
         Err(NoMemory) => Err(Fail::from(AllocError)),
     }

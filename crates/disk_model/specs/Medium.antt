@@ -7,7 +7,8 @@ use Rattle.disk_model.specs.Record.{written_len, all_events, unless_fresh}
 use Rattle.disk_model.specs.declared.medium.Entry.{Entry}
 
 -- the buffers are those of the record
-pub record IsKept (contents synced_bytes first : List ℕ) (fresh : Bool) (entries : List Entry) (log : List ℕ) (failed good : ℕ) (ranges : List (ℕ × ℕ)) : Type 0 where
+pub record IsKept (contents synced_bytes first : List ℕ) (fresh : Bool) (entries : List Entry)
+    (log : List ℕ) (failed good : ℕ) (ranges : List (ℕ × ℕ)) : Type 0 where
   pub replayed : replay (at_first (unless_fresh fresh contents first)) (all_events entries log failed good)
       ≡ record { contents = contents; synced = unless_fresh fresh contents synced_bytes; ranges = ranges }
   pub log_len : length log ≡ written_len entries
@@ -16,7 +17,9 @@ pub record IsKept (contents synced_bytes first : List ℕ) (fresh : Bool) (entri
   pub untouched : fresh ≡ true → (entries ≡ []) × (log ≡ []) × (ranges ≡ [])
 
 -- there is room for so many writes, and for what may have to be copied
-pub record HasRoom (contents synced_bytes first : Vec ℕ Global) (fresh : Bool) (entries : Vec Entry Global) (log : Vec ℕ Global) (ranges : Vec (ℕ × ℕ) Global) (room_end room_writes : ℕ) : Type 0 where
+pub record HasRoom (contents synced_bytes first : Vec ℕ Global) (fresh : Bool)
+    (entries : Vec Entry Global) (log : Vec ℕ Global) (ranges : Vec (ℕ × ℕ) Global)
+    (room_end room_writes : ℕ) : Type 0 where
   pub in_contents : room_end ≤ vec_capacity contents
   pub in_synced : room_end ≤ vec_capacity synced_bytes
   pub in_first : room_end ≤ vec_capacity first

@@ -16,7 +16,8 @@ abbrev pub IsApart : ℕ → ℕ → ℕ → ℕ → Type 0
 IsApart to len begin end = (128 ≤ to) × ((to + len ≤ begin) ⊎ (to ≡ end + 1))
 
 -- the old region is live, the other slot's gate is closed, and the snapshot's frame stands whole
-pub record IsBetween (digest file : List ℕ) (live : Bool) (number begin : ℕ) (frames : List Frame) (to : ℕ) (f : Frame) : Type 0 where
+pub record IsBetween (digest file : List ℕ) (live : Bool) (number begin : ℕ) (frames : List Frame)
+    (to : ℕ) (f : Frame) : Type 0 where
   pub head : Head digest file live number begin
   pub from : 128 ≤ begin
   pub frames_at : FramesAt file begin frames

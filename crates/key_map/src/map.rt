@@ -177,7 +177,8 @@ fn place_of<K: Ord + Drop, V: Drop>(
     fresh: V,
 ) -> Result<usize, NoMemory>
     requires { IsStrictlySortedBy K.cmp (keys_of places.old.entries) }
-    ensures place { IfOk result (IsPlaceFor K.cmp key fresh values.old.items places.old.entries values.new.items places.new.entries) }
+    ensures place { IfOk result (IsPlaceFor K.cmp key fresh
+        values.old.items places.old.entries values.new.items places.new.entries) }
     ensures ordered { IsStrictlySortedBy K.cmp (keys_of places.new.entries) }
     ensures same { OnErr result ((values.new.items ≡ values.old.items) × (places.new.entries ≡ places.old.entries)) }
     ensures memory { OnErr result (lookup (is_at (K.cmp key)) places.old.entries ≡ None) }

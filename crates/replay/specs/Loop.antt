@@ -22,8 +22,10 @@ acted lines = map (λ line. action_of line.action) lines
 -- what the sink took of lines whose run ended so; only these statuses are answered
 abbrev pub WritesLines : Status → List Rule → ℕ → List PlainAction → (taken_before taken_after : Option (List ℕ)) → Type 0
 WritesLines Done rules start actions taken_before taken_after = Takes taken_before taken_after (transcript rules start actions)
-WritesLines Write rules start actions taken_before taken_after = TakesPrefix taken_before taken_after (transcript rules start actions)
-WritesLines Memory rules start actions taken_before taken_after = TakesPrefix taken_before taken_after (transcript rules start actions)
+WritesLines Write rules start actions taken_before taken_after =
+    TakesPrefix taken_before taken_after (transcript rules start actions)
+WritesLines Memory rules start actions taken_before taken_after =
+    TakesPrefix taken_before taken_after (transcript rules start actions)
 WritesLines _ rules start actions taken_before taken_after = ⊥
 
 -- what the sink took of a script whose run under these rules ended so
@@ -62,6 +64,7 @@ pub record Obeys (command : Option PlainCommand) (status : Status) (lists : List
   pub script : ScriptCause status before
   pub list : ListCause status (option_and_then lists (list_named command))
   pub read : status ≡ Read → Rose faults_before faults_after ⊎ Rose script_before script_after
-  pub read_told : ReadCause status (option_and_then lists (list_named command)) reads_before reads_after script_before script_after
+  pub read_told : ReadCause status (option_and_then lists (list_named command))
+      reads_before reads_after script_before script_after
   pub unread : LeavesScript command status before after
   pub write : status ≡ Write → Rose out_before out_after

@@ -40,7 +40,8 @@ pub fn run<H: Host, I: Source, O: Sink, E: Sink>(
     err: &mut E,
 ) -> Status
     ensures text { let told = option_and_then (H.lists host.old) (list_path (map string_bytes words.now)) in
-        Writes (command_of (map string_bytes words.now)) result told (I.left script.old) (I.left script.new) (O.taken out.old) (O.taken out.new) }
+        Writes (command_of (map string_bytes words.now)) result told
+        (I.left script.old) (I.left script.new) (O.taken out.old) (O.taken out.new) }
     ensures sites { let told = option_and_then (H.lists host.old) (list_path (map string_bytes words.now)) in
         (list : ListRead told) (read : ScriptRead (I.left script.old) (I.left script.new))
         → HasSiteLines list.list.rules read.script }
@@ -51,8 +52,10 @@ pub fn run<H: Host, I: Source, O: Sink, E: Sink>(
     ensures read { result ≡ Status.Read
         → Rose (H.faults host.old) (H.faults host.new) ⊎ Rose (I.faults script.old) (I.faults script.new) }
     ensures read_told { let told = option_and_then (H.lists host.old) (list_path (map string_bytes words.now)) in
-        ReadCause result told (H.reads host.old) (H.reads host.new) (I.faults script.old) (I.faults script.new) }
-    ensures unread { LeavesScript (command_of (map string_bytes words.now)) result (I.left script.old) (I.left script.new) }
+        ReadCause result told
+        (H.reads host.old) (H.reads host.new) (I.faults script.old) (I.faults script.new) }
+    ensures unread { LeavesScript (command_of (map string_bytes words.now)) result
+        (I.left script.old) (I.left script.new) }
     ensures write { result ≡ Status.Write → Rose (O.faults out.old) (O.faults out.new) }
     ensures told { TellsFault result (E.taken err.old) (E.taken err.new) (E.faults err.old) (E.faults err.new) }
 {
@@ -124,13 +127,15 @@ fn replay<H: Host, I: Source, O: Sink>(
     out: &mut O,
 ) -> Status
     requires { start ≤ last_moment }
-    ensures text { WritesText start result (H.lists host.old path.now) (I.left script.old) (I.left script.new) (O.taken out.old) (O.taken out.new) }
+    ensures text { WritesText start result (H.lists host.old path.now)
+        (I.left script.old) (I.left script.new) (O.taken out.old) (O.taken out.new) }
     ensures usage { result ≡ Status.Usage → ⊥ }
     ensures script { ScriptCause result (I.left script.old) }
     ensures list { ListCause result (H.lists host.old path.now) }
     ensures read { result ≡ Status.Read
         → Rose (H.faults host.old) (H.faults host.new) ⊎ Rose (I.faults script.old) (I.faults script.new) }
-    ensures read_told { ReadCause result (H.lists host.old path.now) (H.reads host.old) (H.reads host.new) (I.faults script.old) (I.faults script.new) }
+    ensures read_told { ReadCause result (H.lists host.old path.now)
+        (H.reads host.old) (H.reads host.new) (I.faults script.old) (I.faults script.new) }
     ensures unread { LeavesScript (Some (Replay path.now start)) result (I.left script.old) (I.left script.new) }
     ensures write { result ≡ Status.Write → Rose (O.faults out.old) (O.faults out.new) }
 {

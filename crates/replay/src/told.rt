@@ -127,7 +127,8 @@ fn write_line<E: Sink>(err: &mut E, line: &FaultLine<'_>) -> Result<(), Failed>
 
 fn write_tail<E: Sink>(err: &mut E, line: &FaultLine<'_>) -> Result<(), Failed>
     ensures all { OnOk result (Takes (E.taken err.old) (E.taken err.new) (number_text line.now.number ++ rest_text line.now)) }
-    ensures prefix { OnErr result (TakesPrefix (E.taken err.old) (E.taken err.new) (number_text line.now.number ++ rest_text line.now)) }
+    ensures prefix { OnErr result (TakesPrefix (E.taken err.old) (E.taken err.new)
+        (number_text line.now.number ++ rest_text line.now)) }
     ensures cause { HasCause (E.faults err.old) (E.faults err.new) result }
 {
     match write_number(err, line.number) {

@@ -29,7 +29,11 @@ impl Model for Queue {
 
     ghost Value = { QueueView };
 
-    ghost view = { λ q. record { events = map plain_event q.events.items; lost = q.lost; reserved = has_room (length q.events.items) (vec_capacity q.events) } };
+    ghost view = { λ q. record {
+      events = map plain_event q.events.items;
+      lost = q.lost;
+      reserved = has_room (length q.events.items) (vec_capacity q.events);
+    } };
 
     ghost invariant = { λ q. length q.events.items ≤ most_events };
 }

@@ -5,8 +5,8 @@ use Rattle.std.specs.List.{list_all}
 use Rattle.std.proofs.lemmas.Bool.Decides.{eqb_tells}
 use Rattle.frame_tree.specs.Tree.{PlainFrame, has_frame}
 use Rattle.live_state.specs.declared.frame_queue.FrameQueue.{FrameQueue}
-use Rattle.live_state.specs.Held.{held_at, is_held, plain_by, queues_of, stays}
-use Rattle.live_state.specs.Tabs.{empty_queue, is_fresh, queue_after}
+use Rattle.live_state.specs.Held.{held_at, is_held, plain_by, queues_of}
+use Rattle.live_state.specs.Tabs.{empty_queue, is_fresh, queue_after, stays}
 use Rattle.live_state.proofs.ListLemmas.{all_pass, all_weaker, and_both, and_parts, find-kept}
 
 pub frame_by : (n : ℕ) (o : Option FrameQueue) → (plain_by n o).frame ≡ n

@@ -1,6 +1,6 @@
 -- Documents by their labels, and what one event changes.
 use Rattle.std.proofs.Common.{◌≡◌, ℕ, Bool, true, false, cond, not, List, [], ◌∷◌, map, Option, Some, None, refl, ap, sym, ◌∙◌, arith}
-use Rattle.std.specs.Prelude.{◌&&◌, ◌||◌, ◌==◌, find, nat_eq, option_map, if◌then◌else◌}
+use Rattle.std.specs.Prelude.{◌&&◌, ◌||◌, ◌==◌, find, is_some, nat_eq, option_map, if◌then◌else◌}
 use Rattle.std.specs.List.{list_all, list_any}
 use Rattle.std.proofs.lemmas.Bool.{eq-eqb, eqb-true, both_ways}
 use Rattle.std.proofs.lemmas.Bool.Decides.{nat_tests}
@@ -10,7 +10,7 @@ use Rattle.storage_events.specs.Audience.{same_label}
 use Rattle.storage_events.specs.Event.{EventView}
 use Rattle.storage_events.specs.declared.event.Event.{Event}
 use Rattle.live_state.specs.Held.{changed_at}
-use Rattle.live_state.specs.Queues.{are_distinct, event_for, is_ready, label_of, plain_sent, queue_told, sent, with_queues}
+use Rattle.live_state.specs.Queues.{are_distinct, event_for, is_ready, is_told, label_of, plain_sent, queue_told, sent, with_queues}
 use Rattle.live_state.specs.Tabs.{LiveView, PlainQueue, PlainTab, empty_queue}
 use Rattle.live_state.proofs.ListLemmas.{and_both, and_parts, map-agree, not_true}
 
@@ -21,6 +21,10 @@ label-is a b same =
 
 pub label-same : (a b : Label) → a.tab ≡ b.tab → a.frame ≡ b.frame → same_label a b ≡ true
 label-same a b tab frame = and_both (nat_eq a.tab b.tab) (nat_eq a.frame b.frame) (eq-eqb a.tab b.tab tab) (eq-eqb a.frame b.frame frame)
+
+-- two documents of one tab are of two frames
+pub frame-differs : (a b : Label) → a.tab ≡ b.tab → same_label a b ≡ false → (a.frame == b.frame) ≡ false
+frame-differs a b here differ = sym (ap (λ t. t && nat_eq a.frame b.frame) (eq-eqb a.tab b.tab here)) ∙ differ
 
 -- two that are one with a third are one
 pub label-joined : (a b c : Label) → same_label a c ≡ true → same_label b c ≡ true → same_label a b ≡ true
@@ -198,3 +202,15 @@ ready-rest old new e events distinct stays all =
 
 pub distinct-rest : (e : Label × Event) (events : List (Label × Event)) → are_distinct (to_of (e ∷ events)) ≡ true → are_distinct (to_of events) ≡ true
 distinct-rest e events distinct = (and_parts (not (list_any (same_label e.0) (to_of events))) (are_distinct (to_of events)) distinct).1
+
+untold_by : (at : Label) (entry : Label × Event) (found : Option (Label × EventView)) (same : Bool) → same_label entry.0 at ≡ same
+    → is_some (option_map (λ (x : Label × EventView). x.1) (cond same (Some (plain_sent entry)) found)) ≡ false
+    → (same_label at entry.0 ≡ false) × (is_some (option_map (λ (x : Label × EventView). x.1) found) ≡ false)
+untold_by at entry found true is told = absurd (cc told)
+untold_by at entry found false is told = (label-flip entry.0 at is, told)
+
+-- a document that is not told is not that of the first event, and no later one is for it
+pub untold : (entry : Label × Event) (rest : List (Label × Event)) (at : Label) → is_told (map plain_sent (entry ∷ rest)) at ≡ false
+    → (same_label at entry.0 ≡ false) × (is_told (map plain_sent rest) at ≡ false)
+untold entry rest at isnt =
+    untold_by at entry (find (λ e. same_label e.0 at) (map plain_sent rest)) (same_label entry.0 at) refl isnt

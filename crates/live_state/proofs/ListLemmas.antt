@@ -2,10 +2,11 @@
 use Rattle.std.proofs.Common.{◌≡◌, ◌+◌, ◌<◌, ◌≤◌, ℕ, zero, suc, Bool, true, false, cond, not, List, [], ◌∷◌, ◌++◌, length, take, drop, get_or, set, map, refl, ap, sym, ◌∙◌, arith, Some, None, Option, inl, inr}
 use Rattle.std.specs.Prelude.{◌&&◌, ◌||◌, ◌==◌, ◌≢◌, ◌⊎◌, filter, find, is_some, option_map, slice_get}
 use Rattle.std.specs.List.{All, AllWithin, list_all, list_any, position_or_len}
+use Rattle.std.specs.Option.{option_or}
 use Rattle.std.proofs.lemmas.Bool.{eq-eqb}
 use Rattle.std.proofs.lemmas.Bool.Decides.{eqb_tells}
 use Rattle.std.proofs.lemmas.List.{get_or-take, get_or-drop, length-take-le, length-drop}
-use Rattle.std.proofs.lemmas.List.Folds.{find-set}
+use Rattle.std.proofs.lemmas.List.Folds.{find-append, find-set}
 use Rattle.std.proofs.lemmas.List.Recursion.{found_set_other}
 
 pub and_parts : (a b : Bool) → (a && b) ≡ true → (a ≡ true) × (b ≡ true)
@@ -19,6 +20,15 @@ and_both false b one other = absurd (cc one)
 pub not_true : (b : Bool) → not b ≡ true → b ≡ false
 not_true true is = absurd (cc is)
 not_true false is = refl
+
+-- what is weaker and fails makes the other fail
+pub fails_too : (a b : Bool) → (a ≡ true → b ≡ true) → b ≡ false → a ≡ false
+fails_too true b weaker isnt = let no : false ≡ true = sym isnt ∙ weaker refl in absurd (cc no)
+fails_too false b weaker isnt = refl
+
+pub not_false : (b : Bool) → not b ≡ false → b ≡ true
+not_false true is = refl
+not_false false is = absurd (cc is)
 
 module _ {X : Type 0} where
   pub all_weaker : (p q : X → Bool) → ((x : X) → p x ≡ true → q x ≡ true) → (xs : List X)
@@ -70,6 +80,11 @@ module _ {X : Type 0} where
   pub all_pass : (p : X → Bool) (xs : List X) → list_all p (filter p xs) ≡ true
   all_pass p [] = refl
   all_pass p (x ∷ xs) = passes_by p x xs (p x) refl (all_pass p xs)
+
+  -- an element that fails is not found
+  pub find_past : (p : X → Bool) (xs : List X) (y : X) (ys : List X) → p y ≡ false → find p (xs ++ y ∷ ys) ≡ find p (xs ++ ys)
+  find_past p xs y ys fails =
+      find-append p xs (y ∷ ys) ∙ ap (λ b. option_or (find p xs) (cond b (Some y) (find p ys))) fails ∙ sym (find-append p xs ys)
 
   -- a list at one of its elements
   pub split_at : (xs : List X) (i : ℕ) (x : X) → slice_get xs i ≡ Some x → xs ≡ take i xs ++ x ∷ drop (suc i) xs

@@ -1,9 +1,9 @@
 -- The open tabs after a write to the queues of one.
-use Rattle.std.proofs.Common.{◌≡◌, ◌<◌, ℕ, suc, Bool, true, false, cond, not, List, ◌∷◌, ◌++◌, length, take, drop, get_or, set, map, Option, Some, None, refl, ap, sym, subst, ◌∙◌, inl, inr}
+use Rattle.std.proofs.Common.{◌≡◌, ◌<◌, ℕ, suc, Bool, true, false, cond, not, List, ◌∷◌, ◌++◌, length, take, drop, get_or, set, map, Option, Some, None, refl, ap, sym, subst, ◌∙◌, inl, inr, arith}
 use Rattle.std.specs.Prelude.{◌==◌, ◌≢◌, ◌⊎◌, find, nat_lt, option_map, slice_get}
-use Rattle.std.specs.List.{list_all, position_or_len}
+use Rattle.std.specs.List.{insert, list_all, position_or_len, remove}
 use Rattle.std.proofs.lemmas.Bool.{eq-eqb}
-use Rattle.std.proofs.lemmas.Bool.Decides.{eqb_tells}
+use Rattle.std.proofs.lemmas.Bool.Decides.{eqb_tells, nat_tests}
 use Rattle.std.proofs.lemmas.List.{map-append, map-set, set_split, take-append-drop, take-map}
 use Rattle.std.proofs.lemmas.List.Folds.{find_at, list_all-map}
 use Rattle.std.proofs.lemmas.Option.{slice_get_read, slice_get_within}
@@ -12,7 +12,7 @@ use Rattle.live_state.specs.Held.{TabView, ready_tab}
 use Rattle.live_state.specs.Places.{IsAt, IsGap, are_lower}
 use Rattle.live_state.specs.Queues.{is_among, ready_frames}
 use Rattle.live_state.specs.Tabs.{PlainTab, is_rising, tab_at}
-use Rattle.live_state.proofs.ListLemmas.{all_weaker, find-map, find-written, first-at, map-none, split_at}
+use Rattle.live_state.proofs.ListLemmas.{all_weaker, find-map, find_past, find-written, first-at, map-none, split_at}
 use Rattle.live_state.proofs.PlacesLemmas.{found-gap, higher_isnt_it, lower_isnt_it, rising-with}
 use Rattle.live_state.proofs.SearchLemmas.{plain_of}
 use Rattle.live_state.proofs.StepLemmas.{number-here, plain_here, written-at}
@@ -115,6 +115,39 @@ module _ (n : ℕ) (ts : List TabView) (place : ℕ) (at : IsAt n (plain_of ts) 
 pub ready-gap : (n : ℕ) (ts : List TabView) (place : ℕ) → IsGap n (plain_of ts) place → (l : Label) → l.tab ≡ n → live_ready l ts ≡ false
 ready-gap n ts place gap l here =
     ready-found l.tab l.frame ts ∙ ap (λ m. ready_in l.frame (found m ts)) here ∙ ap (ready_in l.frame) (found-none n ts place gap)
+
+-- ---- a tab more, or less
+
+-- the tab of another number is found past this one
+other-found : (n m : ℕ) (front : List TabView) (t : TabView) (rest : List TabView) → t.plain.number ≡ n → (m == n) ≡ false
+    → found m (front ++ t ∷ rest) ≡ found m (front ++ rest)
+other-found n m front t rest same differ =
+    let fails : t.plain.number == m ≡ false = grind (arith, nat_tests) in find_past (λ u. u.plain.number == m) front t rest fails
+
+-- what was ready is so beside a new tab
+pub ready-inserted : (n : ℕ) (ts : List TabView) (place : ℕ) → IsGap n (plain_of ts) place → (new : TabView) → new.plain.number ≡ n → (l : Label)
+    → live_ready l ts ≡ true → live_ready l (insert ts place new) ≡ true
+ready-inserted n ts place gap new same l ready = by (eqb_tells l.tab n)
+  where
+    by : (((l.tab == n) ≡ true) × (l.tab ≡ n)) ⊎ (((l.tab == n) ≡ false) × (l.tab ≢ n)) → live_ready l (insert ts place new) ≡ true
+    by (inl equal) = let no : false ≡ true = sym (ready-gap n ts place gap l equal.1) ∙ ready in absurd (cc no)
+    by (inr differ) =
+        ready-found l.tab l.frame (insert ts place new)
+        ∙ ap (ready_in l.frame)
+        (other-found n l.tab (take place ts) new (drop place ts) same differ.0 ∙ ap (found l.tab) (take-append-drop place ts))
+        ∙ sym (ready-found l.tab l.frame ts)
+        ∙ ready
+
+-- what was ready in another tab is so without this one
+pub ready-removed : (n : ℕ) (ts : List TabView) (place : ℕ) → IsAt n (plain_of ts) place → (old : TabView) → place < length ts → old ≡ get_or ts place old
+    → (l : Label) → (l.tab == n) ≡ false → live_ready l ts ≡ true → live_ready l (remove ts place) ≡ true
+ready-removed n ts place at old within read l differ ready =
+    ready-found l.tab l.frame (remove ts place)
+    ∙ ap (ready_in l.frame)
+    (sym (ap (found l.tab) (split_at ts place old (here n ts place at old within read))
+    ∙ other-found n l.tab (take place ts) old (drop (suc place) ts) (number-here n ts place at old within read) differ))
+    ∙ sym (ready-found l.tab l.frame ts)
+    ∙ ready
 
 -- ---- a map that changes one tab
 

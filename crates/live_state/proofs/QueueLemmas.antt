@@ -1,6 +1,6 @@
 -- A write to one of the queues that a tab holds.
 use Rattle.std.proofs.Common.{◌≡◌, ◌<◌, ◌≤◌, ℕ, Bool, true, false, cond, List, [], ◌∷◌, ◌++◌, length, get_or, set, Option, Some, None, refl, ap, sym, subst, ◌∙◌, arith, inl, inr, Result, Ok, Err}
-use Rattle.std.specs.Prelude.{◌==◌, ◌≢◌, ◌⊎◌, is_some, nat_lt, slice_get, if◌then◌else◌, IsOk, OnOk}
+use Rattle.std.specs.Prelude.{◌==◌, ◌≢◌, ◌⊎◌, is_some, nat_lt, slice_get, if◌then◌else◌, IsOk, OnErr, OnOk}
 use Rattle.std.specs.List.{position, position_or_len}
 use Rattle.std.specs.Option.{option_or}
 use Rattle.std.proofs.lemmas.Bool.{eq-eqb, ne_eqb}
@@ -18,6 +18,9 @@ use Rattle.live_state.proofs.ListLemmas.{find-written}
 -- the first queue of a frame
 abbrev pub place_in : ℕ → List FrameQueue → Option ℕ
 place_in frame held = position (λ q. q.frame == frame) held
+
+turned : (m n : ℕ) → (m == n) ≡ false → (n == m) ≡ false
+turned m n differ = grind (arith, nat_tests)
 
 none_by : (b : Bool) (i : ℕ) → cond b (Some i) None ≡ None → b ≡ false
 none_by true i is = absurd (cc is)
@@ -75,7 +78,7 @@ module _ (frame : ℕ) (held : List FrameQueue) (place : ℕ) (is : place_in fra
       plain = λ n. changed_by change changes n (eqb_tells frame n);
       others = λ n differ ready.
           subst (λ o. ready_by o ≡ true)
-          (sym (held-written n ∙ ap (λ b. cond b (Some new) (held_at n held)) (ne_eqb frame n (λ e. differ (sym e))))) ready;
+          (sym (held-written n ∙ ap (λ b. cond b (Some new) (held_at n held)) (turned n frame differ))) ready;
     }
 
     same_by : plain_by frame (Some new) ≡ plain_by frame (Some old) → (n : ℕ)
@@ -195,6 +198,16 @@ told_by (Err e) is gives = tt
 pub stays_by : {T E : Type 0} (r : Result T E) {old new : Bool} → (old ≡ true → IsOk r) → OnOk r (new ≡ true) → old ≡ true → new ≡ true
 stays_by (Ok x) ok is ready = is
 stays_by (Err e) ok is ready = let no : false ≡ true = ok ready in absurd (cc no)
+
+-- who is ready is not refused
+pub refused_by : {T E : Type 0} (r : Result T E) {old : Bool} → (old ≡ true → IsOk r) → OnErr r (old ≡ false)
+refused_by (Ok x) ok = tt
+refused_by (Err e) {old = false} ok = refl
+refused_by (Err e) {old = true} ok = let no : false ≡ true = ok refl in absurd (cc no)
+
+pub on_err : {T E P : Type 0} (r : Result T E) → P → OnErr r P
+on_err (Ok x) is = tt
+on_err (Err e) is = is
 
 -- a take of no events
 pub changed-none : (frame : ℕ) (held : List FrameQueue) → held_at frame held ≡ None → IsChangedAt frame (λ queue. empty_queue queue.frame) held held

@@ -9,9 +9,9 @@ use Rattle.storage_key.specs.Key.{PlainKey}
 use Rattle.frame_tree.specs.Sandbox.{unrestricted}
 use Rattle.frame_tree.specs.Document.{loaded}
 use Rattle.frame_tree.specs.Tree.{PlainFrame}
-use Rattle.live_state.specs.Tabs.{PlainQueue, PlainTab, is_open, is_rising, next_tab, tabs_put, without_tab}
+use Rattle.live_state.specs.Tabs.{LiveView, PlainQueue, PlainTab, is_open, is_reserved, is_rising, next_tab, room_dropped, room_put, tabs_put, without_tab}
 use Rattle.live_state.specs.Documents.{documents, frame_numbers}
-use Rattle.live_state.specs.Queues.{are_distinct, has_document, is_ready, queue_at, sent, taken}
+use Rattle.live_state.specs.Queues.{are_distinct, goes, has_document, is_ready, is_told, queue_at, sent, taken}
 
 -- a value that changed
 abbrev change : EventView
@@ -101,6 +101,20 @@ closed_tab = refl
 open_and_closed : (is_open 7 tabs ≡ true) × (is_open 3 tabs ≡ false)
 open_and_closed = (refl, refl)
 
+-- there is room for one tab more
+abbrev roomy : LiveView
+roomy = record { tabs = tabs; ready = []; room = 1 }
+
+reserved : (is_reserved 2 roomy ≡ true) × (is_reserved 3 roomy ≡ true) × (is_reserved 3 (record roomy { room = 0 }) ≡ false)
+    × (is_reserved 2 (record roomy { room = 0 }) ≡ true)
+reserved = (refl, refl, refl, refl)
+
+room_after_put : (room_put 2 roomy ≡ 1) × (room_put 3 roomy ≡ 0)
+room_after_put = (refl, refl)
+
+room_after_drop : (room_dropped 2 roomy ≡ 2) × (room_dropped 3 roomy ≡ 1)
+room_after_drop = (refl, refl)
+
 -- ---- documents and their keys
 
 -- a frame below the top whose document is opaque
@@ -154,6 +168,19 @@ document_that_is_there = (refl, refl, refl)
 ready_document : (is_ready (record { tabs = tabs; ready = record { number = 2; frames = 5 ∷ [] } ∷ []; room = 0 }) (label 2 5) ≡ true)
     × (is_ready (record { tabs = tabs; ready = record { number = 2; frames = 5 ∷ [] } ∷ []; room = 0 }) (label 2 0) ≡ false)
 ready_document = (refl, refl)
+
+-- frame 5 has a fresh document, and frame 1 is not there
+documents_that_go : (goes 2 (frame 0 ∷ frame 5 ∷ []) (Some 5) (label 2 5) ≡ true) × (goes 2 (frame 0 ∷ frame 5 ∷ []) (Some 5) (label 2 1) ≡ true)
+documents_that_go = (refl, refl)
+
+documents_that_stay : (goes 2 (frame 0 ∷ frame 5 ∷ []) (Some 5) (label 2 0) ≡ false)
+    × (goes 2 (frame 0 ∷ frame 5 ∷ []) None (label 2 5) ≡ false)
+    × (goes 2 (frame 0 ∷ frame 5 ∷ []) (Some 0) (label 7 0) ≡ false)
+documents_that_stay = (refl, refl, refl)
+
+told_document : (is_told ((label 7 0, change) ∷ (label 2 5, change) ∷ []) (label 2 5) ≡ true)
+    × (is_told ((label 7 0, change) ∷ (label 2 5, change) ∷ []) (label 2 0) ≡ false)
+told_document = (refl, refl)
 
 document_twice : (are_distinct (label 2 5 ∷ label 2 0 ∷ label 7 5 ∷ []) ≡ true) × (are_distinct (label 2 5 ∷ label 7 0 ∷ label 2 5 ∷ []) ≡ false)
 document_twice = (refl, refl)

@@ -1,9 +1,10 @@
 -- A write at the place of a tab, as contracts see it.
-use Rattle.std.proofs.Common.{◌≡◌, ◌<◌, ◌-◌, ℕ, suc, Bool, true, false, List, [], ◌∷◌, ◌++◌, length, take, drop, get_or, set, map, refl, ap, sym, subst, ◌∙◌, arith, Some, None, Option, Result, Ok, Err, MatchResult}
+use Rattle.std.proofs.Common.{◌≡◌, ◌<◌, ◌≤◌, ◌+◌, ◌-◌, ℕ, suc, Bool, true, false, List, [], ◌∷◌, ◌++◌, length, take, drop, get_or, set, map, refl, ap, sym, subst, ◌∙◌, arith, Some, None, Option, Result, Ok, Err, MatchResult}
 use Rattle.std.specs.Prelude.{◌||◌, if◌then◌else◌, is_err, is_some, nat_lt, option_map, slice_get}
 use Rattle.std.specs.List.{insert, remove}
 use Rattle.std.proofs.lemmas.Bool.Decides.{nat_tests}
-use Rattle.std.proofs.lemmas.List.{drop-map, map-append, map-set, take-map}
+use Rattle.std.proofs.lemmas.List.Edits.{length-insert, length-remove}
+use Rattle.std.proofs.lemmas.List.{drop-map, length-map, map-append, map-set, take-map}
 use Rattle.std.proofs.lemmas.Option.{slice_get-map, slice_get_read}
 use Rattle.frame_tree.specs.Tree.{PlainFrame}
 use Rattle.live_state.specs.Held.{TabView}
@@ -31,10 +32,21 @@ module _ (n : ℕ) (ts : List TabView) (place : ℕ) (at : IsAt n (plain_of ts) 
     pub tab-here : tab_at n (plain_of ts) ≡ Some old.plain
     tab-here = found-at n (plain_of ts) place at ∙ plain_here
 
+    pub open-here : is_open n (plain_of ts) ≡ true
+    open-here = ap is_some tab-here
+
     pub number-here : old.plain.number ≡ n
     number-here =
         let same : ◌≡◌ {A = Option ℕ} (Some old.plain.number) (Some n) = sym (ap (option_map (λ t. t.number)) plain_here) ∙ at.here in
         cc
+
+    -- what the drop of an open tab gives back
+    pub room-here : (capacity : ℕ) → length ts ≤ capacity
+        → capacity - length (remove ts place) ≡ (if is_open n (plain_of ts) then capacity - length ts + 1 else capacity - length ts)
+    room-here capacity fits =
+        let less : length (remove ts place) + 1 ≡ length ts = length-remove ts place within in
+        let more : capacity - length (remove ts place) ≡ capacity - length ts + 1 = omega arith in
+        more ∙ ap (λ b. if b then capacity - length ts + 1 else capacity - length ts) (sym open-here)
 
     -- the tab at the place is another of its number
     pub written-at : (new : TabView) → new.plain.number ≡ n → plain_of (set ts place new) ≡ with_tab new.plain (plain_of ts)
@@ -61,6 +73,16 @@ module _ (n : ℕ) (ts : List TabView) (place : ℕ) (gap : IsGap n (plain_of ts
   -- where there is no tab, what is reserved is room
   pub room-gap : (capacity : ℕ) → (is_open n (plain_of ts) || nat_lt 0 (capacity - length ts)) ≡ true → length ts < capacity
   room-gap capacity reserved = room_by (is_open n (plain_of ts)) capacity (length ts) closed-gap reserved
+
+  -- what the put of a new tab takes
+  pub room-inserted : (capacity : ℕ) (new : TabView)
+      → capacity - length (insert ts place new) ≡ (if is_open n (plain_of ts) then capacity - length ts else capacity - length ts - 1)
+  room-inserted capacity new =
+      let long : length (plain_of ts) ≡ length ts = length-map ts (λ t. t.plain) in
+      let within : place ≤ length ts = rw (sym long) gap.within in
+      let more : length (insert ts place new) ≡ length ts + 1 = length-insert ts place new within in
+      let less : capacity - length (insert ts place new) ≡ capacity - length ts - 1 = omega arith in
+      less ∙ ap (λ b. if b then capacity - length ts else capacity - length ts - 1) (sym closed-gap)
 
 -- the tabs made of the ones before, in the place of one that is open
 pub put-open : (n : ℕ) (frames : List PlainFrame) (fresh : Option ℕ) (ts : List TabView) (place : ℕ) (at : IsAt n (plain_of ts) place)
@@ -98,6 +120,12 @@ pub rising-put : (n : ℕ) (frames : List PlainFrame) (fresh : Option ℕ) (befo
     → after ≡ tabs_put n frames fresh before → is_rising after ≡ true
 rising-put n frames fresh before after rising is =
     subst (λ ts. is_rising ts ≡ true) (sym is) (rising-with (made_tab n frames fresh (tab_at n before)) before rising)
+
+-- a tab that was not found is not open
+pub closed-found : (n : ℕ) (ts : List TabView) (r : Result ℕ ℕ) → MatchResult r (IsAt n (plain_of ts)) (IsGap n (plain_of ts))
+    → is_err r ≡ true → is_open n (plain_of ts) ≡ false
+closed-found n ts (Ok place) at is = absurd (cc is)
+closed-found n ts (Err place) gap is = closed-gap n ts place gap
 
 -- a tab that was found is open
 pub open-found : (n : ℕ) (ts : List TabView) (r : Result ℕ ℕ) → MatchResult r (IsAt n (plain_of ts)) (IsGap n (plain_of ts))

@@ -1,14 +1,14 @@
 -- What contracts see of an open tab after a write to one of its queues.
-use Rattle.std.proofs.Common.{◌≡◌, ℕ, Bool, true, false, cond, List, [], ◌∷◌, map, Option, Some, None, refl, ap, sym, ◌∙◌, inl, inr}
-use Rattle.std.specs.Prelude.{◌&&◌, ◌||◌, ◌==◌, ◌≢◌, ◌⊎◌, unwrap_or, if◌then◌else◌}
+use Rattle.std.proofs.Common.{◌≡◌, ℕ, Bool, true, false, cond, not, List, [], ◌∷◌, map, Option, Some, None, refl, ap, sym, ◌∙◌, inl, inr}
+use Rattle.std.specs.Prelude.{◌&&◌, ◌||◌, ◌==◌, ◌≢◌, ◌⊎◌, filter, unwrap_or, if◌then◌else◌}
 use Rattle.std.proofs.lemmas.Bool.Decides.{eqb_tells}
 use Rattle.frame_tree.specs.Tree.{PlainFrame, has_frame}
 use Rattle.live_state.specs.declared.frame_queue.FrameQueue.{FrameQueue}
 use Rattle.live_state.specs.Held.{IsChangedAt, held_at, is_held, plain_by, queues_of, ready_by, ready_of}
 use Rattle.live_state.specs.Queues.{is_among}
-use Rattle.live_state.specs.Tabs.{PlainQueue, empty_queue, queue_of}
+use Rattle.live_state.specs.Tabs.{PlainQueue, empty_queue, is_fresh, queue_of, stays}
 use Rattle.live_state.proofs.HeldLemmas.{find-queues, frame_by, held-absent}
-use Rattle.live_state.proofs.ListLemmas.{and_both, and_parts}
+use Rattle.live_state.proofs.ListLemmas.{and_both, and_parts, fails_too, find-kept, not_false}
 
 pub queues-same : (frames : List PlainFrame) (old new : List FrameQueue)
     → ((n : ℕ) → plain_by n (held_at n new) ≡ plain_by n (held_at n old)) → queues_of frames new ≡ queues_of frames old
@@ -77,12 +77,27 @@ pub ready-parts : (n : ℕ) (frames : List PlainFrame) (held : List FrameQueue) 
     → (has_frame n frames ≡ true) × (ready_by (held_at n held) ≡ true)
 ready-parts n frames held ready = and_parts (has_frame n frames) (ready_by (held_at n held)) (sym (among-ready n frames held) ∙ ready)
 
+-- a frame whose queue is not ready is not
+pub unready : (n : ℕ) (frames : List PlainFrame) (held : List FrameQueue) → ready_by (held_at n held) ≡ false
+    → is_among n (ready_of frames held) ≡ false
+unready n frames held isnt =
+    fails_too (is_among n (ready_of frames held)) (ready_by (held_at n held)) (λ ready. (ready-parts n frames held ready).1) isnt
+
 -- what is ready stays so
 pub ready-stays : (n : ℕ) (frames : List PlainFrame) (old new : List FrameQueue)
     → (ready_by (held_at n old) ≡ true → ready_by (held_at n new) ≡ true)
     → is_among n (ready_of frames old) ≡ true → is_among n (ready_of frames new) ≡ true
 ready-stays n frames old new stays ready =
     let parts = ready-parts n frames old ready in ready-there n frames new parts.0 (stays parts.1)
+
+-- what is ready and stays where frames are put into the tab is ready still
+pub ready-put : (fresh : Option ℕ) (frames made : List PlainFrame) (held : List FrameQueue) (n : ℕ) → not (stays fresh made n) ≡ false
+    → is_among n (ready_of frames held) ≡ true → is_among n (ready_of made (filter (λ q. stays fresh made q.frame) held)) ≡ true
+ready-put fresh frames made held n stay ready =
+    let there : stays fresh made n ≡ true = not_false (stays fresh made n) stay in
+    ready-there n made (filter (λ q. stays fresh made q.frame) held) (and_parts (not (is_fresh fresh n)) (has_frame n made) there).1
+    (ap ready_by (find-kept (λ q. q.frame) (stays fresh made) n held ∙ ap (λ b. cond b (held_at n held) None) there)
+    ∙ (ready-parts n frames held ready).1)
 
 -- each frame has a queue
 pub queues-each : (frames : List PlainFrame) (held : List FrameQueue) → map (λ q. q.frame) (queues_of frames held) ≡ map (λ f. f.frame) frames

@@ -1,9 +1,10 @@
 -- An open tab, as the list of open tabs sees it, and the queues that it holds: a frame whose
 -- document has heard of no event may have none.
-use Rattle.std.specs.Prelude.{◌≡◌, ◌≢◌, ℕ, Bool, true, false, not, ◌==◌, ◌&&◌, List, map, filter, find, Option, Some, None, if◌then◌else◌}
+use Rattle.std.specs.Prelude.{◌≡◌, ℕ, Bool, true, false, ◌==◌, List, map, filter, find, Option, Some, None, if◌then◌else◌}
 use Rattle.std.specs.List.{list_all}
 use Rattle.frame_tree.specs.Tree.{PlainFrame, has_frame}
-use Rattle.live_state.specs.Tabs.{PlainQueue, PlainTab, ReadyTab, empty_queue, is_fresh}
+use Rattle.live_state.specs.Queues.{is_among}
+use Rattle.live_state.specs.Tabs.{PlainQueue, PlainTab, ReadyTab, empty_queue}
 use Rattle.live_state.specs.declared.frame_queue.FrameQueue.{FrameQueue}
 
 -- an open tab, and the frames whose queue takes one event more without taking memory
@@ -29,6 +30,11 @@ abbrev pub ready_by : Option FrameQueue → Bool
 ready_by None = false
 ready_by (Some q) = q.queue.reserved
 
+-- each ready frame of a tab stays ready, but for these
+abbrev pub FramesStayReadyBut : (ℕ → Bool) → TabView → TabView → Type 0
+FramesStayReadyBut but old new =
+    (n : ℕ) → but n ≡ false → is_among n old.ready ≡ true → is_among n new.ready ≡ true
+
 -- the queue of each frame
 abbrev pub queues_of : List PlainFrame → List FrameQueue → List PlainQueue
 queues_of frames held = map (λ f. plain_by f.frame (held_at f.frame held)) frames
@@ -40,10 +46,6 @@ ready_of frames held = filter (λ frame. ready_by (held_at frame held)) (map (λ
 -- each held queue is that of a frame
 abbrev pub is_held : List PlainFrame → List FrameQueue → Bool
 is_held frames held = list_all (λ q. has_frame q.frame frames) held
-
--- a queue stays: its document is not fresh, and its frame is there still
-abbrev pub stays : Option ℕ → List PlainFrame → ℕ → Bool
-stays fresh made frame = not (is_fresh fresh frame) && has_frame frame made
 
 -- contracts see the queue that they saw of each frame
 abbrev pub SeenAlike : List FrameQueue → List FrameQueue → Type 0
@@ -62,7 +64,7 @@ pub record IsChangedAt (frame : ℕ) (change : PlainQueue → PlainQueue)
     (old new : List FrameQueue) : Type 0 where
   pub plain : (n : ℕ) → plain_by n (held_at n new)
       ≡ (if n == frame then change (plain_by n (held_at n old)) else plain_by n (held_at n old))
-  pub others : (n : ℕ) → n ≢ frame → StaysReady n old new
+  pub others : (n : ℕ) → (n == frame) ≡ false → StaysReady n old new
 
 -- a tab with the queue of one frame changed
 abbrev pub changed_at : ℕ → (PlainQueue → PlainQueue) → PlainTab → PlainTab

@@ -1,7 +1,7 @@
 -- The events that wait for documents: what is sent, and what is taken.
 -- Source: HTML, "Web storage", the broadcast of a storage object, which tells each document.
 -- Our own choice: an event waits in the queue of its document until the events are taken.
-use Rattle.std.specs.Prelude.{ℕ, Bool, true, not, ◌==◌, ◌&&◌, List, [], ◌∷◌, map, find, Option, Some, None, option_map, if◌then◌else◌}
+use Rattle.std.specs.Prelude.{◌≡◌, ℕ, Bool, true, false, not, ◌==◌, ◌&&◌, List, [], ◌∷◌, map, find, Option, Some, None, is_some, option_map, if◌then◌else◌}
 use Rattle.std.specs.List.{list_any}
 use Rattle.agent_base.specs.declared.refusals.Label.{Label}
 use Rattle.storage_events.specs.Audience.{same_label}
@@ -9,7 +9,7 @@ use Rattle.storage_events.specs.Event.{EventView, plain_event}
 use Rattle.storage_events.specs.Queue.{events_after, lost_after}
 use Rattle.storage_events.specs.declared.event.Event.{Event}
 use Rattle.frame_tree.specs.Tree.{PlainFrame, has_frame}
-use Rattle.live_state.specs.Tabs.{LiveView, PlainQueue, PlainTab, ReadyTab, empty_queue, queue_of, queues_before, tab_at}
+use Rattle.live_state.specs.Tabs.{LiveView, PlainQueue, PlainTab, ReadyTab, empty_queue, queue_of, queues_before, stays, tab_at}
 
 -- the frames of a tab, and none where it is not open
 abbrev pub frames_by : Option PlainTab → List PlainFrame
@@ -37,6 +37,15 @@ is_among frame frames = list_any (λ f. f == frame) frames
 abbrev pub is_ready : LiveView → Label → Bool
 is_ready live at = is_among at.frame (ready_frames (find (λ tab. tab.number == at.tab) live.ready))
 
+-- each ready document stays ready, but for these. So a later call takes no memory for the others.
+abbrev pub StayReadyBut : (Label → Bool) → LiveView → LiveView → Type 0
+StayReadyBut but old new =
+    (at : Label) → but at ≡ false → is_ready old at ≡ true → is_ready new at ≡ true
+
+-- a document goes where these frames are put into a tab: it is fresh, or its frame is not there
+abbrev pub goes : ℕ → List PlainFrame → Option ℕ → Label → Bool
+goes number made fresh at = at.tab == number && not (stays fresh made at.frame)
+
 -- no document stands twice
 abbrev pub are_distinct : List Label → Bool
 are_distinct [] = true
@@ -49,6 +58,10 @@ plain_sent entry = (entry.0, plain_event entry.1)
 -- the event among these that is for a document
 abbrev pub event_for : Label → List (Label × EventView) → Option EventView
 event_for at events = option_map (λ entry. entry.1) (find (λ entry. same_label entry.0 at) events)
+
+-- one of these events is for a document
+abbrev pub is_told : List (Label × EventView) → Label → Bool
+is_told events at = is_some (event_for at events)
 
 -- a queue after its event: it waits, or is counted as lost
 abbrev pub queue_told : Option EventView → PlainQueue → PlainQueue

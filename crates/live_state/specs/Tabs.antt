@@ -3,10 +3,10 @@
 -- them) and "Web storage", the broadcast of a storage object, which tells each document for itself.
 -- Our own choice: a tab has a number, and the list stands in the order of the numbers. The events
 -- of a document wait in a queue of its own, which goes with the document.
-use Rattle.std.specs.Prelude.{◌≡◌, ℕ, Bool, true, false, not, ◌==◌, ◌&&◌, ◌||◌, nat_lt, List, [], ◌∷◌, ◌++◌, map, filter, find, Option, Some, None, is_some, option_map, unwrap_or, if◌then◌else◌}
+use Rattle.std.specs.Prelude.{◌≡◌, ℕ, Bool, true, false, not, ◌==◌, ◌&&◌, ◌||◌, nat_lt, List, [], ◌∷◌, ◌++◌, ◌+◌, ◌-◌, map, filter, find, Option, Some, None, is_some, option_map, unwrap_or, if◌then◌else◌}
 use Rattle.std.specs.List.{list_all}
 use Rattle.storage_events.specs.Event.{EventView}
-use Rattle.frame_tree.specs.Tree.{PlainFrame}
+use Rattle.frame_tree.specs.Tree.{PlainFrame, has_frame}
 
 -- the queue of a frame's document: the events that wait, and the number of lost ones
 pub record PlainQueue : Type 0 where
@@ -86,6 +86,10 @@ abbrev pub is_fresh : Option ℕ → ℕ → Bool
 is_fresh None frame = false
 is_fresh (Some fresh) frame = frame == fresh
 
+-- a queue stays: its document is not fresh, and its frame is there still
+abbrev pub stays : Option ℕ → List PlainFrame → ℕ → Bool
+stays fresh made frame = not (is_fresh fresh frame) && has_frame frame made
+
 -- the queue of a frame afterwards: empty where its document is fresh or it had none, else as before
 abbrev pub queue_after : Option ℕ → List PlainQueue → ℕ → PlainQueue
 queue_after fresh before frame =
@@ -107,3 +111,11 @@ tabs_put number frames fresh tabs =
 -- one put of the tab takes no memory: it is open, or there is room for one more
 abbrev pub is_reserved : ℕ → LiveView → Bool
 is_reserved number live = is_open number live.tabs || nat_lt 0 live.room
+
+-- the room after a put of a tab, which takes one where the tab is new
+abbrev pub room_put : ℕ → LiveView → ℕ
+room_put number live = if is_open number live.tabs then live.room else live.room - 1
+
+-- the room after a drop of a tab, which gives one back where the tab was open
+abbrev pub room_dropped : ℕ → LiveView → ℕ
+room_dropped number live = if is_open number live.tabs then live.room + 1 else live.room

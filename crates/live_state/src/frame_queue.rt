@@ -1,11 +1,11 @@
 //! The queues that a tab holds.
-ghost use Rattle.std.specs.Prelude.{◌≡◌, ◌≢◌, ◌==◌, ℕ, List, OnOk, filter, is_some, map, true};
+ghost use Rattle.std.specs.Prelude.{◌≡◌, ◌==◌, ℕ, List, OnErr, OnOk, false, filter, is_some, map, true};
 ghost use Rattle.std.specs.List.{position};
 ghost use Rattle.storage_events.specs.Event.{plain_event};
 ghost use Rattle.frame_tree.specs.Tree.{PlainFrame, has_frame};
-ghost use Rattle.live_state.specs.Held.{IsChangedAt, SeenAlike, StaysHeld, StaysReady, held_at, plain_by, ready_by, stays};
+ghost use Rattle.live_state.specs.Held.{IsChangedAt, SeenAlike, StaysHeld, StaysReady, held_at, plain_by, ready_by};
 ghost use Rattle.live_state.specs.Queues.{queue_told};
-ghost use Rattle.live_state.specs.Tabs.{empty_queue, is_fresh};
+ghost use Rattle.live_state.specs.Tabs.{empty_queue, is_fresh, stays};
 
 use agent_base::NoMemory;
 use frame_tree::Tab;
@@ -29,6 +29,7 @@ pub fn keep_queues(queues: &mut Vec<FrameQueue>, made: &Tab, fresh: Option<u8>)
 /// Makes a queue for a frame that has none.
 pub fn make_queue(queues: &mut Vec<FrameQueue>, alloc: Global, frame: u8) -> Result<(), NoMemory>
     ensures there { OnOk result (is_some (held_at frame queues.new.items) ≡ true) }
+    ensures memory { OnErr result (is_some (held_at frame queues.old.items) ≡ false) }
     ensures same { SeenAlike queues.old.items queues.new.items }
     ensures ready { (n : ℕ) → StaysReady n queues.old.items queues.new.items }
     ensures held { (frames : List PlainFrame) → has_frame frame frames ≡ true
@@ -47,6 +48,7 @@ pub fn make_queue(queues: &mut Vec<FrameQueue>, alloc: Global, frame: u8) -> Res
 pub fn reserve_queue(queues: &mut Vec<FrameQueue>, frame: u8) -> Result<(), NoMemory>
     requires there { is_some (held_at frame queues.old.items) ≡ true }
     ensures reserved { OnOk result (ready_by (held_at frame queues.new.items) ≡ true) }
+    ensures memory { OnErr result (ready_by (held_at frame queues.old.items) ≡ false) }
     ensures same { SeenAlike queues.old.items queues.new.items }
     ensures ready { (n : ℕ) → StaysReady n queues.old.items queues.new.items }
     ensures held { (frames : List PlainFrame) → StaysHeld frames queues.old.items queues.new.items }

@@ -1,12 +1,12 @@
 //! The open tabs.
-ghost use Rattle.std.specs.Prelude.{◌≡◌, ◌≤◌, ◌<◌, [], ◌∷◌, false, true, length, map, IfOk, IfSome, MatchResult, OnOk, option_copied, option_map, slice_get, vec_capacity, vec_len};
+ghost use Rattle.std.specs.Prelude.{◌≡◌, ◌==◌, ◌≤◌, ◌<◌, [], ◌∷◌, false, true, length, map, IfOk, IfSome, MatchResult, OnErr, OnOk, option_copied, option_map, slice_get, vec_capacity, vec_len};
 ghost use Rattle.std.specs.List.{insert, list_all};
 ghost use Rattle.storage_events.specs.Audience.{same_label};
 ghost use Rattle.storage_events.specs.Event.{plain_event};
 ghost use Rattle.live_state.specs.Documents.{documents, plain_keyed};
 ghost use Rattle.live_state.specs.Places.{IsAt, IsGap};
-ghost use Rattle.live_state.specs.Queues.{are_distinct, has_document, is_ready, plain_sent, queue_at, sent, taken};
-ghost use Rattle.live_state.specs.Tabs.{HasQueues, is_reserved, is_rising, next_tab, tab_at, tabs_put, without_tab};
+ghost use Rattle.live_state.specs.Queues.{StayReadyBut, are_distinct, goes, has_document, is_ready, is_told, plain_sent, queue_at, sent, taken};
+ghost use Rattle.live_state.specs.Tabs.{HasQueues, is_open, is_reserved, is_rising, next_tab, room_dropped, room_put, tab_at, tabs_put, without_tab};
 
 use crate::open_tab::OpenTab;
 use agent_base::{Label, NoMemory};
@@ -48,6 +48,8 @@ impl Live {
     /// No tab.
     pub fn new(alloc: Global) -> Live
         ensures empty { result.tabs ≡ [] }
+        ensures ready { result.ready ≡ [] }
+        ensures room { result.room ≡ 0 }
     {
         Live {
             tabs: Vec::new(alloc),
@@ -83,6 +85,9 @@ impl Live {
         ensures reserved { OnOk result (is_reserved tab self.new ≡ true) }
         ensures same { (self.new.tabs ≡ self.old.tabs) × (self.new.ready ≡ self.old.ready) }
         ensures room { self.old.room ≤ self.new.room }
+        ensures open { is_open tab self.old.tabs ≡ true → self.new ≡ self.old }
+        ensures memory { OnErr result (is_reserved tab self.old ≡ false) }
+        ensures unchanged { OnErr result (self.new ≡ self.old) }
     {
         if place_of(self.tabs.as_slice(), tab).is_err() {
             self.tabs.reserve(1)?;
@@ -95,6 +100,8 @@ impl Live {
     pub fn put_tab(&mut self, tab: u16, made: Tab, fresh: Option<u8>)
         requires reserved { is_reserved tab self.old ≡ true }
         ensures put { self.new.tabs ≡ tabs_put tab made fresh self.old.tabs }
+        ensures room { self.new.room ≡ room_put tab self.old }
+        ensures kept { StayReadyBut (goes tab made fresh) self.old self.new }
     {
         match place_of(self.tabs.as_slice(), tab) {
             Ok(place) => self.tabs[place].put(made, fresh),
@@ -108,6 +115,8 @@ impl Live {
     /// Closes a tab. Its queues go with it.
     pub fn drop_tab(&mut self, tab: u16)
         ensures dropped { self.new.tabs ≡ without_tab tab self.old.tabs }
+        ensures room { self.new.room ≡ room_dropped tab self.old }
+        ensures kept { StayReadyBut (λ at. at.tab == tab) self.old self.new }
     {
         if let Ok(place) = place_of(self.tabs.as_slice(), tab) {
             self.tabs.remove(place);
@@ -138,6 +147,8 @@ impl Live {
     pub fn reserve_queues(&mut self, to: &[Label]) -> Result<(), NoMemory>
         requires there { list_all (has_document self.old.tabs) to.now ≡ true }
         ensures ready { OnOk result (list_all (is_ready self.new) to.now ≡ true) }
+        ensures memory { OnErr result (list_all (is_ready self.old) to.now ≡ false) }
+        ensures kept { StayReadyBut (λ at. false) self.old self.new }
         ensures same { (self.new.tabs ≡ self.old.tabs) × (self.new.room ≡ self.old.room) }
     {
         for at in to {
@@ -151,6 +162,7 @@ impl Live {
         requires ready { list_all (λ entry. is_ready self.old entry.0) events.items ≡ true }
         requires distinct { are_distinct (map (λ entry. entry.0) events.items) ≡ true }
         ensures sent { self.new.tabs ≡ sent (map plain_sent events.items) self.old.tabs }
+        ensures kept { StayReadyBut (is_told (map plain_sent events.items)) self.old self.new }
         ensures room { self.new.room ≡ self.old.room }
     {
         for (at, event) in events {
@@ -164,6 +176,7 @@ impl Live {
         ensures given { let before = queue_at self.old.tabs at in
             (map plain_event result.0.items ≡ before.events) × (result.1 ≡ before.lost) }
         ensures taken { self.new.tabs ≡ taken at self.old.tabs }
+        ensures kept { StayReadyBut (λ other. same_label other at) self.old self.new }
         ensures room { self.new.room ≡ self.old.room }
     {
         match place_of(self.tabs.as_slice(), at.tab) {
@@ -176,8 +189,8 @@ impl Live {
     fn reserve_queue(&mut self, at: Label) -> Result<(), NoMemory>
         requires there { has_document self.old.tabs at ≡ true }
         ensures reserved { OnOk result (is_ready self.new at ≡ true) }
-        ensures ready { (other : Label) → is_ready self.old other ≡ true
-            → is_ready self.new other ≡ true }
+        ensures memory { OnErr result (is_ready self.old at ≡ false) }
+        ensures kept { StayReadyBut (λ other. false) self.old self.new }
         ensures same { (self.new.tabs ≡ self.old.tabs) × (self.new.room ≡ self.old.room) }
     {
         let alloc = *self.tabs.allocator();
@@ -191,8 +204,7 @@ impl Live {
     fn push_event(&mut self, at: Label, event: Event)
         requires ready { is_ready self.old at ≡ true }
         ensures sent { self.new.tabs ≡ sent ((at, plain_event event) ∷ []) self.old.tabs }
-        ensures others { (other : Label) → same_label other at ≡ false
-            → is_ready self.old other ≡ true → is_ready self.new other ≡ true }
+        ensures kept { StayReadyBut (λ other. same_label other at) self.old self.new }
         ensures room { self.new.room ≡ self.old.room }
     {
         if let Ok(place) = place_of(self.tabs.as_slice(), at.tab) {
@@ -232,6 +244,7 @@ fn insert_at(tabs: &mut Vec<OpenTab>, place: usize, opened: OpenTab)
     requires room { vec_len tabs.old < vec_capacity tabs.old }
     requires within { place ≤ vec_len tabs.old }
     ensures inserted { tabs.new.items ≡ insert tabs.old.items place opened }
+    ensures capacity { vec_capacity tabs.new ≡ vec_capacity tabs.old }
 {
     let _ = tabs.insert(place, opened);
 }

@@ -1,14 +1,14 @@
 //! An open tab, with the queues of its documents.
-ghost use Rattle.std.specs.Prelude.{◌≡◌, ◌≢◌, ◌++◌, ℕ, IfOk, OnOk, map, option_map, true};
+ghost use Rattle.std.specs.Prelude.{◌≡◌, ◌==◌, ◌++◌, IfOk, OnErr, OnOk, false, map, not, option_map, true};
 ghost use Rattle.std.specs.Option.{option_to_list};
 ghost use Rattle.storage_events.specs.Event.{plain_event};
 ghost use Rattle.storage_key.specs.Plain.{plain_key};
 ghost use Rattle.frame_tree.specs.Tree.{has_frame, document_of};
 ghost use Rattle.frame_tree.specs.Plain.{plain_document};
 ghost use Rattle.live_state.specs.Documents.{documents_in, key_of_frame, keyed, plain_keyed};
-ghost use Rattle.live_state.specs.Held.{changed_at};
+ghost use Rattle.live_state.specs.Held.{FramesStayReadyBut, changed_at};
 ghost use Rattle.live_state.specs.Queues.{is_among, queue_told};
-ghost use Rattle.live_state.specs.Tabs.{HasQueues, empty_queue, made_tab, queue_of};
+ghost use Rattle.live_state.specs.Tabs.{HasQueues, empty_queue, made_tab, queue_of, stays};
 
 use crate::frame_queue::{
     FrameQueue, keep_queues, make_queue, push_event, reserve_queue, take_events,
@@ -73,6 +73,7 @@ impl OpenTab {
     pub fn put(&mut self, made: Tab, fresh: Option<u8>)
         ensures put { self.new.plain
             ≡ made_tab self.old.plain.number made fresh (Some self.old.plain) }
+        ensures kept { FramesStayReadyBut (λ n. not (stays fresh made n)) self.old self.new }
     {
         keep_queues(&mut self.queues, &made, fresh);
         self.tab = made;
@@ -82,8 +83,8 @@ impl OpenTab {
     pub fn reserve(&mut self, alloc: Global, frame: u8) -> Result<(), NoMemory>
         requires there { has_frame frame self.old.plain.frames ≡ true }
         ensures reserved { OnOk result (is_among frame self.new.ready ≡ true) }
-        ensures ready { (n : ℕ) → is_among n self.old.ready ≡ true
-            → is_among n self.new.ready ≡ true }
+        ensures memory { OnErr result (is_among frame self.old.ready ≡ false) }
+        ensures kept { FramesStayReadyBut (λ n. false) self.old self.new }
         ensures same { self.new.plain ≡ self.old.plain }
     {
         make_queue(&mut self.queues, alloc, frame)?;
@@ -95,8 +96,7 @@ impl OpenTab {
         requires ready { is_among frame self.old.ready ≡ true }
         ensures pushed { self.new.plain
             ≡ changed_at frame (queue_told (Some (plain_event event))) self.old.plain }
-        ensures others { (n : ℕ) → n ≢ frame → is_among n self.old.ready ≡ true
-            → is_among n self.new.ready ≡ true }
+        ensures kept { FramesStayReadyBut (λ n. n == frame) self.old self.new }
     {
         push_event(&mut self.queues, frame, event);
     }
@@ -107,6 +107,7 @@ impl OpenTab {
             (map plain_event result.0.items ≡ before.events) × (result.1 ≡ before.lost) }
         ensures emptied { self.new.plain
             ≡ changed_at frame (λ queue. empty_queue queue.frame) self.old.plain }
+        ensures kept { FramesStayReadyBut (λ n. n == frame) self.old self.new }
     {
         take_events(&mut self.queues, frame)
     }

@@ -1,7 +1,7 @@
 -- A retain is the filter by what the closure tests.
 use Rattle.std.proofs.Common.{rules}
 use Rattle.std.proofs.lemmas.Fn.{filter_same}
-use Rattle.live_state.specs.Held.{stays}
+use Rattle.live_state.specs.Tabs.{stays}
 use Rattle.live_state.proofs.frame_queue.keep_queues.Goals as goal
 
 pub returns : goal.returns

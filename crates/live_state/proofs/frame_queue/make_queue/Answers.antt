@@ -31,6 +31,13 @@ returns-in-Ok-clause-ready c =
     λ n ready. ap (λ after. ready_by (held_at n after)) c.in-Ok.ensures.items
     ∙ ready-more c.args.frame held _ (no-place c.args.frame held is) refl n ready
 
+pub returns-in_default-clause-memory : goal.returns-in_default-clause-memory
+returns-in_default-clause-memory c =
+    let held : List FrameQueue = c.args.queues.now.items in
+    let is : place_in c.args.frame held ≡ None =
+    ap (place_in c.args.frame) (sym c.as_slice.ensures.value) ∙ sym c.place_of.ensures.place ∙ none_from c.place_of.result c.if-is_none.ensures in
+    ap is_some (no-place c.args.frame held is)
+
 pub returns-else-is_none-clause-there : goal.returns-else-is_none-clause-there
 returns-else-is_none-clause-there c =
     let held : List FrameQueue = c.args.queues.now.items in

@@ -2,7 +2,8 @@
 use Rattle.std.proofs.Common.{◌≡◌, List, Some, None, true, false, ap, refl, sym, ◌∙◌}
 use Rattle.std.specs.Prelude.{is_some}
 use Rattle.live_state.specs.declared.frame_queue.FrameQueue.{FrameQueue}
-use Rattle.live_state.proofs.QueueLemmas.{is_held-written, no-place, place_in, ready-here, ready-written, same-written, stays_by, told_by}
+use Rattle.live_state.specs.Held.{ready_by}
+use Rattle.live_state.proofs.QueueLemmas.{held-here, is_held-written, no-place, place_in, ready-here, ready-written, refused_by, same-written, stays_by, told_by}
 use Rattle.live_state.proofs.frame_queue.reserve_queue.Goals as goal
 
 pub returns-in-Some-clause-reserved : goal.returns-in-Some-clause-reserved
@@ -11,6 +12,13 @@ returns-in-Some-clause-reserved c =
     let is : place_in c.args.frame held ≡ Some c.in-Some.place = ap (place_in c.args.frame) (sym c.as_slice.ensures.value) ∙ sym c.in-Some.ensures.place in
     told_by c.reserve.result c.reserve.ensures.reserved
     (λ ready. ready-here c.args.frame held c.in-Some.place is c.index_mut.result.now c.index_mut.ensures.value _ refl ready)
+
+pub returns-in-Some-clause-memory : goal.returns-in-Some-clause-memory
+returns-in-Some-clause-memory c =
+    let held : List FrameQueue = c.args.queues.now.items in
+    let is : place_in c.args.frame held ≡ Some c.in-Some.place = ap (place_in c.args.frame) (sym c.as_slice.ensures.value) ∙ sym c.in-Some.ensures.place in
+    refused_by c.reserve.result (λ ready. c.reserve.ensures.ready
+    (sym (ap ready_by (held-here c.args.frame held c.in-Some.place is c.index_mut.result.now c.index_mut.ensures.value)) ∙ ready))
 
 pub returns-in-Some-clause-same : goal.returns-in-Some-clause-same
 returns-in-Some-clause-same c =

@@ -1,11 +1,10 @@
 -- One queue of one tab has one event more.
 use Rattle.std.proofs.Common.{◌<◌, List, [], ◌∷◌, length, ap, refl, sym, ◌∙◌, rules}
-use Rattle.std.proofs.lemmas.Bool.{both_ways}
 use Rattle.storage_events.specs.Event.{plain_event}
 use Rattle.live_state.specs.Held.{TabView}
 use Rattle.live_state.specs.Places.{IsAt, IsGap}
 use Rattle.live_state.specs.Queues.{is_ready, sent, with_queues}
-use Rattle.live_state.proofs.LabelLemmas.{after_one, label-same, sent-here, sent-others}
+use Rattle.live_state.proofs.LabelLemmas.{after_one, frame-differs, sent-here, sent-others}
 use Rattle.live_state.proofs.LiveLemmas.{changed-none_of, changed-set, ready-at, ready-kept, rising-set}
 use Rattle.live_state.proofs.SearchLemmas.{plain_of}
 use Rattle.live_state.proofs.StepLemmas.{number-here}
@@ -43,8 +42,8 @@ returns-in-Ok-clause-sent c =
     within c.index_mut.ensures.value (c.push.ensures.pushed ∙ sym (sent-here c.args.at event old.plain number))
     ∙ ap (λ live. sent ((c.args.at, event) ∷ []) live.tabs) c.self.view_is
 
-pub returns-in-Ok-clause-others : goal.returns-in-Ok-clause-others
-returns-in-Ok-clause-others c = λ other differ ready.
+pub returns-in-Ok-clause-kept : goal.returns-in-Ok-clause-kept
+returns-in-Ok-clause-kept c = λ other differ ready.
     let items : List TabView = c.self.inside.tabs.items in
     let at : IsAt c.args.at.tab (plain_of items) c.in-Ok.place = rw c.as_slice.ensures.value at c.in-Ok.ensures.place in
     let old : TabView = c.index_mut.result.now in
@@ -52,8 +51,7 @@ returns-in-Ok-clause-others c = λ other differ ready.
     let number = number-here c.args.at.tab items c.in-Ok.place at old within c.index_mut.ensures.value in
     ready-kept c.args.at.tab items c.in-Ok.place at old within c.index_mut.ensures.value c.push.new.self
     (ap (λ t. t.number) c.push.ensures.pushed ∙ number) other
-    (λ here. c.push.ensures.others other.frame
-    (λ same. both_ways _ differ (label-same other c.args.at here same)))
+    (λ here. c.push.ensures.kept other.frame (frame-differs other c.args.at here differ))
     (ap (λ live. is_ready live other) c.self.view_is ∙ ready)
 
 pub returns-in_default-clause-sent : goal.returns-in_default-clause-sent

@@ -1,11 +1,12 @@
 -- The queue is there and ready, and contracts see the same tabs.
 use Rattle.std.proofs.Common.{◌≡◌, ◌<◌, List, length, true, false, ap, refl, sym, ◌∙◌, rules}
 use Rattle.std.proofs.lemmas.List.{map-id}
+use Rattle.std.proofs.lemmas.Result.{on_err_weaker}
 use Rattle.frame_tree.specs.Tree.{has_frame}
 use Rattle.live_state.specs.Held.{TabView}
 use Rattle.live_state.specs.Places.{IsAt, IsGap}
 use Rattle.live_state.specs.Queues.{frames_by, has_document, is_ready}
-use Rattle.live_state.proofs.LiveLemmas.{changed-set, ready-kept, ready-set, rising-set}
+use Rattle.live_state.proofs.LiveLemmas.{changed-set, ready-at, ready-kept, ready-set, rising-set}
 use Rattle.live_state.proofs.PlacesLemmas.{found-gap}
 use Rattle.live_state.proofs.QueueLemmas.{told_by}
 use Rattle.live_state.proofs.SearchLemmas.{plain_of}
@@ -43,15 +44,25 @@ returns-in-Ok-clause-reserved c =
     (λ ready. ready-set c.args.at.tab items c.in-Ok.place at old within c.index_mut.ensures.value c.reserve.new.self
     (ap (λ t. t.number) c.reserve.ensures.same ∙ number) c.args.at refl ∙ ready)
 
-pub returns-in-Ok-clause-ready : goal.returns-in-Ok-clause-ready
-returns-in-Ok-clause-ready c = λ other ready.
+pub returns-in-Ok-clause-memory : goal.returns-in-Ok-clause-memory
+returns-in-Ok-clause-memory c =
+    let items : List TabView = c.self.inside.tabs.items in
+    let at : IsAt c.args.at.tab (plain_of items) c.in-Ok.place = rw c.as_slice.ensures.value at c.in-Ok.ensures.place in
+    on_err_weaker c.reserve.result
+    (λ isnt. sym (ap (λ live. is_ready live c.args.at) c.self.view_is)
+    ∙ ready-at c.args.at.tab items c.in-Ok.place at c.index_mut.result.now (search rules) c.index_mut.ensures.value c.args.at refl
+    ∙ isnt)
+    c.reserve.ensures.memory
+
+pub returns-in-Ok-clause-kept : goal.returns-in-Ok-clause-kept
+returns-in-Ok-clause-kept c = λ other but ready.
     let items : List TabView = c.self.inside.tabs.items in
     let at : IsAt c.args.at.tab (plain_of items) c.in-Ok.place = rw c.as_slice.ensures.value at c.in-Ok.ensures.place in
     let old : TabView = c.index_mut.result.now in
     let within : c.in-Ok.place < length items = search rules in
     let number = number-here c.args.at.tab items c.in-Ok.place at old within c.index_mut.ensures.value in
     ready-kept c.args.at.tab items c.in-Ok.place at old within c.index_mut.ensures.value c.reserve.new.self
-    (ap (λ t. t.number) c.reserve.ensures.same ∙ number) other (λ here. c.reserve.ensures.ready other.frame)
+    (ap (λ t. t.number) c.reserve.ensures.same ∙ number) other (λ here. c.reserve.ensures.kept other.frame refl)
     (ap (λ live. is_ready live other) c.self.view_is ∙ ready)
 
 pub returns-in-Ok-clause-same : goal.returns-in-Ok-clause-same

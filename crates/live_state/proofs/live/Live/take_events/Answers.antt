@@ -3,10 +3,10 @@ use Rattle.std.proofs.Common.{◌≡◌, ◌<◌, List, length, map, None, ap, s
 use Rattle.storage_events.specs.Event.{plain_event}
 use Rattle.live_state.specs.Held.{TabView}
 use Rattle.live_state.specs.Places.{IsAt, IsGap}
-use Rattle.live_state.specs.Queues.{queue_at, taken, with_queues}
+use Rattle.live_state.specs.Queues.{is_ready, queue_at, taken, with_queues}
 use Rattle.live_state.specs.Tabs.{PlainQueue, queue_of, queues_before}
-use Rattle.live_state.proofs.LabelLemmas.{after_take, taken-here, taken-others}
-use Rattle.live_state.proofs.LiveLemmas.{changed-none_of, changed-set, rising-set}
+use Rattle.live_state.proofs.LabelLemmas.{after_take, frame-differs, taken-here, taken-others}
+use Rattle.live_state.proofs.LiveLemmas.{changed-none_of, changed-set, ready-kept, rising-set}
 use Rattle.live_state.proofs.PlacesLemmas.{found-gap}
 use Rattle.live_state.proofs.SearchLemmas.{plain_of}
 use Rattle.live_state.proofs.StepLemmas.{number-here, tab-here}
@@ -44,6 +44,18 @@ returns-in-Ok-clause-taken c =
     changed-set c.args.at.tab (with_queues (after_take c.args.at)) (taken-others c.args.at) items c.in-Ok.place at old c.take.new.self
     within c.index_mut.ensures.value (c.take.ensures.emptied ∙ sym (taken-here c.args.at old.plain number))
     ∙ ap (λ live. taken c.args.at live.tabs) c.self.view_is
+
+pub returns-in-Ok-clause-kept : goal.returns-in-Ok-clause-kept
+returns-in-Ok-clause-kept c = λ other differ ready.
+    let items : List TabView = c.self.inside.tabs.items in
+    let at : IsAt c.args.at.tab (plain_of items) c.in-Ok.place = rw c.as_slice.ensures.value at c.in-Ok.ensures.place in
+    let old : TabView = c.index_mut.result.now in
+    let within : c.in-Ok.place < length items = search rules in
+    let number = number-here c.args.at.tab items c.in-Ok.place at old within c.index_mut.ensures.value in
+    ready-kept c.args.at.tab items c.in-Ok.place at old within c.index_mut.ensures.value c.take.new.self
+    (ap (λ t. t.number) c.take.ensures.emptied ∙ number) other
+    (λ here. c.take.ensures.kept other.frame (frame-differs other c.args.at here differ))
+    (ap (λ live. is_ready live other) c.self.view_is ∙ ready)
 
 pub returns-in-Err-clause-given : goal.returns-in-Err-clause-given
 returns-in-Err-clause-given c =

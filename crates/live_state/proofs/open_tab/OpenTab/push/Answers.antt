@@ -20,7 +20,7 @@ returns-clause-pushed c =
     (queues-changed c.args.frame change c.self.inside.tab c.self.inside.queues.items c.push_event.new.queues.items c.push_event.ensures.pushed)
     ∙ ap (λ tab. changed_at c.args.frame change tab.plain) c.self.view_is
 
-pub returns-clause-others : goal.returns-clause-others
-returns-clause-others c = λ n differ ready.
+pub returns-clause-kept : goal.returns-clause-kept
+returns-clause-kept c = λ n differ ready.
     ready-stays n c.self.inside.tab c.self.inside.queues.items c.push_event.new.queues.items (c.push_event.ensures.pushed.others n differ)
     (ap (λ tab. is_among n tab.ready) c.self.view_is ∙ ready)

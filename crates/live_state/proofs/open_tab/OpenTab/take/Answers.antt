@@ -1,8 +1,9 @@
 -- The queue of the frame is given and emptied.
 use Rattle.std.proofs.Common.{◌≡◌, ap, sym, ◌∙◌}
 use Rattle.live_state.specs.Held.{changed_at, held_at, plain_by}
+use Rattle.live_state.specs.Queues.{is_among}
 use Rattle.live_state.specs.Tabs.{PlainQueue, empty_queue, queue_of}
-use Rattle.live_state.proofs.TabLemmas.{queue-held, queues-changed}
+use Rattle.live_state.proofs.TabLemmas.{queue-held, queues-changed, ready-stays}
 use Rattle.live_state.proofs.open_tab.OpenTab.take.Goals as goal
 
 pub returns-clause-given : goal.returns-clause-given
@@ -19,3 +20,8 @@ returns-clause-emptied c =
     ap (λ qs. record { number = c.self.inside.number; frames = c.self.inside.tab; queues = qs })
     (queues-changed c.args.frame (λ queue. empty_queue queue.frame) c.self.inside.tab c.self.inside.queues.items c.take_events.new.queues.items c.take_events.ensures.emptied)
     ∙ ap (λ tab. changed_at c.args.frame (λ queue. empty_queue queue.frame) tab.plain) c.self.view_is
+
+pub returns-clause-kept : goal.returns-clause-kept
+returns-clause-kept c = λ n differ ready.
+    ready-stays n c.self.inside.tab c.self.inside.queues.items c.take_events.new.queues.items (c.take_events.ensures.emptied.others n differ)
+    (ap (λ tab. is_among n tab.ready) c.self.view_is ∙ ready)

@@ -41,7 +41,7 @@ apart-reversed (f ∷ fs) apart =
     subst Apart (sym (reverse-cons f fs))
     (apart-snoc (reverse fs) f (apart-reversed fs apart.1) (has-reversed f.frame fs ∙ apart.0))
 
-has_at : (n : ℕ) (fs : List PlainFrame) (i : ℕ) (d : PlainFrame) → i < length fs → (get_or fs i d).frame ≡ n → has_frame n fs ≡ true
+pub has_at : (n : ℕ) (fs : List PlainFrame) (i : ℕ) (d : PlainFrame) → i < length fs → (get_or fs i d).frame ≡ n → has_frame n fs ≡ true
 has_at n [] i d low is = absurd (omega (arith, low))
 has_at n (f ∷ fs) zero d low is = ap (λ b. b || has_frame n fs) (eq-eqb f.frame n is)
 has_at n (f ∷ fs) (suc i) d low is =

@@ -3,3 +3,4 @@ pub mod ShapeLemmas
 pub mod TopLemmas
 pub mod ApartLemmas
 pub mod SetLemmas
+pub mod LastLemmas

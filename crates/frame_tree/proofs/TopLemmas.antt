@@ -1,12 +1,12 @@
 -- The site of the top document, in each change of the frames.
 use Rattle.std.proofs.Common.{◌≡◌, ◌≢◌, ℕ, Bool, true, false, cond, List, [], ◌∷◌, ◌++◌, map, reverse, refl, ap, ◌∙◌, sym, subst}
-use Rattle.std.specs.Prelude.{◌||◌, ◌==◌, filter, if◌then◌else◌}
-use Rattle.std.proofs.lemmas.Bool.{eqb-true, both_ways}
+use Rattle.std.specs.Prelude.{◌||◌, ◌==◌, filter, find, option_and_then, option_map, Some, if◌then◌else◌}
+use Rattle.std.proofs.lemmas.Bool.{eq-eqb, eqb-true, both_ways}
 use Rattle.std.proofs.lemmas.List.{reverse-reverse}
 use Rattle.std.proofs.lemmas.List.Folds.{list_any-append}
 use Rattle.frame_tree.specs.Calls.{with_document, without_below}
 use Rattle.frame_tree.specs.Document.{PlainDocument}
-use Rattle.frame_tree.specs.Tree.{PlainFrame, IsGrown, IsTree, chain_of, has_frame, top_site, with_next}
+use Rattle.frame_tree.specs.Tree.{PlainFrame, IsGrown, IsTree, chain_of, document_of, has_frame, top_site, with_next}
 use Rattle.frame_tree.proofs.ShapeLemmas.{chain-top, flip_apart, has-reversed, has_none, is_kept, or_none, or_true, reverse-cons, tree-filter}
 
 -- in a list of frames, newest first, the oldest is frame 0
@@ -28,11 +28,19 @@ newer_frames (e ∷ next ∷ fs) top grown =
     ap (λ b. b || has_frame 0 (next ∷ fs)) (not_zero e.frame (next ∷ fs) top (oldest_frame (next ∷ fs) top grown.2) grown.0)
     ∙ newer_frames (next ∷ fs) top grown.2
 
-has_zero : (fs : List PlainFrame) → IsGrown fs → has_frame 0 fs ≡ true
+-- frame 0 is there
+pub has_zero : (fs : List PlainFrame) → IsGrown fs → has_frame 0 fs ≡ true
 has_zero [] grown = absurd grown
 has_zero (f ∷ []) grown = ap (λ n. (n == 0) || false) grown.0
 has_zero (f ∷ next ∷ older) grown =
     ap (λ b. (f.frame == 0) || b) (has_zero (next ∷ older) grown.2) ∙ or_true (f.frame == 0)
+
+-- the document of frame 0 is the top's
+pub top-document : (fs : List PlainFrame) → IsTree fs → option_and_then (λ d. d.site) (document_of 0 fs) ≡ top_site fs
+top-document [] tree = absurd tree
+top-document (f ∷ fs) tree =
+    ap (λ b. option_and_then (λ d. d.site) (option_map (λ (g : PlainFrame). g.document) (cond b (Some f) (find (λ g. g.frame == 0) fs))))
+    (eq-eqb f.frame 0 (oldest_frame (reverse fs) f (subst IsGrown (reverse-cons f fs) tree)))
 
 -- a frame more
 pub top-added : (fs : List PlainFrame) (e : PlainFrame) → IsTree fs → top_site (fs ++ e ∷ []) ≡ top_site fs

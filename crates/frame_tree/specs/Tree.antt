@@ -2,7 +2,7 @@
 -- Source: HTML, "Navigables", parent, ancestor and descendant navigables.
 -- Our own choice: frames have numbers, and the top is frame 0. A frame is added behind its parent,
 -- and the list keeps that order.
-use Rattle.std.specs.Prelude.{◌≡◌, ℕ, Bool, true, false, ◌==◌, List, [], ◌∷◌, ◌++◌, reverse, find, Option, None, is_some, option_map, if◌then◌else◌}
+use Rattle.std.specs.Prelude.{◌≡◌, ◌≤◌, ℕ, Bool, true, false, ◌==◌, List, [], ◌∷◌, ◌++◌, reverse, find, Option, None, is_some, option_map, if◌then◌else◌}
 use Rattle.std.specs.List.{list_any}
 use Rattle.origin_site.specs.Site.{PlainSite}
 use Rattle.frame_tree.specs.Document.{PlainDocument}
@@ -20,6 +20,11 @@ with_next next f = record { frame = f.frame; parent = f.parent; document = next 
 -- there is a frame of this number
 abbrev pub has_frame : ℕ → List PlainFrame → Bool
 has_frame frame frames = list_any (λ f. f.frame == frame) frames
+
+-- the highest number of a frame: one has it, and none has a higher one
+pub record IsLastFrame (last : ℕ) (frames : List PlainFrame) : Type 0 where
+  pub there : has_frame last frames ≡ true
+  pub highest : (frame : ℕ) → has_frame frame frames ≡ true → frame ≤ last
 
 -- the document of a frame
 abbrev pub document_of : ℕ → List PlainFrame → Option PlainDocument

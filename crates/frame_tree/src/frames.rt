@@ -4,7 +4,7 @@ ghost use Rattle.std.specs.List.{list_all, list_any};
 ghost use Rattle.origin_site.specs.Plain.{plain_origin};
 ghost use Rattle.frame_tree.specs.Calls.{origin_of};
 ghost use Rattle.frame_tree.specs.Plain.{plain_chain_site, plain_document, plain_frame};
-ghost use Rattle.frame_tree.specs.Tree.{chain_back, document_of, has_frame};
+ghost use Rattle.frame_tree.specs.Tree.{IsLastFrame, chain_back, document_of, has_frame};
 
 use crate::Document;
 use crate::document::copy_of_site;
@@ -56,6 +56,18 @@ pub fn has_frame(frames: &[Frame], frame: u8) -> bool
         }
     }
     false
+}
+
+/// The highest number of a frame.
+pub fn last_frame(frames: &[Frame]) -> u8
+    requires top { has_frame 0 (map plain_frame frames.now) ≡ true }
+    ensures last { IsLastFrame result (map plain_frame frames.now) }
+{
+    let mut last = 0u8;
+    for f in frames {
+        last = last.max(f.frame);
+    }
+    last
 }
 
 /// The document of a frame.

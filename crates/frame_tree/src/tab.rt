@@ -4,10 +4,12 @@ ghost use Rattle.agent_base.specs.Answers.{Answers};
 ghost use Rattle.origin_site.specs.Plain.{plain_address};
 ghost use Rattle.frame_tree.specs.Calls.{IsDoneAt, activated, added, begins_with_site, consumed, flagged, is_active, is_https_chain, navigated, opened, sites_of, with_document, without, without_below};
 ghost use Rattle.frame_tree.specs.Plain.{plain_chain_site, plain_document, plain_frame, plain_sandbox};
-ghost use Rattle.frame_tree.specs.Tree.{IsTree, chain_of, document_of, has_frame, top_site};
+ghost use Rattle.frame_tree.specs.Tree.{IsLastFrame, IsTree, chain_of, document_of, has_frame, top_site};
 
 use crate::document::is_active_by;
-use crate::frames::{Frame, copies_of, document_of, has_frame, is_https_chain, sites_of};
+use crate::frames::{
+    Frame, copies_of, document_of, has_frame, is_https_chain, last_frame, sites_of,
+};
 use crate::marks::{activate, drop_frames, flag, put_document, unmark};
 use crate::sets::{frames_below, frames_from};
 use crate::{Document, Sandbox};
@@ -86,6 +88,13 @@ impl Tab {
         ensures tree { IsTree self.now }
     {
         document_of(self.frames.as_slice(), frame)
+    }
+
+    /// The highest number of a frame.
+    pub fn last_frame(&self) -> u8
+        ensures last { IsLastFrame result self.now }
+    {
+        last_frame(self.frames.as_slice())
     }
 
     /// The sites of the documents from the top to a frame's.

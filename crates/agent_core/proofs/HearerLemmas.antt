@@ -1,6 +1,7 @@
 -- The documents that hear of a change are among the documents, and none of them stands twice; and their events.
-use Rattle.std.proofs.Common.{◌≡◌, ◌||◌, ◌&&◌, Bool, true, false, cond, not, List, [], ◌∷◌, map, refl, sym, ap, ◌∙◌}
+use Rattle.std.proofs.Common.{◌≡◌, ◌||◌, Bool, true, false, cond, not, List, [], ◌∷◌, map, refl, sym, ap, ◌∙◌}
 use Rattle.std.proofs.lemmas.Bool.{or_parts}
+use Rattle.std.proofs.lemmas.List.Folds.{list_all-map}
 use Rattle.std.specs.Prelude.{filter}
 use Rattle.std.specs.List.{list_all, list_any}
 use Rattle.agent_base.specs.declared.refusals.Label.{Label}
@@ -26,11 +27,6 @@ module _ {X Y : Type 0} where
       at true one later = ap (λ b. b || list_any q (map f (filter p xs))) one ∙ later
       at false one later = later
 
--- what the labels have
-all_of : {X : Type 0} (p : Label → Bool) (f : X → Label) (xs : List X) → list_all (λ x. p (f x)) xs ≡ list_all p (map f xs)
-all_of p f [] = refl
-all_of p f (x ∷ xs) = ap (λ b. p (f x) && b) (all_of p f xs)
-
 module _ {K : Type 0} (p : Label × K → Bool) where
   kept_distinct : (ds : List (Label × K)) → are_distinct (map (λ d. d.0) ds) ≡ true → are_distinct (map (λ d. d.0) (filter p ds)) ≡ true
   kept_distinct [] distinct = refl
@@ -50,7 +46,7 @@ module _ {K : Type 0} (p : Label × K → Bool) where
 module _ {K : Type 0} (same : K → K → Bool) (kind : AreaKind) (writer : Label) (key : K) (ds : List (Label × K)) where
   pub audience_all : (p : Label → Bool) → list_all (λ d. p d.0) ds ≡ true → list_all p (audience same kind writer key ds) ≡ true
   audience_all p all =
-      sym (all_of p (λ d. d.0) (filter (hears same kind writer key) ds)) ∙ all_kept (hears same kind writer key) (λ d. p d.0) ds all
+      list_all-map p (λ d. d.0) (filter (hears same kind writer key) ds) ∙ all_kept (hears same kind writer key) (λ d. p d.0) ds all
 
   pub audience_distinct : are_distinct (map (λ d. d.0) ds) ≡ true → are_distinct (audience same kind writer key ds) ≡ true
   audience_distinct distinct = kept_distinct (hears same kind writer key) ds distinct
@@ -59,7 +55,7 @@ module _ {K : Type 0} (same : K → K → Bool) (kind : AreaKind) (writer : Labe
 
 module _ (event : EventView) (to : List Label) (events : List (Label × Event)) (is : map plain_sent events ≡ each_told event to) where
   pub sent_all : (p : Label → Bool) → list_all p to ≡ true → list_all (λ e. p e.0) events ≡ true
-  sent_all p all = all_of p (λ e. e.0) events ∙ ap (list_all p) (labels_sent event to events is) ∙ all
+  sent_all p all = sym (list_all-map p (λ e. e.0) events) ∙ ap (list_all p) (labels_sent event to events is) ∙ all
 
   pub sent_distinct : are_distinct to ≡ true → are_distinct (map (λ e. e.0) events) ≡ true
   sent_distinct distinct = ap are_distinct (labels_sent event to events is) ∙ distinct

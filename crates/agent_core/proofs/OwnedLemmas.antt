@@ -1,7 +1,7 @@
 -- Session areas belong to open tabs: what it says of each area, and what loads and closings keep of it.
-use Rattle.std.proofs.Common.{◌≡◌, ◌==◌, ℕ, Bool, true, false, cond, not, ◌&&◌, ◌||◌, List, [], ◌∷◌, Option, Some, None, refl, sym, ap, ◌∙◌}
+use Rattle.std.proofs.Common.{◌≡◌, ◌==◌, ℕ, Bool, true, false, cond, not, List, Option, Some, None, refl, sym, ap, ◌∙◌}
 use Rattle.std.proofs.lemmas.Bool.Decides.{Decides-eqb}
-use Rattle.std.specs.List.{list_all, list_any}
+use Rattle.std.specs.List.{list_any}
 use Rattle.std.specs.Option.{option_or}
 use Rattle.std.specs.Cmp.{nat_cmp_total, unsigned_tied}
 use Rattle.std.specs.Ordering.{nat_cmp}
@@ -13,6 +13,7 @@ use Rattle.origin_site.specs.Site.{PlainSite}
 use Rattle.storage_key.specs.Key.{PlainKey}
 use Rattle.frame_tree.specs.Calls.{opened}
 use Rattle.live_state.specs.Tabs.{PlainTab, made_tab}
+use Rattle.page_storage.proofs.CloseLemmas.{none_after}
 use Rattle.agent_model.specs.Partition.{SessionKey, session_order, Holdings, no_holdings, tab_named}
 use Rattle.agent_model.specs.Buckets.{evict}
 use Rattle.agent_model.specs.Sessions.{arrive, close, has_session, is_of_tab}
@@ -30,19 +31,11 @@ use Rattle.agent_core.specs.Standing.{AreOwned}
 abbrev pub HasNone : ℕ → Holdings → Type 0
 HasNone tab held = (key : PlainKey) → get held.sessions (tab, key) ≡ None
 
-none_of : (test : SessionKey → Bool) (ks : List SessionKey) → list_all (λ k. not (test k)) ks ≡ true → list_any test ks ≡ false
-none_of test [] pass = refl
-none_of test (k ∷ ks) pass = at (test k) pass (none_of test ks)
-  where
-    at : (b : Bool) → (not b && list_all (λ k. not (test k)) ks) ≡ true → (list_all (λ k. not (test k)) ks ≡ true → list_any test ks ≡ false) → (b || list_any test ks) ≡ false
-    at true pass later = cc
-    at false pass later = later pass
-
 -- it is what the test says
 pub none_tested : (tab : ℕ) (held : Holdings) → HasNone tab held → has_session tab held ≡ false
 none_tested tab held none =
     ap (λ sessions. list_any (is_of_tab tab) (keys sessions)) (sym all)
-    ∙ none_of (is_of_tab tab) _ (kept.kept_pass session_order session_order_total session_order_same held.sessions (λ key. not (is_of_tab tab key)))
+    ∙ none_after tab held.sessions
   where
     at : (key : SessionKey) (b : Bool) → (key.0 == tab) ≡ b → not b ≡ false → get held.sessions key ≡ None
     at key true same is = ap (λ number. get held.sessions (number, key.1)) ((Decides-eqb key.0 tab).0 same) ∙ none key.1

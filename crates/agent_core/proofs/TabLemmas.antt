@@ -1,5 +1,5 @@
 -- The open tabs as a map, and where they are, after each call on one tab.
-use Rattle.std.proofs.Common.{◌≡◌, ◌==◌, ◌&&◌, ℕ, Bool, true, false, cond, List, [], ◌∷◌, map, Option, Some, None, refl, sym, ap, ◌∙◌}
+use Rattle.std.proofs.Common.{◌≡◌, ◌==◌, ℕ, Bool, true, false, cond, not, List, [], ◌∷◌, map, Option, Some, None, refl, sym, ap, ◌∙◌}
 use Rattle.std.proofs.lemmas.Bool.Decides.{Decides-eqb}
 use Rattle.std.proofs.lemmas.Cmp.{nat_cmp_total}
 use Rattle.std.specs.Prelude.{option_map, if◌then◌else◌}
@@ -7,12 +7,13 @@ use Rattle.std.specs.Ordering.{nat_cmp}
 use Rattle.std.specs.FinMap.{insert, nat_cmp-IsAntisymmetric, remove}
 use Rattle.agent_base.specs.declared.refusals.Label.{Label}
 use Rattle.origin_site.specs.Site.{PlainSite}
-use Rattle.storage_events.specs.Audience.{same_label}
 use Rattle.storage_events.specs.Event.{EventView}
 use Rattle.frame_tree.specs.Tree.{PlainFrame, top_site}
 use Rattle.frame_tree.proofs.ShapeLemmas.{flip_apart}
 use Rattle.live_state.specs.Tabs.{PlainQueue, PlainTab, empty_queue, made_tab, tab_at, tabs_put, with_tab, without_tab}
 use Rattle.live_state.specs.Queues.{event_for, queue_told, sent, taken, with_queues}
+use Rattle.live_state.proofs.LabelLemmas.{after_take, taken-here, taken-others}
+use Rattle.live_state.proofs.ListLemmas.{find-map, map-agree}
 use Rattle.agent_model.specs.Lines.{placed, site_at}
 use Rattle.agent_model.specs.Queues.{with_taken}
 use Rattle.agent_model.proofs.KeptLemmas.{unchanged}
@@ -57,17 +58,6 @@ places_after_close number tabs = places_changed number None tabs (without_tab nu
 
 -- ---- queues
 
--- a tab with its queues changed is found where it was
-pub queues_found : (change : Label → PlainQueue → PlainQueue) (tabs : List PlainTab) (q : ℕ)
-    → tab_at q (map (with_queues change) tabs) ≡ option_map (with_queues change) (tab_at q tabs)
-queues_found change [] q = refl
-queues_found change (tab ∷ tabs) q = at (tab.number == q) (queues_found change tabs q)
-  where
-    at : (b : Bool) → tab_at q (map (with_queues change) tabs) ≡ option_map (with_queues change) (tab_at q tabs)
-        → cond b (Some (with_queues change tab)) (tab_at q (map (with_queues change) tabs)) ≡ option_map (with_queues change) (cond b (Some tab) (tab_at q tabs))
-    at true later = refl
-    at false later = later
-
 -- a change of queues leaves the places
 places_keep : (change : Label → PlainQueue → PlainQueue) (tabs : List PlainTab) → places_in (map (with_queues change) tabs) ≡ places_in tabs
 places_keep change [] = refl
@@ -78,38 +68,33 @@ places_after_send events tabs = places_keep (λ label queue. queue_told (event_f
 
 -- ---- events are taken
 
--- the queue of one document is empty
-abbrev pub taken_from : Label → Label → PlainQueue → PlainQueue
-taken_from label other queue = if same_label other label then empty_queue queue.frame else queue
-
 pub places_after_take : (label : Label) (tabs : List PlainTab) → places_in (taken label tabs) ≡ places_in tabs
-places_after_take label tabs = places_keep (taken_from label) tabs
+places_after_take label tabs = places_keep (after_take label) tabs
 
--- the queues of a tab that is the document's, or is not
-queues_taken : (here : Bool) (frame : ℕ) (queues : List PlainQueue)
-    → map (λ q. if here && (q.frame == frame) then empty_queue q.frame else q) queues
-    ≡ cond here (map (λ q. if q.frame == frame then empty_queue frame else q) queues) queues
-queues_taken true frame [] = refl
-queues_taken true frame (queue ∷ queues) = λ i. at (queue.frame == frame) refl i ∷ queues_taken true frame queues i
+-- the emptied queue of a frame, by the frame's number
+queues_taken : (frame : ℕ) (queues : List PlainQueue)
+    → map (λ q. if q.frame == frame then empty_queue q.frame else q) queues ≡ map (λ q. if q.frame == frame then empty_queue frame else q) queues
+queues_taken frame queues =
+    map-agree (λ q. if q.frame == frame then empty_queue q.frame else q) (λ q. if q.frame == frame then empty_queue frame else q) queues
+    (λ q. at q (q.frame == frame) refl)
   where
-    at : (b : Bool) → (queue.frame == frame) ≡ b → (if b then empty_queue queue.frame else queue) ≡ (if b then empty_queue frame else queue)
-    at true is = ap empty_queue ((Decides-eqb queue.frame frame).0 is)
-    at false apart = refl
-queues_taken false frame [] = refl
-queues_taken false frame (queue ∷ queues) = ap (λ later. queue ∷ later) (queues_taken false frame queues)
+    at : (q : PlainQueue) (b : Bool) → (q.frame == frame) ≡ b → (if b then empty_queue q.frame else q) ≡ (if b then empty_queue frame else q)
+    at q true is = ap empty_queue ((Decides-eqb q.frame frame).0 is)
+    at q false apart = refl
 
 module _ (label : Label) (tabs : List PlainTab) (tab : PlainTab) (is : tab_at label.tab tabs ≡ Some tab) where
   pub taken_changes : ChangesAt label.tab (Some (with_taken label.frame tab)) tabs (taken label tabs)
-  taken_changes q = queues_found (taken_from label) tabs q ∙ at (label.tab == q) refl (tab_at q tabs) refl
+  taken_changes q = find-map (with_queues (after_take label)) (λ tab. tab.number == q) tabs ∙ at (label.tab == q) refl (tab_at q tabs) refl
     where
-      one : (b : Bool) (other : PlainTab) → (other.number == label.tab) ≡ b → with_queues (taken_from label) other ≡ cond b (with_taken label.frame other) other
-      one true other is = ap (λ queues. record other { queues = queues }) (ap (λ b. map (λ q. if b && (q.frame == label.frame) then empty_queue q.frame else q) other.queues) is ∙ queues_taken true label.frame other.queues)
-      one false other is = ap (λ queues. record other { queues = queues }) (ap (λ b. map (λ q. if b && (q.frame == label.frame) then empty_queue q.frame else q) other.queues) is ∙ queues_taken false label.frame other.queues)
+      one : (b : Bool) (other : PlainTab) → (other.number == label.tab) ≡ b → with_queues (after_take label) other ≡ cond b (with_taken label.frame other) other
+      one true other is =
+          taken-here label other ((Decides-eqb other.number label.tab).0 is) ∙ ap (λ queues. record other { queues = queues }) (queues_taken label.frame other.queues)
+      one false other is = taken-others label other (ap not is)
 
       at : (b : Bool) → (label.tab == q) ≡ b → (found : Option PlainTab) → tab_at q tabs ≡ found
-          → option_map (with_queues (taken_from label)) found ≡ cond b (Some (with_taken label.frame tab)) found
+          → option_map (with_queues (after_take label)) found ≡ cond b (Some (with_taken label.frame tab)) found
       at true here found there =
-          ap (option_map (with_queues (taken_from label))) (sym there ∙ ap (λ n. tab_at n tabs) (sym ((Decides-eqb label.tab q).0 here)) ∙ is)
+          ap (option_map (with_queues (after_take label))) (sym there ∙ ap (λ n. tab_at n tabs) (sym ((Decides-eqb label.tab q).0 here)) ∙ is)
           ∙ ap Some (one true tab ((Decides-eqb tab.number label.tab).1 (number_found label.tab tabs tab is)))
       at false apart None there = refl
       at false apart (Some other) there = ap Some (one false other (ap (λ n. n == label.tab) (number_found q tabs other there) ∙ flip_apart label.tab q apart))

@@ -1,6 +1,8 @@
 -- A change is told: what is sent to the documents of the list, and told to those of the map.
-use Rattle.std.proofs.Common.{◌≡◌, ◌||◌, ℕ, Bool, true, false, cond, List, [], ◌∷◌, map, Option, Some, None, refl, sym, ap, ◌∙◌}
+use Rattle.std.proofs.Common.{◌≡◌, ◌==◌, ◌||◌, ℕ, Bool, true, false, cond, List, [], ◌∷◌, map, Option, Some, None, refl, sym, ap, ◌∙◌}
 use Rattle.std.proofs.lemmas.Cmp.{nat_cmp_total}
+use Rattle.std.proofs.lemmas.List.{map-id}
+use Rattle.std.proofs.lemmas.Simd.{map-map}
 use Rattle.std.specs.Prelude.{find, option_map}
 use Rattle.std.specs.List.{list_any}
 use Rattle.std.specs.Ordering.{eq_by_cmp, nat_cmp}
@@ -14,12 +16,12 @@ use Rattle.storage_events.specs.declared.event.Event.{Event}
 use Rattle.live_state.specs.Tabs.{PlainQueue, PlainTab, is_rising, tab_at}
 use Rattle.live_state.specs.Documents.{documents}
 use Rattle.live_state.specs.Queues.{plain_sent, event_for, label_of, queue_told, sent, with_queues}
+use Rattle.live_state.proofs.ListLemmas.{find-map}
 use Rattle.agent_model.specs.Documents.{Keyed, hears_at, told, told_queue, told_tab}
 use Rattle.agent_model.proofs.KeptLemmas.{get_mapped}
 use Rattle.agent_core.specs.Standing.{tabs_in}
 use Rattle.agent_core.specs.Kept.{AreTrees}
 use Rattle.agent_core.proofs.LiveLemmas.{number_found, tab_found}
-use Rattle.agent_core.proofs.TabLemmas.{queues_found}
 use Rattle.agent_core.proofs.MemberLemmas.{passes}
 use Rattle.agent_core.proofs.AudienceLemmas.{in_audience}
 
@@ -41,15 +43,8 @@ event_sent label event (l ∷ to) = at (same_label l label) (event_sent label ev
 
 -- events of the program that are such ones are for these documents
 pub labels_sent : (event : EventView) (to : List Label) (events : List (Label × Event)) → map plain_sent events ≡ each_told event to → map (λ e. e.0) events ≡ to
-labels_sent event to events is = sym (plain events) ∙ ap (map (λ e. e.0)) is ∙ told to
-  where
-    plain : (events : List (Label × Event)) → map (λ e. e.0) (map plain_sent events) ≡ map (λ e. e.0) events
-    plain [] = refl
-    plain (e ∷ events) = ap (λ l. e.0 ∷ l) (plain events)
-
-    told : (to : List Label) → map (λ e. e.0) (each_told event to) ≡ to
-    told [] = refl
-    told (label ∷ to) = ap (λ l. label ∷ l) (told to)
+labels_sent event to events is =
+    sym (map-map (λ e. e.0) plain_sent events) ∙ ap (map (λ e. e.0)) is ∙ map-map (λ e. e.0) (λ label. (label, event)) to ∙ map-id to
 
 module _ (kind : AreaKind) (writer : Keyed) (event : EventView) (tabs : List PlainTab) (rising : is_rising tabs ≡ true) (trees : AreTrees tabs) where
   -- the documents that hear
@@ -87,6 +82,6 @@ module _ (kind : AreaKind) (writer : Keyed) (event : EventView) (tabs : List Pla
   -- what is sent to the documents that hear, in the list, is told to every document of the map
   pub tabs_after_send : tabs_in (sent (each_told event hearers) tabs) ≡ told kind writer event (tabs_in tabs)
   tabs_after_send = same_map nat_cmp_total nat_cmp-IsAntisymmetric _ _ (λ q.
-      tab_found q (sent (each_told event hearers) tabs) ∙ queues_found change tabs q ∙ tab_sent q (tab_at q tabs) refl
+      tab_found q (sent (each_told event hearers) tabs) ∙ find-map (with_queues change) (λ tab. tab.number == q) tabs ∙ tab_sent q (tab_at q tabs) refl
       ∙ sym (get_mapped nat_cmp nat_cmp_total nat_cmp-IsAntisymmetric (told_tab kind writer event) (tabs_in tabs) q
       ∙ ap (option_map (told_tab kind writer event q)) (tab_found q tabs)))

@@ -1,14 +1,21 @@
 -- The tab and the document that a line names, where they are found.
-use Rattle.std.proofs.Common.{◌≡◌, ◌==◌, ℕ, Bool, true, false, cond, not, List, [], ◌∷◌, Option, Some, None, refl, sym, ap, ◌∙◌}
+use Rattle.std.proofs.Common.{◌≡◌, ◌⊎◌, inl, inr, ◌==◌, ◌||◌, Err, ℕ, Bool, true, false, cond, not, List, [], ◌∷◌, Option, Some, None, refl, sym, ap, ◌∙◌}
 use Rattle.std.specs.Prelude.{find, is_some, option_map}
 use Rattle.std.proofs.lemmas.Bool.{eq-eqb}
+use Rattle.storage_key.specs.declared.key.StorageKey.{StorageKey}
+use Rattle.frame_tree.specs.declared.tab.TreeFault.{TreeFault}
+use Rattle.frame_tree.specs.declared.tab.TreeFault.TheVariants.{NoMemory}
+use Rattle.frame_tree.specs.Calls.{sites_of}
 use Rattle.frame_tree.specs.Document.{PlainDocument}
 use Rattle.frame_tree.specs.Tree.{PlainFrame, IsTree, document_of, has_frame, top_site}
 use Rattle.frame_tree.proofs.TopLemmas.{top-marked}
+use Rattle.live_state.specs.Documents.{key_of_document}
 use Rattle.live_state.specs.Queues.{frames_by}
 use Rattle.live_state.specs.Tabs.{PlainTab}
 use Rattle.live_state.proofs.ListLemmas.{is_some-find, is_some-map}
 use Rattle.agent_model.proofs.PlacedLemmas.{top_is}
+use Rattle.agent_core.specs.Parts.{IsFound, key_wanted}
+use Rattle.agent_core.specs.declared.documents.Found.TheVariants.{Keyed}
 
 -- ---- tabs
 
@@ -32,6 +39,22 @@ frames_are found frames tab is there = sym (ap frames_by there) ∙ frames_found
 pub document_there : (frame : ℕ) (frames : List PlainFrame) → is_some (document_of frame frames) ≡ has_frame frame frames
 document_there frame frames = is_some-map (λ f. f.document) (find (λ f. f.frame == frame) frames) ∙ is_some-find (λ f. f.frame == frame) frames
 
+-- a document that has a key is there
+pub there_by_key : (frame : ℕ) (frames : List PlainFrame) (own : StorageKey) → IsFound (key_wanted frame frames) (Keyed own) → has_frame frame frames ≡ true
+there_by_key frame frames own is = sym (document_there frame frames) ∙ by (document_of frame frames) is
+  where
+    by : (found : Option PlainDocument) → IsFound (option_map (key_of_document frame frames) found) (Keyed own) → is_some found ≡ true
+    by None is = absurd is
+    by (Some document) is = refl
+
+-- a document that is there has a chain: memory alone can be wanting
+pub chain_there : (frame : ℕ) (frames : List PlainFrame) (document : PlainDocument) (why : TreeFault) → document_of frame frames ≡ Some document
+    → (why ≡ NoMemory) ⊎ (sites_of frame frames ≡ Err why) → why ≡ NoMemory
+chain_there frame frames document why found (inl wanting) = wanting
+chain_there frame frames document why found (inr refused) =
+    let there : has_frame frame frames ≡ true = sym (document_there frame frames) ∙ ap is_some found in
+    absurd (cc (there, refused))
+
 -- the top is frame 0: a change of every other frame leaves its site
 top_zero : (top : PlainFrame) (below : List PlainFrame) → IsTree (top ∷ below) → (top.frame == 0) ≡ true
 top_zero top below tree = at (top.frame == 0) kept
@@ -45,6 +68,11 @@ top_zero top below tree = at (top.frame == 0) kept
     at : (b : Bool) → (cond (not b) (record top { document = bare top.document }) top).document.site ≡ top.document.site → b ≡ true
     at true same = refl
     at false same = absurd (cc (ap is_some same, top_is (top ∷ below) tree))
+
+-- a tree has a document in frame 0
+pub top_there : (frames : List PlainFrame) → IsTree frames → is_some (document_of 0 frames) ≡ true
+top_there [] tree = absurd tree
+top_there (top ∷ below) tree = document_there 0 (top ∷ below) ∙ ap (λ b. b || has_frame 0 below) (top_zero top below tree)
 
 -- the document of frame 0 has the site of the top
 pub top_found : (frames : List PlainFrame) (document : PlainDocument) → IsTree frames → document_of 0 frames ≡ Some document → top_site frames ≡ document.site

@@ -1,5 +1,5 @@
 -- What a line makes of what the agent holds, and its reply.
-use Rattle.std.specs.Prelude.{◌≡◌, ℕ, Bool, true, List, Option, Some, None, Result, MatchResult, IfOk, OnOk, OnErr}
+use Rattle.std.specs.Prelude.{◌≡◌, ℕ, Bool, true, false, List, Option, Some, None, is_some, Result, MatchResult, IfOk, OnOk, OnErr}
 use Rattle.unwinding.specs.World.{line_reply, world_step}
 use Rattle.agent_base.specs.declared.refusals.Label.{Label}
 use Rattle.agent_base.specs.declared.refusals.NoMemory.{NoMemory}
@@ -93,15 +93,27 @@ label_of (Estimate at) = Some at
 label_of (Persist at answer) = Some at
 label_of (Evict site) = None
 
--- what an action does that is done with the storage key of its document
-abbrev pub by_keyed : PlainTab → PlainAction → Option (Keyed → Holdings → Done)
-by_keyed tab (Set at area key value) = Some (set_item area key value)
-by_keyed tab (Get at area key) = Some (get_item area key)
-by_keyed tab (Del at area key) = Some (remove_item area key)
-by_keyed tab (Clear at area) = Some (clear_area area)
-by_keyed tab (Len at area) = Some (get_length area)
-by_keyed tab (Key at area n) = Some (get_name area n)
-by_keyed tab (Persisted at) = Some get_mode
-by_keyed tab (Estimate at) = Some get_usage
-by_keyed tab (Persist at answer) = Some (persist tab answer)
-by_keyed tab action = None
+-- an action on the frames of a tab
+abbrev pub is_on_frames : PlainAction → Bool
+is_on_frames (Frame at parent url sandbox deny) = true
+is_on_frames (Nav at url by_self method) = true
+is_on_frames (Drop at) = true
+is_on_frames (Click at) = true
+is_on_frames action = false
+
+-- what an action does that is done with the storage key of its document, which is in this tab
+abbrev pub by_keyed : PlainAction → Option (PlainTab → Keyed → Holdings → Done)
+by_keyed (Set at area key value) = Some (λ tab. set_item area key value)
+by_keyed (Get at area key) = Some (λ tab. get_item area key)
+by_keyed (Del at area key) = Some (λ tab. remove_item area key)
+by_keyed (Clear at area) = Some (λ tab. clear_area area)
+by_keyed (Len at area) = Some (λ tab. get_length area)
+by_keyed (Key at area n) = Some (λ tab. get_name area n)
+by_keyed (Persisted at) = Some (λ tab. get_mode)
+by_keyed (Estimate at) = Some (λ tab. get_usage)
+by_keyed (Persist at answer) = Some (λ tab. persist tab answer)
+by_keyed action = None
+
+-- an action is one of these
+abbrev pub is_keyed : PlainAction → Bool
+is_keyed action = is_some (by_keyed action)

@@ -1,8 +1,9 @@
 //! Actions in an open tab.
-ghost use Rattle.std.specs.Prelude.{◌≡◌, ◌≤◌, Some};
+ghost use Rattle.std.specs.Prelude.{◌≡◌, ◌≤◌, Some, true};
 ghost use Rattle.storage_key.specs.Plain.{plain_key};
 ghost use Rattle.frame_tree.specs.Document.{PlainDocument};
-ghost use Rattle.live_state.specs.Tabs.{PlainTab, tab_at};
+ghost use Rattle.live_state.specs.Queues.{has_document};
+ghost use Rattle.live_state.specs.Tabs.{PlainTab, is_open, tab_at};
 ghost use Rattle.script_lines.specs.Plain.{action_of};
 ghost use Rattle.agent_model.specs.Partition as model;
 ghost use Rattle.agent_model.specs.Rest.{last_moment};
@@ -10,7 +11,7 @@ ghost use Rattle.agent_model.specs.SiteEvent.{Done};
 ghost use Rattle.agent_model.specs.Documents.{Keyed, with_key};
 ghost use Rattle.agent_model.specs.SiteStep.{act_in, action_name};
 ghost use Rattle.agent_core.specs.Parts.{document_at, held_of};
-ghost use Rattle.agent_core.specs.Steps.{Acts, by_keyed, label_of};
+ghost use Rattle.agent_core.specs.Steps.{Acts, by_keyed, is_keyed, label_of};
 
 use crate::documents::{Found, key_at};
 use crate::holdings::Holdings;
@@ -59,6 +60,7 @@ impl Holdings {
         action: &Action,
     ) -> Result<ReplyBody, NoMemory>
         requires now { now ≤ last_moment }
+        requires open { is_open at.tab self.old.live.tabs ≡ true }
         requires named { label_of (action_of action.now) ≡ Some at }
         ensures acts { (tab : PlainTab) → tab_at at.tab self.old.live.tabs ≡ Some tab
             → Acts (act_in list.now.rules now (action_of action.now) tab (held_of self.old)) self.old self.new result }
@@ -82,14 +84,13 @@ impl Holdings {
         at: Label,
         action: &Action,
     ) -> Result<ReplyBody, NoMemory>
+        requires open { is_open at.tab self.old.live.tabs ≡ true }
+        requires keyed { is_keyed (action_of action.now) ≡ true }
         ensures acts { (tab : PlainTab) → tab_at at.tab self.old.live.tabs ≡ Some tab
-            → (done : Keyed → model.Holdings → Done) → by_keyed tab (action_of action.now) ≡ Some done
-            → Acts (with_key at tab done (held_of self.old)) self.old self.new result }
+            → (does : PlainTab → Keyed → model.Holdings → Done) → by_keyed (action_of action.now) ≡ Some does
+            → Acts (with_key at tab (does tab) (held_of self.old)) self.old self.new result }
     {
-        let Some(tab) = self.live.tab(at.tab) else {
-            return Err(NoMemory);
-        };
-        match key_at(alloc, tab, at.frame)? {
+        match key_at(alloc, self.tab(at.tab), at.frame)? {
             Found::NoFrame => Ok(answer("no-frame")),
             Found::Opaque => Ok(answer("security")),
             Found::Keyed(key) => self.act_under(alloc, at, key, action),
@@ -104,11 +105,13 @@ impl Holdings {
         key: StorageKey,
         action: &Action,
     ) -> Result<ReplyBody, NoMemory>
+        requires there { has_document self.old.live.tabs at ≡ true }
+        requires keyed { is_keyed (action_of action.now) ≡ true }
         ensures acts { (tab : PlainTab) → tab_at at.tab self.old.live.tabs ≡ Some tab
             → (document : PlainDocument) → document_at at self.old.live.tabs ≡ Some document
-            → (done : Keyed → model.Holdings → Done) → by_keyed tab (action_of action.now) ≡ Some done
+            → (does : PlainTab → Keyed → model.Holdings → Done) → by_keyed (action_of action.now) ≡ Some does
             → let writer : Keyed = record { at = at; document = document; key = plain_key key } in
-            Acts (done writer (held_of self.old)) self.old self.new result }
+            Acts (does tab writer (held_of self.old)) self.old self.new result }
     {
         match action {
             Action::Set {
@@ -133,7 +136,7 @@ impl Holdings {
             Action::Persisted { .. } => Ok(self.persisted(&key)),
             Action::Estimate { .. } => Ok(self.estimate(&key)),
             Action::Persist { answer, .. } => self.persist(at, key, *answer),
-            _ => Err(NoMemory),
+            _ => unreachable!(),
         }
     }
 }

@@ -1,9 +1,10 @@
 //! Actions on the areas of a document.
-ghost use Rattle.std.specs.Prelude.{◌≡◌, ◌↔◌, IfOk, IsTrue, Some, length, option_copied, option_map, string_bytes};
+ghost use Rattle.std.specs.Prelude.{◌≡◌, ◌↔◌, IfOk, IsTrue, Some, length, option_copied, option_map, string_bytes, true};
 ghost use Rattle.storage_key.specs.Plain.{plain_key};
 ghost use Rattle.local_area.specs.Area.{area_get, area_nth, area_put};
 ghost use Rattle.frame_tree.specs.Document.{PlainDocument};
 ghost use Rattle.storage_events.specs.Event.{plain_event};
+ghost use Rattle.live_state.specs.Queues.{has_document};
 ghost use Rattle.script_lines.specs.Plain.{body_of};
 ghost use Rattle.script_lines.specs.Reply as reply_text;
 ghost use Rattle.agent_model.specs.Partition.{area_of};
@@ -97,6 +98,7 @@ impl Holdings {
         name: &str,
         value: &str,
     ) -> Result<ReplyBody, NoMemory>
+        requires { has_document self.old.live.tabs at ≡ true }
         ensures acts { (document : PlainDocument) → document_at at self.old.live.tabs ≡ Some document
             → let writer : Keyed = record { at = at; document = document; key = plain_key key } in
             Acts (set_item area name.now value.now writer (held_of self.old)) self.old self.new result }
@@ -146,6 +148,7 @@ impl Holdings {
         key: StorageKey,
         name: &str,
     ) -> Result<ReplyBody, NoMemory>
+        requires { has_document self.old.live.tabs at ≡ true }
         ensures acts { (document : PlainDocument) → document_at at self.old.live.tabs ≡ Some document
             → let writer : Keyed = record { at = at; document = document; key = plain_key key } in
             Acts (remove_item area name.now writer (held_of self.old)) self.old self.new result }
@@ -169,6 +172,7 @@ impl Holdings {
         area: AreaKind,
         key: StorageKey,
     ) -> Result<ReplyBody, NoMemory>
+        requires { has_document self.old.live.tabs at ≡ true }
         ensures acts { (document : PlainDocument) → document_at at self.old.live.tabs ≡ Some document
             → let writer : Keyed = record { at = at; document = document; key = plain_key key } in
             Acts (clear_area area writer (held_of self.old)) self.old self.new result }

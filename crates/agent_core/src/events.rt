@@ -9,7 +9,7 @@ ghost use Rattle.storage_events.specs.Audience.{audience};
 ghost use Rattle.storage_events.specs.Event.{plain_event};
 ghost use Rattle.live_state.specs.Documents.{documents};
 ghost use Rattle.live_state.specs.Queues.{are_distinct, is_ready, plain_sent};
-ghost use Rattle.live_state.specs.Tabs.{PlainTab, is_rising, tab_at};
+ghost use Rattle.live_state.specs.Tabs.{PlainTab, is_open, is_rising, tab_at};
 ghost use Rattle.agent_model.specs.Queues.{take_events};
 ghost use Rattle.agent_core.specs.Parts.{held_of};
 ghost use Rattle.agent_core.specs.Steps.{Acts};
@@ -97,6 +97,7 @@ impl Holdings {
 
     /// Takes the events that wait for a document.
     pub fn take(&mut self, at: Label) -> ReplyBody
+        requires { is_open at.tab self.old.live.tabs ≡ true }
         ensures acts { (tab : PlainTab) → tab_at at.tab self.old.live.tabs ≡ Some tab
             → Acts (take_events at tab (held_of self.old)) self.old self.new (Ok result) }
     {

@@ -6,13 +6,13 @@ ghost use Rattle.frame_tree.specs.Calls.{activated, navigated, without};
 ghost use Rattle.frame_tree.specs.Plain.{plain_sandbox};
 ghost use Rattle.frame_tree.specs.Sandbox.{sandbox_of};
 ghost use Rattle.frame_tree.specs.Tree.{top_site};
-ghost use Rattle.live_state.specs.Tabs.{PlainTab, tab_at};
+ghost use Rattle.live_state.specs.Tabs.{PlainTab, is_open, tab_at};
 ghost use Rattle.script_lines.specs.Plain.{action_of, body_of};
 ghost use Rattle.agent_model.specs.Rest.{last_moment};
 ghost use Rattle.agent_model.specs.Frames.{act_on_frames, frames_after, fresh_frame, where_below, where_there};
 ghost use Rattle.agent_core.specs.Kept.{adds_number};
 ghost use Rattle.agent_core.specs.Parts.{held_of};
-ghost use Rattle.agent_core.specs.Steps.{Acts};
+ghost use Rattle.agent_core.specs.Steps.{Acts, is_on_frames};
 
 use crate::holdings::Holdings;
 use crate::replies::answer;
@@ -34,14 +34,13 @@ impl Holdings {
         action: &Action,
         body: ReplyBody,
     ) -> Result<ReplyBody, NoMemory>
-        requires { now ≤ last_moment }
+        requires now { now ≤ last_moment }
+        requires open { is_open at.tab self.old.live.tabs ≡ true }
+        requires on_frames { is_on_frames (action_of action.now) ≡ true }
         ensures acts { (tab : PlainTab) → tab_at at.tab self.old.live.tabs ≡ Some tab
             → Acts (act_on_frames list.now.rules now (action_of action.now) at.tab tab (body_of body) (held_of self.old)) self.old self.new result }
     {
-        let Some(tab) = self.live.tab(at.tab) else {
-            return Err(NoMemory);
-        };
-        let mut made = tab.copy()?;
+        let mut made = self.tab(at.tab).copy()?;
         match act(alloc, &mut made, action, now, list) {
             Ok(()) => {
                 self.live.put_tab(at.tab, made, fresh_frame(action));
@@ -72,7 +71,8 @@ fn act(
     now: u64,
     list: &SuffixList,
 ) -> Result<(), TreeFault>
-    requires { now ≤ last_moment }
+    requires now { now ≤ last_moment }
+    requires on_frames { is_on_frames (action_of action.now) ≡ true }
     ensures answer { Answers (λ _. tab.new) TreeFault.NoMemory
         (frames_after list.now.rules now (action_of action.now) tab.old) result }
     ensures site { top_site tab.new ≡ top_site tab.old }
@@ -93,7 +93,7 @@ fn act(
         Action::Nav { at, url, .. } => navigate(alloc, tab, at.frame, url, list),
         Action::Drop { at } => remove(tab, at.frame),
         Action::Click { at } => click(tab, at.frame, now),
-        _ => Ok(()),
+        _ => unreachable!(),
     }
 }
 

@@ -1,5 +1,5 @@
 //! Loads of top documents, and tabs that are closed.
-ghost use Rattle.std.specs.Prelude.{◌≡◌, ℕ, false, IfOk, OnErr, OnOk, Some};
+ghost use Rattle.std.specs.Prelude.{◌≡◌, ℕ, false, true, IfOk, OnErr, OnOk, Some};
 ghost use Rattle.std.specs.FinMap as finite;
 ghost use Rattle.origin_site.specs.Plain.{plain_address, plain_site};
 ghost use Rattle.origin_site.specs.Site.{site_of_address};
@@ -45,6 +45,7 @@ impl Holdings {
         url: &Address,
         opener: Option<u16>,
     ) -> Result<Site, NoMemory>
+        requires there { is_there opener self.old.live.tabs ≡ true }
         requires fresh { (from : ℕ) → opener ≡ Some from → has_session tab (held_of self.old) ≡ false }
         ensures site { IfOk result (λ site. plain_site site ≡ site_of_address list.now.rules (plain_address url.now)) }
         ensures held { let copied = with_copies opener tab self.old.live.tabs (held_of self.old) in
@@ -63,6 +64,7 @@ impl Holdings {
 
     // Copies the session areas of an opener, under the site that it is at, to a new tab.
     fn copy_areas(&mut self, alloc: Global, opener: Option<u16>, tab: u16) -> Result<(), NoMemory>
+        requires there { is_there opener self.old.live.tabs ≡ true }
         requires fresh { (from : ℕ) → opener ≡ Some from → has_session tab (held_of self.old) ≡ false }
         ensures held { OnOk result (held_of self.new ≡ with_copies opener tab self.old.live.tabs (held_of self.old)) }
         ensures live { self.new.live ≡ self.old.live }
@@ -71,10 +73,7 @@ impl Holdings {
         let Some(opener) = opener else {
             return Ok(());
         };
-        let Some(found) = self.live.tab(opener) else {
-            return Ok(());
-        };
-        let site = site_of_tab(alloc, found)?;
+        let site = site_of_tab(alloc, self.tab(opener))?;
         self.storage.copy_tab(&site, opener, tab)
     }
 

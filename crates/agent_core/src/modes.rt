@@ -1,10 +1,10 @@
 //! Actions on the buckets of documents.
-ghost use Rattle.std.specs.Prelude.{◌≡◌, Some};
+ghost use Rattle.std.specs.Prelude.{◌≡◌, Some, true};
 ghost use Rattle.storage_key.specs.Plain.{plain_key};
 ghost use Rattle.frame_tree.specs.Calls.{is_https_chain};
 ghost use Rattle.frame_tree.specs.Document.{PlainDocument};
 ghost use Rattle.local_area.specs.Area.{area_weight};
-ghost use Rattle.live_state.specs.Tabs.{PlainTab, tab_at};
+ghost use Rattle.live_state.specs.Tabs.{PlainTab, is_open, tab_at};
 ghost use Rattle.script_lines.specs.Plain.{body_of};
 ghost use Rattle.script_lines.specs.Reply as reply_text;
 ghost use Rattle.storage_events.specs.declared.event.AreaKind.TheVariants.{Local};
@@ -47,6 +47,7 @@ impl Holdings {
         key: StorageKey,
         prompt: Prompt,
     ) -> Result<ReplyBody, NoMemory>
+        requires { is_open at.tab self.old.live.tabs ≡ true }
         ensures acts { (tab : PlainTab) → tab_at at.tab self.old.live.tabs ≡ Some tab → (document : PlainDocument)
             → Acts (persist tab prompt (record { at = at; document = document; key = plain_key key }) (held_of self.old)) self.old self.new result }
     {
@@ -65,13 +66,11 @@ impl Holdings {
 
     // Whether each document from the top to this one is https.
     fn is_secure(&self, at: Label) -> bool
+        requires { is_open at.tab self.now.live.tabs ≡ true }
         ensures secure { (tab : PlainTab) → tab_at at.tab self.now.live.tabs ≡ Some tab
             → result ≡ is_https_chain at.frame tab.frames }
     {
-        match self.live.tab(at.tab) {
-            Some(tab) => tab.https_chain(at.frame),
-            None => false,
-        }
+        self.tab(at.tab).https_chain(at.frame)
     }
 }
 

@@ -1,5 +1,5 @@
 //! The replies that the agent gives.
-ghost use Rattle.std.specs.Prelude.{◌≡◌, ◌≤◌, [], Some, None, codes, pos, option_map, string_bytes};
+ghost use Rattle.std.specs.Prelude.{◌≡◌, ◌≤◌, [], Some, None, codes, pos};
 ghost use Rattle.origin_site.specs.Plain.{plain_site};
 ghost use Rattle.script_lines.specs.Plain.{body_of, reply_of};
 ghost use Rattle.script_lines.specs.Reply as reply_text;

@@ -1,5 +1,5 @@
 use Rattle.std.proofs.Common.{ℕ, List, Some, None, refl, sym, ap, ◌∙◌}
-use Rattle.std.specs.Prelude.{codes, option_map}
+use Rattle.std.specs.Prelude.{codes, is_some, option_map}
 use Rattle.origin_site.specs.Plain.{plain_site}
 use Rattle.live_state.specs.Tabs.{tab_at}
 use Rattle.script_lines.specs.Plain.{action_of, body_of}
@@ -23,6 +23,11 @@ returns-in_default c =
           (runs_without_tab action _ c.refused.result is.wants (ap (λ tab. site_at tab places) is.tab ∙ nowhere)
           (c.refused.ensures ∙ ap (λ (name : List ℕ). record { name = name; site = None; body = Plain (codes "no-tab") }) c.name_of-name.ensures));
     }
+
+pub act-requires-clause-open : goal.act-requires-clause-open
+act-requires-clause-open c =
+    let place = sym c.in_ok-site.ensures.site ∙ ap (option_map plain_site) c.in-Some.is in
+    ap is_some (shown_is _ c.args.at.tab c.self.invariant (plain_site c.in-Some.site) place).1
 
 -- memory was wanting for the action in its tab
 failed : (c : goal.After-drop-site) → Stays c.self.inside.held c.act.new.self

@@ -3,7 +3,7 @@ use Rattle.origin_site.specs.Plain.{plain_address}
 use Rattle.script_lines.specs.Script.{Open}
 use Rattle.agent_model.specs.Sessions.{arrive}
 use Rattle.agent_core.specs.Parts.{held_of}
-use Rattle.agent_core.specs.Steps.{with_copies}
+use Rattle.agent_core.specs.Steps.{is_there, with_copies}
 use Rattle.agent_core.proofs.StandingLemmas.{reply_told, runs_from, runs_still}
 use Rattle.agent_core.proofs.RunsLemmas.{runs_stays}
 use Rattle.agent_core.proofs.OpenRunsLemmas.{copied_from, fresh_is, runs_opened, runs_taken, runs_unopened, standing_opened}
@@ -30,7 +30,15 @@ returns-then-is_open c =
     }
 
 pub show-requires : goal.show-requires
-show-requires c = record { fresh = λ from is. fresh_is _ c.self.invariant c.args.tab (sym c.if-is_open.ensures.«open») }
+show-requires c =
+    let tabs = c.self.inside.held.live.tabs in
+    record {
+      there = elim c.if-noopener.branch [
+        | then-noopener w ↦ ap (λ from. is_there from tabs) w.copied-is
+        | else-noopener w ↦ ap (λ from. is_there from tabs) w.copied-is ∙ sym c.if-not-is_there.ensures.there
+      ];
+      fresh = λ from is. fresh_is _ c.self.invariant c.args.tab (sym c.if-is_open.ensures.«open»);
+    }
 
 pub returns-in_err-site : goal.returns-in_err-site
 returns-in_err-site c =

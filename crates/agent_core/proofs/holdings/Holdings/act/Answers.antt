@@ -4,8 +4,8 @@ use Rattle.script_lines.specs.declared.action.Action.{Action}
 use Rattle.agent_model.specs.SiteEvent.{Done}
 use Rattle.agent_model.specs.SiteStep.{act_in}
 use Rattle.agent_core.specs.Parts.{held_of}
-use Rattle.agent_core.specs.Steps.{Acts, IsDone, label_of}
-use Rattle.agent_core.proofs.ActLemmas.{load_acts, loads_frame, mark_acts, marks_frame, take_acts}
+use Rattle.agent_core.specs.Steps.{Acts, IsDone, is_keyed, label_of}
+use Rattle.agent_core.proofs.ActLemmas.{keyed_acts, load_acts, loads_frame, mark_acts, marks_frame, take_acts}
 use Rattle.agent_core.proofs.holdings.Holdings.act.Goals as goal
 
 pub returns-in-Events : goal.returns-in-Events
@@ -18,6 +18,17 @@ returns-in-Events c =
           subst (λ (d : Done). IsDone d c.args.self.now c.take.new.self (body_of c.take.result))
           (take_acts rules c.args.now c.args.at tab held c.in-Events.at label ∙ ap (λ (a : Action). act_in rules c.args.now (action_of a) tab held) (sym c.in-Events.is))
           (c.take.ensures.acts tab found);
+    }
+
+pub returns-in_default : goal.returns-in_default
+returns-in_default c =
+    let action = action_of c.args.action.now in
+    let keyed : is_keyed action ≡ true = search rules in
+    record {
+      acts = λ tab found.
+          keyed_acts c.args.list.now.rules c.args.now c.args.at tab (held_of c.args.self.now)
+          (λ (d : Done). Acts d c.args.self.now c.act_with_key.new.self c.act_with_key.result) action keyed c.requires.named
+          (λ does is. c.act_with_key.ensures.acts tab found does is);
     }
 
 pub returns-in-Drop : goal.returns-in-Drop

@@ -7,12 +7,12 @@ use Rattle.live_state.proofs.ListLemmas.{is_some-map}
 use Rattle.agent_core.proofs.FoundLemmas.{document_there, frames_found}
 use Rattle.agent_core.proofs.holdings.Holdings.has_document.Goals as goal
 
-pub returns-in-Some : goal.returns-in-Some
-returns-in-Some c =
-    let tab : List PlainFrame = c.in-Some.tab.now in
-    rw (← c.self.view_is) (record {
+pub returns : goal.returns
+returns c =
+    let tab : List PlainFrame = c.tab.result.now in
+    record {
       there = c.is_some.ensures
           ∙ sym (is_some-map (λ d. d.now) c.document.result) ∙ sym (is_some-map plain_document (option_copied c.document.result))
           ∙ ap is_some c.document.ensures.document ∙ document_there c.args.at.frame tab
-          ∙ sym (ap (has_frame c.args.at.frame) (frames_found (tab_at c.args.at.tab c.self.inside.live.tabs) tab c.in-Some.ensures.tab));
-    })
+          ∙ sym (ap (has_frame c.args.at.frame) (frames_found (tab_at c.args.at.tab c.args.self.now.live.tabs) tab (sym c.tab.ensures.tab)));
+    }

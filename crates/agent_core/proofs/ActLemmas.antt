@@ -1,5 +1,6 @@
 -- An action in an open tab: on its frames, by the storage key of a document, or on its queue.
-use Rattle.std.proofs.Common.{◌≡◌, ℕ, Bool, true, false, List, [], Some, None, refl, ap, subst}
+use Rattle.std.proofs.Common.{◌≡◌, ℕ, Bool, true, false, List, [], Some, None, ap, subst}
+use Rattle.std.specs.Prelude.{IfSome}
 use Rattle.suffix_list.specs.Suffix.{Rule}
 use Rattle.agent_base.specs.declared.refusals.Label.{Label}
 use Rattle.live_state.specs.Tabs.{PlainTab}
@@ -52,18 +53,18 @@ module _ (rules : List Rule) (now : ℕ) (at : Label) (tab : PlainTab) (held : H
   by does own keyed is done = let label : at ≡ own = cc is in subst (λ l. does (with_key l tab keyed held)) label done
 
   pub keyed_acts : (does : Done → Type 0) (action : PlainAction) → is_keyed action ≡ true → label_of action ≡ Some at
-      → ((keyed : PlainTab → Keyed → Holdings → Done) → by_keyed action ≡ Some keyed → does (with_key at tab (keyed tab) held))
+      → IfSome (by_keyed action) (λ keyed. does (with_key at tab (keyed tab) held))
       → does (act_in rules now action tab held)
-  keyed_acts does (Set own area key value) is label each = by does own (set_item area key value) label (each _ refl)
-  keyed_acts does (Get own area key) is label each = by does own (get_item area key) label (each _ refl)
-  keyed_acts does (Del own area key) is label each = by does own (remove_item area key) label (each _ refl)
-  keyed_acts does (Clear own area) is label each = by does own (clear_area area) label (each _ refl)
-  keyed_acts does (Len own area) is label each = by does own (get_length area) label (each _ refl)
-  keyed_acts does (Key own area n) is label each = by does own (get_name area n) label (each _ refl)
-  keyed_acts does (Persisted own) is label each = by does own get_mode label (each _ refl)
-  keyed_acts does (Estimate own) is label each = by does own get_usage label (each _ refl)
-  keyed_acts does (Persist own answer) is label each = by does own (persist tab answer) label (each _ refl)
-  keyed_acts does action is label each = absurd (cc is)
+  keyed_acts does (Set own area key value) is label done = by does own (set_item area key value) label done
+  keyed_acts does (Get own area key) is label done = by does own (get_item area key) label done
+  keyed_acts does (Del own area key) is label done = by does own (remove_item area key) label done
+  keyed_acts does (Clear own area) is label done = by does own (clear_area area) label done
+  keyed_acts does (Len own area) is label done = by does own (get_length area) label done
+  keyed_acts does (Key own area n) is label done = by does own (get_name area n) label done
+  keyed_acts does (Persisted own) is label done = by does own get_mode label done
+  keyed_acts does (Estimate own) is label done = by does own get_usage label done
+  keyed_acts does (Persist own answer) is label done = by does own (persist tab answer) label done
+  keyed_acts does action is label done = absurd (cc is)
 
   pub take_acts : (own : Label) → label_of (Events own) ≡ Some at → take_events at tab held ≡ act_in rules now (Events own) tab held
   take_acts own is = let label : at ≡ own = cc is in ap (λ l. take_events l tab held) label

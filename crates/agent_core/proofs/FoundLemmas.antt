@@ -2,6 +2,9 @@
 use Rattle.std.proofs.Common.{◌≡◌, ◌⊎◌, inl, inr, ◌==◌, ◌||◌, Err, ℕ, Bool, true, false, cond, not, List, [], ◌∷◌, Option, Some, None, refl, sym, ap, ◌∙◌}
 use Rattle.std.specs.Prelude.{find, is_some, option_map}
 use Rattle.std.proofs.lemmas.Bool.{eq-eqb}
+use Rattle.agent_base.specs.declared.refusals.Label.{Label}
+use Rattle.storage_key.specs.Key.{PlainKey}
+use Rattle.storage_key.specs.Plain.{plain_key}
 use Rattle.storage_key.specs.declared.key.StorageKey.{StorageKey}
 use Rattle.frame_tree.specs.declared.tab.TreeFault.{TreeFault}
 use Rattle.frame_tree.specs.declared.tab.TreeFault.TheVariants.{NoMemory}
@@ -13,6 +16,10 @@ use Rattle.live_state.specs.Documents.{key_of_document}
 use Rattle.live_state.specs.Queues.{frames_by}
 use Rattle.live_state.specs.Tabs.{PlainTab}
 use Rattle.live_state.proofs.ListLemmas.{is_some-find, is_some-map}
+use Rattle.agent_model.specs.Partition.{Holdings}
+use Rattle.agent_model.specs.SiteEvent.{Done}
+use Rattle.agent_model.specs.Documents as keyed
+use Rattle.agent_model.specs.Documents.{by_document, by_key, with_key}
 use Rattle.agent_model.proofs.PlacedLemmas.{top_is}
 use Rattle.agent_core.specs.Parts.{IsFound, key_wanted}
 use Rattle.agent_core.specs.declared.documents.Found.TheVariants.{Keyed}
@@ -39,13 +46,26 @@ frames_are found frames tab is there = sym (ap frames_by there) ∙ frames_found
 pub document_there : (frame : ℕ) (frames : List PlainFrame) → is_some (document_of frame frames) ≡ has_frame frame frames
 document_there frame frames = is_some-map (λ f. f.document) (find (λ f. f.frame == frame) frames) ∙ is_some-find (λ f. f.frame == frame) frames
 
--- a document that has a key is there
-pub there_by_key : (frame : ℕ) (frames : List PlainFrame) (own : StorageKey) → IsFound (key_wanted frame frames) (Keyed own) → has_frame frame frames ≡ true
-there_by_key frame frames own is = sym (document_there frame frames) ∙ by (document_of frame frames) is
+-- a key that was found is that of a document that is there
+pub found_key : (frame : ℕ) (frames : List PlainFrame) (own : StorageKey) → IsFound (key_wanted frame frames) (Keyed own)
+    → (document : PlainDocument) × (document_of frame frames ≡ Some document) × (key_of_document frame frames document ≡ Some (plain_key own))
+found_key frame frames own is = by (document_of frame frames) refl is
   where
-    by : (found : Option PlainDocument) → IsFound (option_map (key_of_document frame frames) found) (Keyed own) → is_some found ≡ true
-    by None is = absurd is
-    by (Some document) is = refl
+    by_own : (key : Option PlainKey) → IsFound (Some key) (Keyed own) → key ≡ Some (plain_key own)
+    by_own None is = absurd is
+    by_own (Some key) is = ap Some (sym is)
+
+    by : (found : Option PlainDocument) → document_of frame frames ≡ found → IsFound (option_map (key_of_document frame frames) found) (Keyed own)
+        → (document : PlainDocument) × (document_of frame frames ≡ Some document) × (key_of_document frame frames document ≡ Some (plain_key own))
+    by None there is = absurd is
+    by (Some document) there is = (document, there, by_own (key_of_document frame frames document) is)
+
+-- so it is the one that an action is done with
+pub with_found : (at : Label) (tab : PlainTab) (does : keyed.Keyed → Holdings → Done) (held : Holdings) (document : PlainDocument) (key : PlainKey)
+    → document_of at.frame tab.frames ≡ Some document → key_of_document at.frame tab.frames document ≡ Some key
+    → with_key at tab does held ≡ does (record { at = at; document = document; key = key }) held
+with_found at tab does held document key there own =
+    ap (λ found. by_document at tab found does held) there ∙ ap (λ key. by_key at document key does held) own
 
 -- a document that is there has a chain: memory alone can be wanting
 pub chain_there : (frame : ℕ) (frames : List PlainFrame) (document : PlainDocument) (why : TreeFault) → document_of frame frames ≡ Some document

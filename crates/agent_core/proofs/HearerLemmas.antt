@@ -11,7 +11,8 @@ use Rattle.storage_events.specs.Audience.{audience, hears, same_label}
 use Rattle.storage_events.specs.Event.{EventView}
 use Rattle.live_state.specs.Queues.{are_distinct, plain_sent}
 use Rattle.live_state.proofs.ListLemmas.{all_kept, and_both, and_parts, not_true}
-use Rattle.agent_core.proofs.ToldLemmas.{each_told, labels_sent}
+use Rattle.agent_core.specs.Parts.{each_told}
+use Rattle.agent_core.proofs.ToldLemmas.{labels_sent}
 
 -- ---- tests of an audience
 

@@ -5,12 +5,11 @@ use Rattle.std.proofs.lemmas.List.{map-id}
 use Rattle.std.proofs.lemmas.Simd.{map-map}
 use Rattle.std.specs.Prelude.{find, option_map}
 use Rattle.std.specs.List.{list_any}
-use Rattle.std.specs.Ordering.{eq_by_cmp, nat_cmp}
+use Rattle.std.specs.Ordering.{nat_cmp}
 use Rattle.std.specs.FinMap.{nat_cmp-IsAntisymmetric, same_map}
 use Rattle.agent_base.specs.declared.refusals.Label.{Label}
-use Rattle.storage_key.specs.Key.{key_order}
 use Rattle.storage_events.specs.declared.event.AreaKind.{AreaKind}
-use Rattle.storage_events.specs.Audience.{audience, same_label}
+use Rattle.storage_events.specs.Audience.{same_label}
 use Rattle.storage_events.specs.Event.{EventView}
 use Rattle.storage_events.specs.declared.event.Event.{Event}
 use Rattle.live_state.specs.Tabs.{PlainQueue, PlainTab, is_rising, tab_at}
@@ -21,13 +20,10 @@ use Rattle.agent_model.specs.Documents.{Keyed, hears_at, told, told_queue, told_
 use Rattle.agent_model.proofs.KeptLemmas.{get_mapped}
 use Rattle.agent_core.specs.Standing.{tabs_in}
 use Rattle.agent_core.specs.Kept.{AreTrees}
+use Rattle.agent_core.specs.Parts.{each_told, hearers}
 use Rattle.agent_core.proofs.LiveLemmas.{number_found, tab_found}
 use Rattle.agent_core.proofs.MemberLemmas.{passes}
 use Rattle.agent_core.proofs.AudienceLemmas.{in_audience}
-
--- one event for each of these documents
-abbrev pub each_told : EventView → List Label → List (Label × EventView)
-each_told event to = map (λ label. (label, event)) to
 
 -- a document that is among them has the event
 event_sent : (label : Label) (event : EventView) (to : List Label)
@@ -48,16 +44,16 @@ labels_sent event to events is =
 
 module _ (kind : AreaKind) (writer : Keyed) (event : EventView) (tabs : List PlainTab) (rising : is_rising tabs ≡ true) (trees : AreTrees tabs) where
   -- the documents that hear
-  abbrev hearers : List Label
-  hearers = audience (eq_by_cmp key_order) kind writer.at writer.key (documents tabs)
+  abbrev to : List Label
+  to = hearers kind writer.at writer.key tabs
 
   abbrev change : Label → PlainQueue → PlainQueue
-  change label queue = queue_told (event_for label (each_told event hearers)) queue
+  change label queue = queue_told (event_for label (each_told event to)) queue
 
   module _ (tab : PlainTab) (is : tab_at tab.number tabs ≡ Some tab) where
     queue_sent : (queue : PlainQueue) → change (label_of tab queue) queue ≡ told_queue kind writer event tab.number tab queue
     queue_sent queue =
-        ap (λ event. queue_told event queue) (event_sent (label_of tab queue) event hearers
+        ap (λ event. queue_told event queue) (event_sent (label_of tab queue) event to
         ∙ ap (λ b. cond b (Some event) None) (in_audience kind writer (label_of tab queue) tabs rising trees
         ∙ ap (passes (λ tab'. hears_at kind writer tab.number tab' queue.frame)) is))
         ∙ at (hears_at kind writer tab.number tab queue.frame)
@@ -80,8 +76,8 @@ module _ (kind : AreaKind) (writer : Keyed) (event : EventView) (tabs : List Pla
       ∙ ap (λ n. Some (told_tab kind writer event n tab)) same
 
   -- what is sent to the documents that hear, in the list, is told to every document of the map
-  pub tabs_after_send : tabs_in (sent (each_told event hearers) tabs) ≡ told kind writer event (tabs_in tabs)
+  pub tabs_after_send : tabs_in (sent (each_told event to) tabs) ≡ told kind writer event (tabs_in tabs)
   tabs_after_send = same_map nat_cmp_total nat_cmp-IsAntisymmetric _ _ (λ q.
-      tab_found q (sent (each_told event hearers) tabs) ∙ find-map (with_queues change) (λ tab. tab.number == q) tabs ∙ tab_sent q (tab_at q tabs) refl
+      tab_found q (sent (each_told event to) tabs) ∙ find-map (with_queues change) (λ tab. tab.number == q) tabs ∙ tab_sent q (tab_at q tabs) refl
       ∙ sym (get_mapped nat_cmp nat_cmp_total nat_cmp-IsAntisymmetric (told_tab kind writer event) (tabs_in tabs) q
       ∙ ap (option_map (told_tab kind writer event q)) (tab_found q tabs)))

@@ -1,33 +1,32 @@
 -- What is held after a change was stored and told.
 use Rattle.std.proofs.Common.{◌≡◌, ◌<◌, ◌≤◌, ◌⊎◌, inl, inr, ℕ, Bool, true, false, cond, List, Option, Some, None, Bor, refl, sym, ap, subst, ◌∙◌}
 use Rattle.std.proofs.lemmas.Bool.{le-ltb, lt-ltb}
-use Rattle.std.specs.Prelude.{codes, is_none, option_copied}
-use Rattle.std.specs.Ordering.{eq_by_cmp}
+use Rattle.std.proofs.lemmas.Slice.Eq.{bytes_eq-Decides}
+use Rattle.std.specs.Prelude.{◌≢◌, bytes_eq, codes, is_none, option_copied}
 use Rattle.agent_base.specs.declared.refusals.Label.{Label}
-use Rattle.storage_key.specs.Key.{PlainKey, key_order}
-use Rattle.local_area.specs.Area.{Pair, area_get, area_remove, area_weight, quota}
+use Rattle.storage_key.specs.Key.{PlainKey}
+use Rattle.local_area.specs.Area.{Pair, area_get, area_put, area_remove, area_weight, quota}
+use Rattle.local_area.specs.Put.{answer_over, changed, same}
 use Rattle.local_area.specs.declared.area.AreaFault.{AreaFault}
 use Rattle.local_area.specs.declared.area.AreaFault.TheVariants as fault
 use Rattle.storage_events.specs.declared.event.AreaKind.{AreaKind}
 use Rattle.storage_events.specs.declared.event.AreaKind.TheVariants.{Local, Session}
-use Rattle.storage_events.specs.Audience.{audience}
 use Rattle.storage_events.specs.Event.{EventView}
 use Rattle.live_state.specs.Tabs.{is_rising}
-use Rattle.live_state.specs.Documents.{documents}
 use Rattle.live_state.specs.Queues.{sent}
 use Rattle.page_storage.specs.Stored.{held_with}
 use Rattle.script_lines.specs.Reply.{PlainBody, Plain}
 use Rattle.agent_model.specs.Partition.{Holdings, Tabs, with_area}
 use Rattle.agent_model.specs.SiteEvent.{answers, ok}
-use Rattle.agent_model.specs.AreaActions.{change_event, pairs_of, remove_by, remove_item, store, write}
+use Rattle.agent_model.specs.AreaActions.{change_event, pairs_of, remove_by, remove_item, set_by, set_item, store, write}
 use Rattle.agent_model.specs.Documents.{Keyed, told}
 use Rattle.agent_core.specs.Standing.{places_in, tabs_in}
 use Rattle.agent_core.specs.Kept.{AreTrees, HoldingsView}
-use Rattle.agent_core.specs.Parts.{held_of}
-use Rattle.agent_core.specs.Steps.{IsDone}
+use Rattle.agent_core.specs.Parts.{each_told, hearers, held_of}
+use Rattle.agent_core.specs.Steps.{IsDone, put_told}
 use Rattle.agent_core.proofs.DoneLemmas.{held_beside, tabs_held}
 use Rattle.agent_core.proofs.TabLemmas.{places_after_send}
-use Rattle.agent_core.proofs.ToldLemmas.{each_told, tabs_after_send}
+use Rattle.agent_core.proofs.ToldLemmas.{tabs_after_send}
 
 -- ---- a change is stored and told
 
@@ -47,7 +46,7 @@ module _ (event : EventView) (writer : Keyed) (change : List Pair → List Pair)
 
   -- the area has its pairs, and each document that hears is told
   pub is_written : (seen : EventView) (events : List (Label × EventView)) (body : PlainBody) → seen ≡ event
-      → events ≡ each_told seen (audience (eq_by_cmp key_order) seen.area writer.at writer.key (documents old.live.tabs))
+      → events ≡ each_told seen (hearers seen.area writer.at writer.key old.live.tabs)
       → new.live.tabs ≡ sent events mid.live.tabs → ((tabs : Tabs) → held_with tabs new.storage ≡ with_pairs (held_with tabs mid.storage))
       → body ≡ ok → IsDone (write event.area writer pairs event (held_of old)) old new body
   is_written seen events body is these after stored answer = record {
@@ -56,7 +55,7 @@ module _ (event : EventView) (writer : Keyed) (change : List Pair → List Pair)
         ∙ ap {A = Holdings} (λ held. record held { tabs = tabs_in new.live.tabs })
         (stored (tabs_in old.live.tabs) ∙ ap (λ entries. with_pairs (held_with (tabs_in old.live.tabs) entries)) entries)
         ∙ ap {B = Holdings} (λ tabs. record (with_pairs (held_of old)) { tabs = tabs })
-        (ap tabs_in (after ∙ λ i. sent ((these ∙ ap (λ e. each_told e (audience (eq_by_cmp key_order) e.area writer.at writer.key (documents old.live.tabs))) is) i) (tabs i))
+        (ap tabs_in (after ∙ λ i. sent ((these ∙ ap (λ e. each_told e (hearers e.area writer.at writer.key old.live.tabs)) is) i) (tabs i))
         ∙ tabs_after_send event.area writer event old.live.tabs rising (subst AreTrees tabs trees)
         ∙ ap (told event.area writer event) (sym (tabs_kept event.area writer.at.tab writer.key pairs (held_of old) ∙ tabs_held (tabs_in old.live.tabs) old.storage)));
     answer = answer;
@@ -88,6 +87,25 @@ none_copied None = refl
 none_copied (Some found) = refl
 
 module _ (kind : AreaKind) (writer : Keyed) (name : List ℕ) (held : Holdings) where
+  -- a name that has another value, or none, is given one
+  pub is_set : (value : List ℕ) (found : Option (List ℕ)) → found ≢ Some value → found ≡ area_get name (pairs_of kind writer held)
+      → put_told kind name value (change_event kind writer (Some name) found (Some value)) writer held ≡ set_item kind name value writer held
+  is_set value found other is = sets found other ∙ ap (λ found. set_by (answer_over value found) kind writer name value (area_put name value (pairs_of kind writer held)) held) is
+    where
+      by : (before : List ℕ) (b : Bool) → b ≡ false → put_told kind name value (change_event kind writer (Some name) (Some before) (Some value)) writer held
+          ≡ set_by (cond b same (changed before)) kind writer name value (area_put name value (pairs_of kind writer held)) held
+      by before true apart = absurd (cc apart)
+      by before false apart = refl
+
+      sets : (found : Option (List ℕ)) → found ≢ Some value → put_told kind name value (change_event kind writer (Some name) found (Some value)) writer held
+          ≡ set_by (answer_over value found) kind writer name value (area_put name value (pairs_of kind writer held)) held
+      sets None other = refl
+      sets (Some before) other = by before (bytes_eq before value) (differ (bytes_eq before value) refl)
+        where
+          differ : (b : Bool) → bytes_eq before value ≡ b → b ≡ false
+          differ true equal = absurd (other (ap Some ((bytes_eq-Decides before value).0 equal)))
+          differ false apart = refl
+
   -- a name that is there is removed
   removes : (found : Option (List ℕ)) → is_none found ≡ false
       → write kind writer (area_remove name (pairs_of kind writer held)) (change_event kind writer (Some name) found None) held ≡ remove_by found kind writer name held

@@ -1,36 +1,46 @@
 -- What a line makes of what the agent holds, and its reply.
-use Rattle.std.specs.Prelude.{◌≡◌, ℕ, Bool, true, false, List, Option, Some, None, is_some, Result, MatchResult, IfOk, OnOk, OnErr}
+use Rattle.std.specs.Prelude.{◌≡◌, ℕ, Bool, true, false, List, Option, Some, None, is_some}
+use Rattle.std.specs.Prelude.{Result, MatchResult, IfOk, OnOk, OnErr}
 use Rattle.unwinding.specs.World.{line_reply, world_step}
 use Rattle.agent_base.specs.declared.refusals.Label.{Label}
 use Rattle.agent_base.specs.declared.refusals.NoMemory.{NoMemory}
 use Rattle.origin_site.specs.Site.{PlainSite}
+use Rattle.storage_key.specs.Key.{PlainKey}
+use Rattle.frame_tree.specs.Document.{PlainDocument}
 use Rattle.frame_tree.specs.Tree.{top_site}
+use Rattle.local_area.specs.Area.{area_put}
+use Rattle.storage_events.specs.declared.event.AreaKind.{AreaKind}
+use Rattle.storage_events.specs.Event.{EventView}
 use Rattle.live_state.specs.Queues.{frames_by}
 use Rattle.live_state.specs.Tabs.{PlainTab, is_open, tab_at}
 use Rattle.script_lines.specs.declared.reply.Reply.{Reply}
 use Rattle.script_lines.specs.declared.reply.ReplyBody.{ReplyBody}
 use Rattle.script_lines.specs.Plain.{body_of, reply_of}
 use Rattle.script_lines.specs.Reply.{PlainBody}
-use Rattle.script_lines.specs.Script.{PlainAction, Tick, Open, Close, Go, Frame, Nav, Drop, Click, Set, Get, Del, Clear, Len, Key}
-use Rattle.script_lines.specs.Script.{Events, Persisted, Estimate, Persist, Evict}
+use Rattle.script_lines.specs.Script.{PlainAction, Tick, Open, Close, Go, Frame, Nav, Drop, Click}
+use Rattle.script_lines.specs.Script.{Set, Get, Del, Clear, Len, Key, Events}
+use Rattle.script_lines.specs.Script.{Persisted, Estimate, Persist, Evict}
 use Rattle.agent_model.specs.Partition.{Holdings}
 use Rattle.agent_model.specs.SiteEvent.{Done}
 use Rattle.agent_model.specs.Documents.{Keyed}
-use Rattle.agent_model.specs.AreaActions.{set_item, remove_item, clear_area, get_item, get_name, get_length}
+use Rattle.agent_model.specs.AreaActions.{pairs_of, store, set_item, remove_item, clear_area}
+use Rattle.agent_model.specs.AreaActions.{get_item, get_name, get_length}
 use Rattle.agent_model.specs.Buckets.{get_mode, get_usage, persist}
 use Rattle.agent_model.specs.Sessions.{copy_sessions}
 use Rattle.agent_model.specs.TheMachine.{machine}
 use Rattle.agent_model.specs.Isolation.{printed}
 use Rattle.agent_core.specs.Standing.{AgentState, places_in, world_of}
 use Rattle.agent_core.specs.Kept.{HoldingsView}
-use Rattle.agent_core.specs.Parts.{held_of}
+use Rattle.agent_core.specs.Parts.{document_at, held_of}
 
 -- ---- a line of the agent
 
 -- a line was run: its reply is the world's, and the agent stands for the world after it; or memory
 -- was wanting, and the agent stands for the world as it was
-pub record Runs (action : PlainAction) (old new : AgentState) (result : Result Reply NoMemory) : Type 0 where
-  pub reply : IfOk result (λ r. reply_of r ≡ printed (line_reply (machine old.rules) (world_of old) action))
+pub record Runs (action : PlainAction) (old new : AgentState) (result : Result Reply NoMemory)
+    : Type 0 where
+  pub reply : IfOk result (λ r.
+      reply_of r ≡ printed (line_reply (machine old.rules) (world_of old) action))
   pub world : OnOk result (world_of new ≡ world_step (machine old.rules) (world_of old) action)
   pub rules : new.rules ≡ old.rules
   pub unchanged : OnErr result (world_of new ≡ world_of old)
@@ -55,6 +65,11 @@ with_copies (Some opener) to tabs held =
 
 -- ---- an action in an open tab
 
+-- a pair is stored in an area of a document, and this event is told, unless the quota refuses it
+abbrev pub put_told : AreaKind → (name value : List ℕ) → EventView → Keyed → Holdings → Done
+put_told kind name value event writer held =
+    store kind writer (area_put name value (pairs_of kind writer held)) event held
+
 -- an action was done: this is held afterwards, this was answered, and each tab is where it was
 pub record IsDone (done : Done) (old new : HoldingsView) (body : PlainBody) : Type 0 where
   pub held : held_of new ≡ done.held
@@ -66,10 +81,24 @@ pub record Stays (old new : HoldingsView) : Type 0 where
   pub held : held_of new ≡ held_of old
   pub places : places_in new.live.tabs ≡ places_in old.live.tabs
 
--- an action was done, or memory was wanting and all stays
-abbrev pub Acts : Done → (old new : HoldingsView) → Result ReplyBody NoMemory → Type 0
-Acts done old new result =
-    MatchResult result (λ body. IsDone done old new (body_of body)) (λ _. Stays old new)
+-- this was done with what was held, or memory was wanting and all stays
+abbrev pub Acts : (Holdings → Done) → (old new : HoldingsView) → Result ReplyBody NoMemory → Type 0
+Acts does old new result =
+    MatchResult result (λ body. IsDone (does (held_of old)) old new (body_of body))
+    (λ _. Stays old new)
+
+-- the same in an open tab of this number
+abbrev pub ActsIn : ℕ → (PlainTab → Holdings → Done) → (old new : HoldingsView)
+    → Result ReplyBody NoMemory → Type 0
+ActsIn number does old new result =
+    (tab : PlainTab) → tab_at number old.live.tabs ≡ Some tab → Acts (does tab) old new result
+
+-- the same by a document that is there, with this storage key
+abbrev pub ActsBy : Label → PlainKey → (Keyed → Holdings → Done) → (old new : HoldingsView)
+    → Result ReplyBody NoMemory → Type 0
+ActsBy at key does old new result =
+    (document : PlainDocument) → document_at at old.live.tabs ≡ Some document
+    → Acts (does (record { at = at; document = document; key = key })) old new result
 
 -- the document that an action in an open tab names
 abbrev pub label_of : PlainAction → Option Label

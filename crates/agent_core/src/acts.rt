@@ -1,17 +1,13 @@
 //! Actions in an open tab.
-ghost use Rattle.std.specs.Prelude.{◌≡◌, ◌≤◌, Some, true};
+ghost use Rattle.std.specs.Prelude.{◌≡◌, ◌≤◌, IfSome, Some, true};
 ghost use Rattle.storage_key.specs.Plain.{plain_key};
-ghost use Rattle.frame_tree.specs.Document.{PlainDocument};
 ghost use Rattle.live_state.specs.Queues.{has_document};
 ghost use Rattle.live_state.specs.Tabs.{PlainTab, is_open, tab_at};
 ghost use Rattle.script_lines.specs.Plain.{action_of};
-ghost use Rattle.agent_model.specs.Partition as model;
 ghost use Rattle.agent_model.specs.Rest.{last_moment};
-ghost use Rattle.agent_model.specs.SiteEvent.{Done};
 ghost use Rattle.agent_model.specs.Documents.{Keyed, with_key};
 ghost use Rattle.agent_model.specs.SiteStep.{act_in, action_name};
-ghost use Rattle.agent_core.specs.Parts.{document_at, held_of};
-ghost use Rattle.agent_core.specs.Steps.{Acts, by_keyed, is_keyed, label_of};
+ghost use Rattle.agent_core.specs.Steps.{ActsBy, ActsIn, by_keyed, is_keyed, label_of};
 
 use crate::documents::{Found, key_at};
 use crate::holdings::Holdings;
@@ -62,8 +58,8 @@ impl Holdings {
         requires now { now ≤ last_moment }
         requires open { is_open at.tab self.old.live.tabs ≡ true }
         requires named { label_of (action_of action.now) ≡ Some at }
-        ensures acts { (tab : PlainTab) → tab_at at.tab self.old.live.tabs ≡ Some tab
-            → Acts (act_in list.now.rules now (action_of action.now) tab (held_of self.old)) self.old self.new result }
+        ensures acts { let does = act_in list.now.rules now (action_of action.now) in
+            ActsIn at.tab does self.old self.new result }
     {
         match action {
             Action::Frame { .. } | Action::Nav { .. } => {
@@ -86,9 +82,8 @@ impl Holdings {
     ) -> Result<ReplyBody, NoMemory>
         requires open { is_open at.tab self.old.live.tabs ≡ true }
         requires keyed { is_keyed (action_of action.now) ≡ true }
-        ensures acts { (tab : PlainTab) → tab_at at.tab self.old.live.tabs ≡ Some tab
-            → (does : PlainTab → Keyed → model.Holdings → Done) → by_keyed (action_of action.now) ≡ Some does
-            → Acts (with_key at tab (does tab) (held_of self.old)) self.old self.new result }
+        ensures acts { IfSome (by_keyed (action_of action.now)) (λ does.
+            ActsIn at.tab (λ tab. with_key at tab (does tab)) self.old self.new result) }
     {
         match key_at(alloc, self.tab(at.tab), at.frame)? {
             Found::NoFrame => Ok(answer("no-frame")),
@@ -107,11 +102,9 @@ impl Holdings {
     ) -> Result<ReplyBody, NoMemory>
         requires there { has_document self.old.live.tabs at ≡ true }
         requires keyed { is_keyed (action_of action.now) ≡ true }
-        ensures acts { (tab : PlainTab) → tab_at at.tab self.old.live.tabs ≡ Some tab
-            → (document : PlainDocument) → document_at at self.old.live.tabs ≡ Some document
-            → (does : PlainTab → Keyed → model.Holdings → Done) → by_keyed (action_of action.now) ≡ Some does
-            → let writer : Keyed = record { at = at; document = document; key = plain_key key } in
-            Acts (does tab writer (held_of self.old)) self.old self.new result }
+        ensures acts { IfSome (by_keyed (action_of action.now)) (λ does.
+            (tab : PlainTab) → tab_at at.tab self.old.live.tabs ≡ Some tab
+            → ActsBy at (plain_key key) (does tab) self.old self.new result) }
     {
         match action {
             Action::Set {

@@ -34,17 +34,18 @@ pub struct Agent<'l> {
 
 impl<'l> Model for Agent<'l> {
     ghost use Rattle.agent_core.specs.Standing.{AgentState, IsStanding};
+    ghost use Rattle.agent_core.specs.Parts.{state_of};
 
     ghost Value = { AgentState };
 
-    ghost view = { λ a. record { rules = a.list.now.rules; now = a.now; tabs = a.held.live.tabs; entries = a.held.storage } };
+    ghost view = { λ a. state_of a.list.now.rules a.now a.held };
 
-    ghost invariant = { λ a. IsStanding (record { rules = a.list.now.rules; now = a.now; tabs = a.held.live.tabs; entries = a.held.storage }) };
+    ghost invariant = { λ a. IsStanding (state_of a.list.now.rules a.now a.held) };
 }
 
 impl<'l> Agent<'l> {
-    /// An agent without tabs and areas, whose clock stands at `start`, in seconds since 1970. The list
-    /// says of which site an address is, for as long as the agent lives.
+    /// An agent without tabs and areas, whose clock stands at `start`, in seconds since 1970. The
+    /// list says of which site an address is, for as long as the agent lives.
     pub fn new(alloc: Global, list: &'l SuffixList, start: u64) -> Agent<'l>
         requires { start ≤ spec.last_moment }
         ensures beginning { world_of result ≡ beginning start }
@@ -67,10 +68,12 @@ impl<'l> Agent<'l> {
 
     /// Runs one line, and gives its reply. Want of memory leaves the agent as it was.
     pub fn line(&mut self, action: &Action) -> Result<Reply, NoMemory>
-        ensures reply { let told = line_reply (machine self.old.rules) (world_of self.old) (action_of action.now) in
+        ensures reply { let here = world_of self.old in
+            let told = line_reply (machine self.old.rules) here (action_of action.now) in
             IfOk result (λ r. reply_of r ≡ printed told) }
         ensures world { let here = world_of self.old in
-            OnOk result (world_of self.new ≡ world_step (machine self.old.rules) here (action_of action.now)) }
+            let next = world_step (machine self.old.rules) here (action_of action.now) in
+            OnOk result (world_of self.new ≡ next) }
         ensures rules { self.new.rules ≡ self.old.rules }
         ensures unchanged { OnErr result (world_of self.new ≡ world_of self.old) }
     {
@@ -118,7 +121,9 @@ impl<'l> Agent<'l> {
         opener: Option<u16>,
         noopener: bool,
     ) -> Result<Reply, NoMemory>
-        ensures runs { (method : Method) → Runs (plain.Open tab (plain_address url.now) opener noopener method) self.old self.new result }
+        ensures runs { (method : Method)
+            → let line = plain.Open tab (plain_address url.now) opener noopener method in
+            Runs line self.old self.new result }
     {
         if !self.held.is_there(opener) {
             return Ok(refused("open", "no-tab"));
@@ -132,7 +137,9 @@ impl<'l> Agent<'l> {
     }
 
     fn go(&mut self, tab: u16, url: &Address) -> Result<Reply, NoMemory>
-        ensures runs { (by_page : Bool) (method : Method) → Runs (plain.Go tab (plain_address url.now) by_page method) self.old self.new result }
+        ensures runs { (by_page : Bool) (method : Method)
+            → let line = plain.Go tab (plain_address url.now) by_page method in
+            Runs line self.old self.new result }
     {
         if !self.held.is_open(tab) {
             return Ok(refused("go", "no-tab"));

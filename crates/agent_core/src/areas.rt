@@ -1,17 +1,16 @@
 //! Actions on the areas of a document.
-ghost use Rattle.std.specs.Prelude.{◌≡◌, ◌↔◌, IfOk, IsTrue, Some, length, option_copied, option_map, string_bytes, true};
+ghost use Rattle.std.specs.Prelude.{◌≡◌, ◌↔◌, IfOk, IsTrue, Some, length, option_copied};
+ghost use Rattle.std.specs.Prelude.{option_map, string_bytes, true};
 ghost use Rattle.storage_key.specs.Plain.{plain_key};
-ghost use Rattle.local_area.specs.Area.{area_get, area_nth, area_put};
-ghost use Rattle.frame_tree.specs.Document.{PlainDocument};
+ghost use Rattle.local_area.specs.Area.{area_get, area_nth};
 ghost use Rattle.storage_events.specs.Event.{plain_event};
 ghost use Rattle.live_state.specs.Queues.{has_document};
 ghost use Rattle.script_lines.specs.Plain.{body_of};
 ghost use Rattle.script_lines.specs.Reply as reply_text;
 ghost use Rattle.agent_model.specs.Partition.{area_of};
-ghost use Rattle.agent_model.specs.AreaActions.{clear_area, pairs_of, remove_item, set_item, store};
-ghost use Rattle.agent_model.specs.Documents.{Keyed};
-ghost use Rattle.agent_core.specs.Parts.{document_at, held_of};
-ghost use Rattle.agent_core.specs.Steps.{Acts};
+ghost use Rattle.agent_model.specs.AreaActions.{clear_area, remove_item, set_item, store};
+ghost use Rattle.agent_core.specs.Parts.{held_of};
+ghost use Rattle.agent_core.specs.Steps.{ActsBy, put_told};
 
 use crate::events::change;
 use crate::holdings::Holdings;
@@ -26,7 +25,8 @@ use storage_key::StorageKey;
 impl Holdings {
     // The value of a name in an area.
     fn value(&self, area: AreaKind, tab: u16, key: &StorageKey, name: &str) -> Option<&str>
-        ensures value { option_copied result ≡ area_get name.now (area_of area tab (plain_key key.now) (held_of self.now)) }
+        ensures value { let pairs = area_of area tab (plain_key key.now) (held_of self.now) in
+            option_copied result ≡ area_get name.now pairs }
     {
         match self.storage.area(area, tab, key) {
             Some(pairs) => pairs.get(name),
@@ -36,7 +36,8 @@ impl Holdings {
 
     // The name at a place of an area.
     fn name(&self, area: AreaKind, tab: u16, key: &StorageKey, n: u32) -> Option<&str>
-        ensures name { option_copied result ≡ area_nth n (area_of area tab (plain_key key.now) (held_of self.now)) }
+        ensures name { let pairs = area_of area tab (plain_key key.now) (held_of self.now) in
+            option_copied result ≡ area_nth n pairs }
     {
         match self.storage.area(area, tab, key) {
             Some(pairs) => pairs.key(n),
@@ -99,9 +100,8 @@ impl Holdings {
         value: &str,
     ) -> Result<ReplyBody, NoMemory>
         requires { has_document self.old.live.tabs at ≡ true }
-        ensures acts { (document : PlainDocument) → document_at at self.old.live.tabs ≡ Some document
-            → let writer : Keyed = record { at = at; document = document; key = plain_key key } in
-            Acts (set_item area name.now value.now writer (held_of self.old)) self.old self.new result }
+        ensures acts { let does = set_item area name.now value.now in
+            ActsBy at (plain_key key) does self.old self.new result }
     {
         let before = self.value(area, at.tab, &key, name);
         if is_text(before, value) {
@@ -121,10 +121,8 @@ impl Holdings {
         name: &str,
         value: &str,
     ) -> Result<ReplyBody, NoMemory>
-        ensures acts { (document : PlainDocument) → document_at at self.old.live.tabs ≡ Some document
-            → let writer : Keyed = record { at = at; document = document; key = plain_key key } in
-            let pairs = area_put name.now value.now (pairs_of event.area writer (held_of self.old)) in
-            Acts (store event.area writer pairs (plain_event event) (held_of self.old)) self.old self.new result }
+        ensures acts { let does = put_told event.area name.now value.now (plain_event event) in
+            ActsBy at (plain_key key) does self.old self.new result }
     {
         let events = self.broadcast(alloc, at, &key, &event)?;
         let name = String::from_str(alloc, name)?;
@@ -149,9 +147,8 @@ impl Holdings {
         name: &str,
     ) -> Result<ReplyBody, NoMemory>
         requires { has_document self.old.live.tabs at ≡ true }
-        ensures acts { (document : PlainDocument) → document_at at self.old.live.tabs ≡ Some document
-            → let writer : Keyed = record { at = at; document = document; key = plain_key key } in
-            Acts (remove_item area name.now writer (held_of self.old)) self.old self.new result }
+        ensures acts { let does = remove_item area name.now in
+            ActsBy at (plain_key key) does self.old self.new result }
     {
         let before = self.value(area, at.tab, &key, name);
         if before.is_none() {
@@ -173,9 +170,7 @@ impl Holdings {
         key: StorageKey,
     ) -> Result<ReplyBody, NoMemory>
         requires { has_document self.old.live.tabs at ≡ true }
-        ensures acts { (document : PlainDocument) → document_at at self.old.live.tabs ≡ Some document
-            → let writer : Keyed = record { at = at; document = document; key = plain_key key } in
-            Acts (clear_area area writer (held_of self.old)) self.old self.new result }
+        ensures acts { ActsBy at (plain_key key) (clear_area area) self.old self.new result }
     {
         let event = change(alloc, area, None, None, None, self.url(at))?;
         let events = self.broadcast(alloc, at, &key, &event)?;

@@ -1,18 +1,16 @@
 //! Storage events: what is sent to the documents that hear of a change, and what is taken.
-ghost use Rattle.std.specs.Prelude.{◌≡◌, IfOk, OnOk, Some, Ok, map, option_copied, option_map, true};
+ghost use Rattle.std.specs.Prelude.{◌≡◌, IfOk, OnOk, Ok, map, option_copied, option_map, true};
 ghost use Rattle.std.specs.List.{list_all};
-ghost use Rattle.std.specs.Ordering.{eq_by_cmp};
 ghost use Rattle.std.specs.Rc.{rc_str_bytes};
-ghost use Rattle.storage_key.specs.Key.{key_order};
 ghost use Rattle.storage_key.specs.Plain.{plain_key};
 ghost use Rattle.storage_events.specs.Audience.{audience};
 ghost use Rattle.storage_events.specs.Event.{plain_event};
 ghost use Rattle.live_state.specs.Documents.{documents};
 ghost use Rattle.live_state.specs.Queues.{are_distinct, is_ready, plain_sent};
-ghost use Rattle.live_state.specs.Tabs.{PlainTab, is_open, is_rising, tab_at};
+ghost use Rattle.live_state.specs.Tabs.{is_open, is_rising};
 ghost use Rattle.agent_model.specs.Queues.{take_events};
-ghost use Rattle.agent_core.specs.Parts.{held_of};
-ghost use Rattle.agent_core.specs.Steps.{Acts};
+ghost use Rattle.agent_core.specs.Parts.{each_told, hearers};
+ghost use Rattle.agent_core.specs.Steps.{ActsIn};
 
 use crate::holdings::Holdings;
 use crate::replies::answer;
@@ -61,7 +59,8 @@ fn shared(alloc: Global, text: Option<&str>) -> Result<Option<RcStr>, NoMemory>
 
 // The event for each of these documents.
 fn events_to(alloc: Global, to: &[Label], event: &Event) -> Result<Vec<(Label, Event)>, NoMemory>
-    ensures { IfOk result (λ events. map plain_sent events.items ≡ map (λ at. (at, plain_event event.now)) to.now) }
+    ensures { let told = each_told (plain_event event.now) to.now in
+        IfOk result (λ events. map plain_sent events.items ≡ told) }
 {
     let mut events = Vec::new(alloc);
     for at in to {
@@ -81,10 +80,14 @@ impl Holdings {
         key: &StorageKey,
         event: &Event,
     ) -> Result<Vec<(Label, Event)>, NoMemory>
-        ensures events { let to = audience (eq_by_cmp key_order) event.now.area at (plain_key key.now) (documents self.old.live.tabs) in
-            IfOk result (λ events. map plain_sent events.items ≡ map (λ at. (at, plain_event event.now)) to) }
-        ensures ready { IfOk result (λ events. list_all (λ entry. is_ready self.new.live entry.0) events.items ≡ true) }
-        ensures distinct { IfOk result (λ events. are_distinct (map (λ entry. entry.0) events.items) ≡ true) }
+        ensures events { let kind = event.now.area in
+            let to = hearers kind at (plain_key key.now) self.old.live.tabs in
+            let told = each_told (plain_event event.now) to in
+            IfOk result (λ events. map plain_sent events.items ≡ told) }
+        ensures ready { IfOk result (λ events.
+            list_all (λ entry. is_ready self.new.live entry.0) events.items ≡ true) }
+        ensures distinct { IfOk result (λ events.
+            are_distinct (map (λ entry. entry.0) events.items) ≡ true) }
         ensures tabs { self.new.live.tabs ≡ self.old.live.tabs }
         ensures storage { self.new.storage ≡ self.old.storage }
         ensures rising { OnOk result (is_rising self.old.live.tabs ≡ true) }
@@ -98,8 +101,7 @@ impl Holdings {
     /// Takes the events that wait for a document.
     pub fn take(&mut self, at: Label) -> ReplyBody
         requires { is_open at.tab self.old.live.tabs ≡ true }
-        ensures acts { (tab : PlainTab) → tab_at at.tab self.old.live.tabs ≡ Some tab
-            → Acts (take_events at tab (held_of self.old)) self.old self.new (Ok result) }
+        ensures acts { ActsIn at.tab (take_events at) self.old self.new (Ok result) }
     {
         if !self.has_document(at) {
             return answer("no-frame");

@@ -1,18 +1,19 @@
 //! Actions on the frames of a tab.
-ghost use Rattle.std.specs.Prelude.{◌≡◌, ◌≤◌, OnErr, OnOk, Some, false, option_map, true, pos, string_bytes};
+ghost use Rattle.std.specs.Prelude.{◌≡◌, ◌≤◌, OnErr, OnOk, false, true};
+ghost use Rattle.std.specs.Prelude.{option_map, pos, string_bytes};
 ghost use Rattle.agent_base.specs.Answers.{Answers};
 ghost use Rattle.origin_site.specs.Plain.{plain_address};
 ghost use Rattle.frame_tree.specs.Calls.{activated, navigated, without};
 ghost use Rattle.frame_tree.specs.Plain.{plain_sandbox};
 ghost use Rattle.frame_tree.specs.Sandbox.{sandbox_of};
 ghost use Rattle.frame_tree.specs.Tree.{top_site};
-ghost use Rattle.live_state.specs.Tabs.{PlainTab, is_open, tab_at};
+ghost use Rattle.live_state.specs.Tabs.{is_open};
 ghost use Rattle.script_lines.specs.Plain.{action_of, body_of};
 ghost use Rattle.agent_model.specs.Rest.{last_moment};
-ghost use Rattle.agent_model.specs.Frames.{act_on_frames, frames_after, fresh_frame, where_below, where_there};
+ghost use Rattle.agent_model.specs.Frames.{act_on_frames, frames_after, fresh_frame};
+ghost use Rattle.agent_model.specs.Frames.{where_below, where_there};
 ghost use Rattle.agent_core.specs.Kept.{adds_number};
-ghost use Rattle.agent_core.specs.Parts.{held_of};
-ghost use Rattle.agent_core.specs.Steps.{Acts, is_on_frames};
+ghost use Rattle.agent_core.specs.Steps.{ActsIn, is_on_frames};
 
 use crate::holdings::Holdings;
 use crate::replies::answer;
@@ -37,8 +38,9 @@ impl Holdings {
         requires now { now ≤ last_moment }
         requires open { is_open at.tab self.old.live.tabs ≡ true }
         requires on_frames { is_on_frames (action_of action.now) ≡ true }
-        ensures acts { (tab : PlainTab) → tab_at at.tab self.old.live.tabs ≡ Some tab
-            → Acts (act_on_frames list.now.rules now (action_of action.now) at.tab tab (body_of body) (held_of self.old)) self.old self.new result }
+        ensures acts { let line = action_of action.now in
+            ActsIn at.tab (λ tab. act_on_frames list.now.rules now line at.tab tab (body_of body))
+            self.old self.new result }
     {
         let mut made = self.tab(at.tab).copy()?;
         match act(alloc, &mut made, action, now, list) {
@@ -114,8 +116,8 @@ fn navigate(
     url: &Address,
     list: &SuffixList,
 ) -> Result<(), TreeFault>
-    ensures answer { Answers (λ _. tab.new) TreeFault.NoMemory
-        (where_below frame (navigated list.now.rules frame (plain_address url.now) false tab.old)) result }
+    ensures answer { Answers (λ _. tab.new) TreeFault.NoMemory (where_below frame
+        (navigated list.now.rules frame (plain_address url.now) false tab.old)) result }
     ensures site { top_site tab.new ≡ top_site tab.old }
     ensures unchanged { OnErr result (tab.new ≡ tab.old) }
 {

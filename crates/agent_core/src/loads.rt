@@ -46,12 +46,16 @@ impl Holdings {
         opener: Option<u16>,
     ) -> Result<Site, NoMemory>
         requires there { is_there opener self.old.live.tabs ≡ true }
-        requires fresh { (from : ℕ) → opener ≡ Some from → has_session tab (held_of self.old) ≡ false }
-        ensures site { IfOk result (λ site. plain_site site ≡ site_of_address list.now.rules (plain_address url.now)) }
+        requires fresh { (from : ℕ) → opener ≡ Some from
+            → has_session tab (held_of self.old) ≡ false }
+        ensures site { let target = site_of_address list.now.rules (plain_address url.now) in
+            IfOk result (λ site. plain_site site ≡ target) }
         ensures held { let copied = with_copies opener tab self.old.live.tabs (held_of self.old) in
-            OnOk result (held_of self.new ≡ (arrive list.now.rules tab (plain_address url.now) copied).held) }
+            let arrived = arrive list.now.rules tab (plain_address url.now) copied in
+            OnOk result (held_of self.new ≡ arrived.held) }
         ensures places { let target = site_of_address list.now.rules (plain_address url.now) in
-            OnOk result (places_in self.new.live.tabs ≡ placed tab target (places_in self.old.live.tabs)) }
+            let after = placed tab target (places_in self.old.live.tabs) in
+            OnOk result (places_in self.new.live.tabs ≡ after) }
         ensures unchanged { OnErr result (Stays self.old self.new) }
     {
         let made = Tab::new(alloc, url.copy(alloc)?, list)?;
@@ -65,8 +69,10 @@ impl Holdings {
     // Copies the session areas of an opener, under the site that it is at, to a new tab.
     fn copy_areas(&mut self, alloc: Global, opener: Option<u16>, tab: u16) -> Result<(), NoMemory>
         requires there { is_there opener self.old.live.tabs ≡ true }
-        requires fresh { (from : ℕ) → opener ≡ Some from → has_session tab (held_of self.old) ≡ false }
-        ensures held { OnOk result (held_of self.new ≡ with_copies opener tab self.old.live.tabs (held_of self.old)) }
+        requires fresh { (from : ℕ) → opener ≡ Some from
+            → has_session tab (held_of self.old) ≡ false }
+        ensures held { let copied = with_copies opener tab self.old.live.tabs (held_of self.old) in
+            OnOk result (held_of self.new ≡ copied) }
         ensures live { self.new.live ≡ self.old.live }
         ensures unchanged { OnErr result (held_of self.new ≡ held_of self.old) }
     {
@@ -80,7 +86,8 @@ impl Holdings {
     /// Closes a tab. Its session areas go with it.
     pub fn close(&mut self, tab: u16)
         ensures held { held_of self.new ≡ close tab (held_of self.old) }
-        ensures places { places_in self.new.live.tabs ≡ finite.remove (places_in self.old.live.tabs) tab }
+        ensures places { let after = finite.remove (places_in self.old.live.tabs) tab in
+            places_in self.new.live.tabs ≡ after }
     {
         self.storage.close(tab);
         self.live.drop_tab(tab);

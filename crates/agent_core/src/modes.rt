@@ -9,9 +9,10 @@ ghost use Rattle.script_lines.specs.Plain.{body_of};
 ghost use Rattle.script_lines.specs.Reply as reply_text;
 ghost use Rattle.storage_events.specs.declared.event.AreaKind.TheVariants.{Local};
 ghost use Rattle.agent_model.specs.Partition.{area_of};
+ghost use Rattle.agent_model.specs.Documents.{Keyed};
 ghost use Rattle.agent_model.specs.Buckets.{is_grant, is_persistent, persist};
 ghost use Rattle.agent_core.specs.Parts.{held_of};
-ghost use Rattle.agent_core.specs.Steps.{Acts};
+ghost use Rattle.agent_core.specs.Steps.{ActsIn};
 
 use crate::holdings::Holdings;
 use crate::replies::answer;
@@ -22,7 +23,8 @@ use storage_key::StorageKey;
 impl Holdings {
     /// Answers whether the bucket of a key is persistent.
     pub fn persisted(&self, key: &StorageKey) -> ReplyBody
-        ensures body { body_of result ≡ reply_text.Truth (is_persistent (plain_key key.now) (held_of self.now)) }
+        ensures body { let persistent = is_persistent (plain_key key.now) (held_of self.now) in
+            body_of result ≡ reply_text.Truth persistent }
     {
         ReplyBody::Truth {
             value: self.storage.is_persistent(key),
@@ -48,8 +50,9 @@ impl Holdings {
         prompt: Prompt,
     ) -> Result<ReplyBody, NoMemory>
         requires { is_open at.tab self.old.live.tabs ≡ true }
-        ensures acts { (tab : PlainTab) → tab_at at.tab self.old.live.tabs ≡ Some tab → (document : PlainDocument)
-            → Acts (persist tab prompt (record { at = at; document = document; key = plain_key key }) (held_of self.old)) self.old self.new result }
+        ensures acts { (document : PlainDocument)
+            → let asker : Keyed = record { at = at; document = document; key = plain_key key } in
+            ActsIn at.tab (λ tab. persist tab prompt asker) self.old self.new result }
     {
         if !self.is_secure(at) {
             return Ok(answer("insecure"));

@@ -12,7 +12,8 @@ use std::alloc::Global;
 /// The reply to a line that moved the clock here.
 pub fn ticked(now: u64) -> Reply
     requires { now ≤ last_moment }
-    ensures { reply_of result ≡ record { name = codes "tick"; site = None; body = reply_text.Now (pos now) } }
+    ensures { let body = reply_text.Now (pos now) in
+        reply_of result ≡ record { name = codes "tick"; site = None; body = body } }
 {
     Reply {
         name: "tick",
@@ -23,7 +24,8 @@ pub fn ticked(now: u64) -> Reply
 
 /// A reply that is of no site.
 pub fn refused(name: &'static str, is: &'static str) -> Reply
-    ensures { reply_of result ≡ record { name = name.now; site = None; body = reply_text.Plain is.now } }
+    ensures { let body = reply_text.Plain is.now in
+        reply_of result ≡ record { name = name.now; site = None; body = body } }
 {
     Reply {
         name,
@@ -34,7 +36,8 @@ pub fn refused(name: &'static str, is: &'static str) -> Reply
 
 /// A reply of a site.
 pub fn replied(name: &'static str, site: Site, body: ReplyBody) -> Reply
-    ensures { reply_of result ≡ record { name = name.now; site = Some (plain_site site); body = body_of body } }
+    ensures { let own = plain_site site in
+        reply_of result ≡ record { name = name.now; site = Some own; body = body_of body } }
 {
     Reply {
         name,

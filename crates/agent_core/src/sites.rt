@@ -16,7 +16,8 @@ use std::alloc::Global;
 impl Holdings {
     /// The site that a tab is at, where it is open.
     pub fn site(&self, alloc: Global, tab: u16) -> Result<Option<Site>, NoMemory>
-        ensures site { IfOk result (λ site. option_map plain_site site ≡ site_at tab (places_in self.now.live.tabs)) }
+        ensures site { let place = site_at tab (places_in self.now.live.tabs) in
+            IfOk result (λ site. option_map plain_site site ≡ place) }
     {
         match self.live.tab(tab) {
             Some(found) => Ok(Some(site_of_tab(alloc, found)?)),
@@ -26,8 +27,10 @@ impl Holdings {
 
     /// Evicts the storage of a site, and counts the areas that went. No tab is closed.
     pub fn evict(&mut self, site: &Site) -> Result<u32, NoMemory>
-        ensures held { OnOk result (held_of self.new ≡ (evict (plain_site site.now) (held_of self.old)).held) }
-        ensures count { IfOk result (λ count. (evict (plain_site site.now) (held_of self.old)).body ≡ Cleared count) }
+        ensures held { let done = evict (plain_site site.now) (held_of self.old) in
+            OnOk result (held_of self.new ≡ done.held) }
+        ensures count { let done = evict (plain_site site.now) (held_of self.old) in
+            IfOk result (λ count. done.body ≡ Cleared count) }
         ensures live { self.new.live ≡ self.old.live }
         ensures unchanged { OnErr result (held_of self.new ≡ held_of self.old) }
     {

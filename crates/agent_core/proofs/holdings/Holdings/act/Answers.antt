@@ -1,10 +1,11 @@
 use Rattle.std.proofs.Common.{◌≡◌, true, rules, sym, ap, subst, ◌∙◌}
+use Rattle.std.proofs.lemmas.Option.{IfSome_then}
 use Rattle.script_lines.specs.Plain.{action_of, body_of}
 use Rattle.script_lines.specs.declared.action.Action.{Action}
 use Rattle.agent_model.specs.SiteEvent.{Done}
 use Rattle.agent_model.specs.SiteStep.{act_in}
 use Rattle.agent_core.specs.Parts.{held_of}
-use Rattle.agent_core.specs.Steps.{Acts, IsDone, is_keyed, label_of}
+use Rattle.agent_core.specs.Steps.{Acts, IsDone, by_keyed, is_keyed, label_of}
 use Rattle.agent_core.proofs.ActLemmas.{keyed_acts, load_acts, loads_frame, mark_acts, marks_frame, take_acts}
 use Rattle.agent_core.proofs.holdings.Holdings.act.Goals as goal
 
@@ -27,8 +28,8 @@ returns-in_default c =
     record {
       acts = λ tab found.
           keyed_acts c.args.list.now.rules c.args.now c.args.at tab (held_of c.args.self.now)
-          (λ (d : Done). Acts d c.args.self.now c.act_with_key.new.self c.act_with_key.result) action keyed c.requires.named
-          (λ does is. c.act_with_key.ensures.acts tab found does is);
+          (λ (d : Done). Acts (λ _. d) c.args.self.now c.act_with_key.new.self c.act_with_key.result) action keyed c.requires.named
+          (IfSome_then (by_keyed action) c.act_with_key.ensures.acts (λ does done. done tab found));
     }
 
 pub returns-in-Drop : goal.returns-in-Drop
@@ -37,7 +38,7 @@ returns-in-Drop c =
     let marks : marks_frame action ≡ true = search rules in
     record {
       acts = λ tab found.
-          subst (λ (d : Done). Acts d c.args.self.now c.act_on_frames.new.self c.act_on_frames.result)
+          subst (λ (d : Done). Acts (λ _. d) c.args.self.now c.act_on_frames.new.self c.act_on_frames.result)
           (mark_acts c.args.list.now.rules c.args.now c.args.at tab (held_of c.args.self.now) action (body_of c.answer.result) marks c.requires.named c.answer.ensures)
           (c.act_on_frames.ensures.acts tab found);
     }
@@ -48,7 +49,7 @@ returns-in-Frame c =
     let loads : loads_frame action ≡ true = search rules in
     record {
       acts = λ tab found.
-          subst (λ (d : Done). Acts d c.args.self.now c.act_on_frames-in-Frame.new.self c.act_on_frames-in-Frame.result)
+          subst (λ (d : Done). Acts (λ _. d) c.args.self.now c.act_on_frames-in-Frame.new.self c.act_on_frames-in-Frame.result)
           (load_acts c.args.list.now.rules c.args.now c.args.at tab (held_of c.args.self.now) action (body_of c.loaded.result) loads c.requires.named c.loaded.ensures)
           (c.act_on_frames-in-Frame.ensures.acts tab found);
     }

@@ -8,5 +8,6 @@ pub mod QueueLemmas
 pub mod TabLemmas
 pub mod DocumentLemmas
 pub mod OnceLemmas
+pub mod UnderLemmas
 pub mod LiveLemmas
 pub mod LabelLemmas

@@ -38,6 +38,10 @@ module _ {X : Type 0} where
       let parts = and_parts (p x) (list_all p xs) all in
       and_both (q x) (list_all q xs) (weaker x parts.0) (all_weaker p q weaker xs parts.1)
 
+  pub all_true : (xs : List X) → list_all (λ x. true) xs ≡ true
+  all_true [] = refl
+  all_true (x ∷ xs) = all_true xs
+
   pub filter_all : (p : X → Bool) (xs : List X) → list_all p xs ≡ true → filter p xs ≡ xs
   filter_all p [] all = refl
   filter_all p (x ∷ xs) all =

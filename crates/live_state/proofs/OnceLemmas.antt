@@ -1,6 +1,6 @@
 -- Each document that has a key is listed once, and is there.
 use Rattle.std.proofs.Common.{◌≡◌, ◌+◌, ◌<◌, ℕ, zero, suc, Bool, true, false, cond, not, List, [], ◌∷◌, ◌++◌, map, Option, Some, None, refl, ap, sym, ◌∙◌, arith}
-use Rattle.std.specs.Prelude.{◌&&◌, ◌||◌, ◌==◌, find, is_some, nat_eq, nat_lt, option_and_then, option_map}
+use Rattle.std.specs.Prelude.{◌&&◌, ◌||◌, ◌==◌, filter, find, is_some, nat_eq, nat_lt, option_and_then, option_map}
 use Rattle.std.specs.List.{cons_option, filter_map, list_all, list_any, range_with_len}
 use Rattle.std.proofs.lemmas.Bool.{eq-eqb}
 use Rattle.std.proofs.lemmas.Bool.Decides.{nat_tests}
@@ -8,14 +8,16 @@ use Rattle.std.proofs.lemmas.List.{map-append}
 use Rattle.std.proofs.lemmas.List.Folds.{list_all-append, list_all-map, list_any-append}
 use Rattle.agent_base.specs.declared.refusals.Label.{Label}
 use Rattle.storage_events.specs.Audience.{same_label}
+use Rattle.origin_site.specs.Site.{PlainSite}
 use Rattle.storage_key.specs.Key.{PlainKey}
 use Rattle.storage_key.specs.declared.key.StorageKey.{StorageKey}
 use Rattle.frame_tree.specs.Document.{PlainDocument}
 use Rattle.frame_tree.specs.Tree.{PlainFrame, document_of, has_frame}
 use Rattle.live_state.specs.Documents.{documents, documents_in, frame_numbers, key_of_document, key_of_frame, keyed, plain_keyed}
+use Rattle.live_state.specs.Listed.{is_listed, listed}
 use Rattle.live_state.specs.Queues.{are_distinct, frames_by, has_document}
 use Rattle.live_state.specs.Tabs.{PlainTab, is_rising, tab_at}
-use Rattle.live_state.proofs.ListLemmas.{all_weaker, and_both, and_parts, is_some-find, is_some-map}
+use Rattle.live_state.proofs.ListLemmas.{all_kept, all_true, all_weaker, and_both, and_parts, is_some-find, is_some-map, not_true}
 
 abbrev labels : List (Label × PlainKey) → List Label
 labels documents = map (λ d. d.0) documents
@@ -26,31 +28,41 @@ some_by : (frame : ℕ) (frames : List PlainFrame) (o : Option PlainDocument) (k
 some_by frame frames None key is = absurd (cc is)
 some_by frame frames (Some d) key is = refl
 
-frame-there : (frame : ℕ) (frames : List PlainFrame) (key : PlainKey) → key_of_frame frame frames ≡ Some key → has_frame frame frames ≡ true
+pub frame-there : (frame : ℕ) (frames : List PlainFrame) (key : PlainKey) → key_of_frame frame frames ≡ Some key → has_frame frame frames ≡ true
 frame-there frame frames key is =
     sym (is_some-find (λ f. f.frame == frame) frames)
     ∙ sym (is_some-map (λ f. f.document) (find (λ f. f.frame == frame) frames))
     ∙ some_by frame frames (document_of frame frames) key is
 
--- what each label of a tab has
-all_step : (p : Label → Bool) (number frame : ℕ) (o : Option PlainKey) (rest : List (Label × PlainKey))
-    → ((key : PlainKey) → o ≡ Some key → p (record { tab = number; frame = frame }) ≡ true) → list_all p (labels rest) ≡ true
-    → list_all p (labels (cons_option (option_map (λ key. (record { tab = number; frame = frame }, key)) o) rest)) ≡ true
+-- what each document of a tab that has a key has
+all_step : (p : Label × PlainKey → Bool) (number frame : ℕ) (o : Option PlainKey) (rest : List (Label × PlainKey))
+    → ((key : PlainKey) → o ≡ Some key → p (record { tab = number; frame = frame }, key) ≡ true) → list_all p rest ≡ true
+    → list_all p (cons_option (option_map (λ key. (record { tab = number; frame = frame }, key)) o) rest) ≡ true
 all_step p number frame None rest has all = all
-all_step p number frame (Some key) rest has all = and_both (p (record { tab = number; frame = frame })) (list_all p (labels rest)) (has key refl) all
+all_step p number frame (Some key) rest has all = and_both (p (record { tab = number; frame = frame }, key)) (list_all p rest) (has key refl) all
 
+all-keyed : (p : Label × PlainKey → Bool) (q : ℕ → Bool) (number : ℕ) (frames : List PlainFrame)
+    → ((frame : ℕ) (key : PlainKey) → q frame ≡ true → key_of_frame frame frames ≡ Some key → p (record { tab = number; frame = frame }, key) ≡ true)
+    → (numbers : List ℕ) → list_all q numbers ≡ true → list_all p (filter_map (keyed number frames) numbers) ≡ true
+all-keyed p q number frames has [] within = refl
+all-keyed p q number frames has (n ∷ ns) within =
+    let parts = and_parts (q n) (list_all q ns) within in
+    all_step p number n (key_of_frame n frames) (filter_map (keyed number frames) ns) (λ key is. has n key parts.0 is)
+    (all-keyed p q number frames has ns parts.1)
+
+-- what each label of a tab has
 all-labels : (p : Label → Bool) (q : ℕ → Bool) (number : ℕ) (frames : List PlainFrame)
     → ((frame : ℕ) (key : PlainKey) → q frame ≡ true → key_of_frame frame frames ≡ Some key → p (record { tab = number; frame = frame }) ≡ true)
     → (numbers : List ℕ) → list_all q numbers ≡ true → list_all p (labels (filter_map (keyed number frames) numbers)) ≡ true
-all-labels p q number frames has [] within = refl
-all-labels p q number frames has (n ∷ ns) within =
-    let parts = and_parts (q n) (list_all q ns) within in
-    all_step p number n (key_of_frame n frames) (filter_map (keyed number frames) ns) (λ key is. has n key parts.0 is)
-    (all-labels p q number frames has ns parts.1)
+all-labels p q number frames has numbers within =
+    list_all-map p (λ d. d.0) (filter_map (keyed number frames) numbers) ∙ all-keyed (λ d. p d.0) q number frames has numbers within
 
-all_true : (ns : List ℕ) → list_all (λ n. true) ns ≡ true
-all_true [] = refl
-all_true (n ∷ ns) = all_true ns
+-- what each document of a tab has
+pub all-documents : (p : Label × PlainKey → Bool) (tab : PlainTab)
+    → ((frame : ℕ) (key : PlainKey) → key_of_frame frame tab.frames ≡ Some key → p (record { tab = tab.number; frame = frame }, key) ≡ true)
+    → list_all p (documents_in tab) ≡ true
+all-documents p tab has =
+    all-keyed p (λ n. true) tab.number tab.frames (λ frame key any is. has frame key is) frame_numbers (all_true frame_numbers)
 
 -- ---- no label stands twice
 
@@ -174,14 +186,40 @@ labels_same : (list : List (Label × StorageKey)) → labels (map plain_keyed li
 labels_same [] = refl
 labels_same (d ∷ ds) = ap (λ ls. d.0 ∷ ls) (labels_same ds)
 
-pub listed-once : (tabs : List PlainTab) (list : List (Label × StorageKey)) → is_rising tabs ≡ true → map plain_keyed list ≡ documents tabs
-    → are_distinct (map (λ d. d.0) list) ≡ true
-listed-once tabs list rising is =
-    ap are_distinct (sym (labels_same list) ∙ ap labels is) ∙ documents-once tabs rising
+-- labels of documents, of which some are left out
+any_left : (q : Label → Bool) (p : Label × PlainKey → Bool) (ds : List (Label × PlainKey)) → list_any q (labels ds) ≡ false
+    → list_any q (labels (filter p ds)) ≡ false
+any_left q p [] none = refl
+any_left q p (d ∷ ds) none = by (q d.0) (p d) refl none (any_left q p ds)
+  where
+    by : (b left : Bool) → q d.0 ≡ b → (b || list_any q (labels ds)) ≡ false
+        → (list_any q (labels ds) ≡ false → list_any q (labels (filter p ds)) ≡ false)
+        → list_any q (labels (cond left (d ∷ filter p ds) (filter p ds))) ≡ false
+    by true left is none rest = absurd (cc none)
+    by false true is none rest = ap (λ b. b || list_any q (labels (filter p ds))) is ∙ rest none
+    by false false is none rest = rest none
 
-pub listed-there : (tabs : List PlainTab) (list : List (Label × StorageKey)) → is_rising tabs ≡ true → map plain_keyed list ≡ documents tabs
-    → list_all (λ d. has_document tabs d.0) list ≡ true
-listed-there tabs list rising is =
+distinct_left : (p : Label × PlainKey → Bool) (ds : List (Label × PlainKey)) → are_distinct (labels ds) ≡ true → are_distinct (labels (filter p ds)) ≡ true
+distinct_left p [] distinct = refl
+distinct_left p (d ∷ ds) distinct =
+    let parts = and_parts (not (list_any (same_label d.0) (labels ds))) (are_distinct (labels ds)) distinct in
+    by (p d) (ap not (any_left (same_label d.0) p ds (not_true (list_any (same_label d.0) (labels ds)) parts.0))) (distinct_left p ds parts.1)
+  where
+    by : (left : Bool) → not (list_any (same_label d.0) (labels (filter p ds))) ≡ true → are_distinct (labels (filter p ds)) ≡ true
+        → are_distinct (labels (cond left (d ∷ filter p ds) (filter p ds))) ≡ true
+    by true apart rest = and_both (not (list_any (same_label d.0) (labels (filter p ds)))) (are_distinct (labels (filter p ds))) apart rest
+    by false apart rest = rest
+
+pub listed-once : (site : Option PlainSite) (tabs : List PlainTab) (list : List (Label × StorageKey)) → is_rising tabs ≡ true
+    → map plain_keyed list ≡ listed site tabs → are_distinct (map (λ d. d.0) list) ≡ true
+listed-once site tabs list rising is =
+    ap are_distinct (sym (labels_same list) ∙ ap labels is) ∙ distinct_left (is_listed site) (documents tabs) (documents-once tabs rising)
+
+pub listed-there : (site : Option PlainSite) (tabs : List PlainTab) (list : List (Label × StorageKey)) → is_rising tabs ≡ true
+    → map plain_keyed list ≡ listed site tabs → list_all (λ d. has_document tabs d.0) list ≡ true
+listed-there site tabs list rising is =
     sym (list_all-map (has_document tabs) (λ d. d.0) list)
     ∙ ap (list_all (has_document tabs)) (sym (labels_same list) ∙ ap labels is)
-    ∙ documents-there tabs rising
+    ∙ list_all-map (has_document tabs) (λ d. d.0) (listed site tabs)
+    ∙ all_kept (is_listed site) (λ d. has_document tabs d.0) (documents tabs)
+    (sym (list_all-map (has_document tabs) (λ d. d.0) (documents tabs)) ∙ documents-there tabs rising)

@@ -1,16 +1,17 @@
 -- Values worked out by hand from the standard's steps and from this repository's own choices.
-use Rattle.std.proofs.Common.{◌≡◌, ℕ, refl, List, [], ◌∷◌, Some, None, true, false}
+use Rattle.std.proofs.Common.{◌≡◌, ℕ, refl, List, [], ◌∷◌, ◌++◌, Some, None, true, false}
 use Rattle.std.specs.Prelude.{codes, replicate}
 use Rattle.storage_events.specs.Event.{EventView}
 use Rattle.storage_events.specs.declared.event.AreaKind.TheVariants.{Local}
 use Rattle.origin_site.specs.Address.{PlainAddress}
+use Rattle.origin_site.specs.Site.{PlainSite}
 use Rattle.agent_base.specs.declared.refusals.Label.{Label}
 use Rattle.storage_key.specs.Key.{PlainKey}
 use Rattle.frame_tree.specs.Sandbox.{unrestricted}
 use Rattle.frame_tree.specs.Document.{loaded}
 use Rattle.frame_tree.specs.Tree.{PlainFrame}
 use Rattle.live_state.specs.Tabs.{LiveView, PlainQueue, PlainTab, is_open, is_reserved, is_rising, next_tab, room_dropped, room_put, tabs_put, without_tab}
-use Rattle.live_state.specs.Documents.{documents, frame_numbers}
+use Rattle.live_state.specs.Documents.{documents, documents_under, frame_numbers}
 use Rattle.live_state.specs.Queues.{are_distinct, goes, has_document, is_ready, is_told, queue_at, sent, taken}
 
 -- a value that changed
@@ -139,6 +140,32 @@ documents_by_number = refl
 opaque_document_has_no_key : documents (record { number = 2; frames = frame 0 ∷ opaque 1 ∷ []; queues = [] } ∷ []) ≡ (label 2 0, key) ∷ []
 unfolding frame_numbers
 opaque_document_has_no_key = refl
+
+-- a tab whose top is at another site, with a document of the first site below, which is not first party
+abbrev at_another_site : PlainFrame
+at_another_site = record (frame 0) {
+  document = loaded [] unrestricted false (record address { text = codes "https://b.test/"; host = codes "b.test" });
+}
+
+abbrev nine : PlainTab
+nine = record { number = 9; frames = at_another_site ∷ frame 1 ∷ []; queues = empty 0 ∷ empty 1 ∷ [] }
+
+abbrev site : List ℕ → PlainSite
+site host = record { https = true; host = host }
+
+documents_under_a_site : documents_under (site (codes "a.test")) (tabs ++ nine ∷ []) ≡ documents tabs
+unfolding frame_numbers
+documents_under_a_site = refl
+
+documents_under_another_site : documents_under (site (codes "b.test")) (tabs ++ nine ∷ [])
+    ≡ (label 9 0, record key { origin = record key.origin { host = codes "b.test" }; top = site (codes "b.test") })
+    ∷ (label 9 1, record key { top = site (codes "b.test"); bit = true }) ∷ []
+unfolding frame_numbers
+documents_under_another_site = refl
+
+documents_under_another_scheme : documents_under (record (site (codes "a.test")) { https = false }) (tabs ++ nine ∷ []) ≡ []
+unfolding frame_numbers
+documents_under_another_scheme = refl
 
 -- ---- events
 

@@ -5,3 +5,4 @@ pub mod Queues
 -- What private functions compute. No public clause rests on it.
 pub mod Held
 pub mod Places
+pub mod Listed

@@ -3,7 +3,9 @@ ghost use Rattle.std.specs.Prelude.{◌≡◌, ◌==◌, ◌≤◌, ◌<◌, [],
 ghost use Rattle.std.specs.List.{insert, list_all};
 ghost use Rattle.storage_events.specs.Audience.{same_label};
 ghost use Rattle.storage_events.specs.Event.{plain_event};
-ghost use Rattle.live_state.specs.Documents.{documents, plain_keyed};
+ghost use Rattle.origin_site.specs.Plain.{plain_site};
+ghost use Rattle.live_state.specs.Documents.{documents, documents_under, plain_keyed};
+ghost use Rattle.live_state.specs.Listed.{listed};
 ghost use Rattle.live_state.specs.Places.{IsAt, IsGap};
 ghost use Rattle.live_state.specs.Queues.{StayReadyBut, are_distinct, goes, has_document, is_ready, is_told, plain_sent, queue_at, sent, taken};
 ghost use Rattle.live_state.specs.Tabs.{HasQueues, is_open, is_reserved, is_rising, next_tab, room_dropped, room_put, tab_at, tabs_put, without_tab};
@@ -11,6 +13,7 @@ ghost use Rattle.live_state.specs.Tabs.{HasQueues, is_open, is_reserved, is_risi
 use crate::open_tab::OpenTab;
 use agent_base::{Label, NoMemory};
 use frame_tree::Tab;
+use origin_site::Site;
 use std::alloc::Global;
 use std::marker::Model;
 use storage_events::Event;
@@ -126,7 +129,7 @@ impl Live {
     /// Every document that has a storage key, once, with that key: by tab number and then by frame
     /// number. An opaque document has none.
     ///
-    /// Each tab is asked for the numbers 0 to 255.
+    /// Each tab is asked for the numbers from 0 to its highest.
     pub fn documents(&self) -> Result<Vec<(Label, StorageKey)>, NoMemory>
         ensures documents { IfOk result (λ list.
             map plain_keyed list.items ≡ documents self.now.tabs) }
@@ -135,12 +138,21 @@ impl Live {
             list_all (λ d. has_document self.now.tabs d.0) list.items ≡ true) }
         ensures rising { is_rising self.now.tabs ≡ true }
     {
-        let alloc = *self.tabs.allocator();
-        let mut documents = Vec::new(alloc);
-        for tab in &self.tabs {
-            tab.list_documents(alloc, &mut documents)?;
-        }
-        Ok(documents)
+        self.list(None)
+    }
+
+    /// The documents whose key is under a top-level site, in the order of `documents`.
+    ///
+    /// A tab whose top document is at another site costs one comparison of sites and no memory.
+    pub fn documents_under(&self, site: &Site) -> Result<Vec<(Label, StorageKey)>, NoMemory>
+        ensures documents { IfOk result (λ list.
+            map plain_keyed list.items ≡ documents_under (plain_site site.now) self.now.tabs) }
+        ensures once { IfOk result (λ list. are_distinct (map (λ d. d.0) list.items) ≡ true) }
+        ensures there { IfOk result (λ list.
+            list_all (λ d. has_document self.now.tabs d.0) list.items ≡ true) }
+        ensures rising { is_rising self.now.tabs ≡ true }
+    {
+        self.list(Some(site))
     }
 
     /// Makes room for one event in the queue of each of these documents, which are there.
@@ -183,6 +195,25 @@ impl Live {
             Ok(place) => self.tabs[place].take(at.frame),
             Err(_) => (Vec::new(*self.tabs.allocator()), 0),
         }
+    }
+
+    // The documents that have a storage key, of all tabs or under one site.
+    fn list(&self, site: Option<&Site>) -> Result<Vec<(Label, StorageKey)>, NoMemory>
+        ensures listed { IfOk result (λ list. map plain_keyed list.items
+            ≡ listed (option_map plain_site (option_copied site.entry)) self.now.tabs) }
+        ensures once { IfOk result (λ list. are_distinct (map (λ d. d.0) list.items) ≡ true) }
+        ensures there { IfOk result (λ list.
+            list_all (λ d. has_document self.now.tabs d.0) list.items ≡ true) }
+        ensures rising { is_rising self.now.tabs ≡ true }
+    {
+        let alloc = *self.tabs.allocator();
+        let mut documents = Vec::new(alloc);
+        for tab in &self.tabs {
+            if tab.is_at(site) {
+                tab.list_documents(alloc, &mut documents)?;
+            }
+        }
+        Ok(documents)
     }
 
     // Makes room for one event in the queue of a document.

@@ -1,12 +1,14 @@
 //! An open tab, with the queues of its documents.
-ghost use Rattle.std.specs.Prelude.{◌≡◌, ◌==◌, ◌++◌, IfOk, OnErr, OnOk, false, map, not, option_map, true};
+ghost use Rattle.std.specs.Prelude.{◌≡◌, ◌==◌, ◌++◌, [], IfOk, OnErr, OnOk, false, filter, map, not, option_copied, option_map, true, if◌then◌else◌};
 ghost use Rattle.std.specs.Option.{option_to_list};
 ghost use Rattle.storage_events.specs.Event.{plain_event};
 ghost use Rattle.storage_key.specs.Plain.{plain_key};
-ghost use Rattle.frame_tree.specs.Tree.{has_frame, document_of};
+ghost use Rattle.origin_site.specs.Plain.{plain_site};
+ghost use Rattle.frame_tree.specs.Tree.{IsTree, has_frame, document_of, top_site};
 ghost use Rattle.frame_tree.specs.Plain.{plain_document};
 ghost use Rattle.live_state.specs.Documents.{documents_in, key_of_frame, keyed, plain_keyed};
 ghost use Rattle.live_state.specs.Held.{FramesStayReadyBut, changed_at};
+ghost use Rattle.live_state.specs.Listed.{is_listed};
 ghost use Rattle.live_state.specs.Queues.{is_among, queue_told};
 ghost use Rattle.live_state.specs.Tabs.{HasQueues, empty_queue, made_tab, queue_of, stays};
 
@@ -15,6 +17,7 @@ use crate::frame_queue::{
 };
 use agent_base::{Label, NoMemory};
 use frame_tree::{Document, Tab};
+use origin_site::{Site, same_site};
 use std::alloc::Global;
 use std::marker::Model;
 use storage_events::Event;
@@ -112,6 +115,21 @@ impl OpenTab {
         take_events(&mut self.queues, frame)
     }
 
+    /// Whether the top document is at a site. Without a site every tab is asked for its documents.
+    pub fn is_at(&self, site: Option<&Site>) -> bool
+        ensures listed { let documents = documents_in self.now.plain in
+            filter (is_listed (option_map plain_site (option_copied site.entry))) documents
+            ≡ (if result then documents else []) }
+    {
+        let Some(site) = site else {
+            return true;
+        };
+        match top_site(&self.tab) {
+            Some(own) => same_site(site, own),
+            None => false,
+        }
+    }
+
     /// Puts the documents that have a key behind the others, in the order of the frames' numbers.
     pub fn list_documents(
         &self,
@@ -121,7 +139,7 @@ impl OpenTab {
         ensures listed { OnOk result (map plain_keyed documents.new.items
             ≡ map plain_keyed documents.old.items ++ documents_in self.now.plain) }
     {
-        for frame in 0..=255u8 {
+        for frame in 0..=self.tab.last_frame() {
             self.list_document(alloc, frame, documents)?;
         }
         Ok(())
@@ -149,6 +167,17 @@ impl OpenTab {
             Ok(()) => Ok(()),
             Err(_) => Err(NoMemory),
         }
+    }
+}
+
+// The site of the top document.
+fn top_site(tab: &Tab) -> Option<&Site>
+    ensures site { option_map plain_site (option_copied result) ≡ top_site tab.now }
+    ensures tree { IsTree tab.now }
+{
+    match tab.document(0) {
+        Some(top) => top.site.as_ref(),
+        None => None,
     }
 }
 

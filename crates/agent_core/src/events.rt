@@ -92,7 +92,7 @@ impl Holdings {
         ensures storage { self.new.storage ≡ self.old.storage }
         ensures rising { OnOk result (is_rising self.old.live.tabs ≡ true) }
     {
-        let documents = self.live.documents()?;
+        let documents = self.live.documents_under(&key.top)?;
         let to = audience(alloc, event.area, at, key, documents.as_slice())?;
         self.live.reserve_queues(to.as_slice())?;
         events_to(alloc, to.as_slice(), event)

@@ -5,7 +5,8 @@ use Rattle.std.specs.Prelude.{IfOk}
 use Rattle.std.specs.List.{list_all}
 use Rattle.storage_events.specs.Audience.{audience}
 use Rattle.storage_events.specs.Event.{plain_event}
-use Rattle.live_state.specs.Documents.{documents}
+use Rattle.storage_key.specs.Plain.{plain_key}
+use Rattle.live_state.specs.Documents.{documents_under}
 use Rattle.live_state.specs.Queues.{are_distinct, has_document, is_ready, plain_sent}
 use Rattle.agent_core.proofs.KeyLemmas.{audience_of, same_key}
 use Rattle.agent_core.proofs.HearerLemmas.{audience_all, audience_distinct, sent_all, sent_distinct}
@@ -25,7 +26,7 @@ returns-clause-events c =
     let heard = c.as_slice-3.ensures.value ∙ c.in_ok-to.ensures.audience ∙ ap (audience same_key c.args.event.now.area c.args.at c.args.key.now) c.as_slice.ensures.value in
     subst (λ to. IfOk c.events_to.result (λ events. map plain_sent events.items ≡ map (λ at. (at, plain_event c.args.event.now)) to))
     (heard ∙ audience_of c.args.event.now.area c.args.at c.args.key.now found c.args.self.now.live.tabs
-    (c.in_ok-documents.ensures.documents ∙ ap (λ held. documents held.live.tabs) c.self.view_is))
+    (c.in_ok-documents.ensures.documents ∙ ap (λ held. documents_under (plain_key c.args.key.now).top held.live.tabs) c.self.view_is))
     c.events_to.ensures
 
 pub returns-clause-ready : goal.returns-clause-ready

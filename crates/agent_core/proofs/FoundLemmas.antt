@@ -1,7 +1,6 @@
 -- The tab and the document that a line names, where they are found.
-use Rattle.std.proofs.Common.{◌≡◌, ◌⊎◌, inl, inr, ◌==◌, ◌||◌, Err, ℕ, Bool, true, false, cond, not, List, [], ◌∷◌, Option, Some, None, refl, sym, ap, ◌∙◌}
-use Rattle.std.specs.Prelude.{find, is_some, option_map}
-use Rattle.std.proofs.lemmas.Bool.{eq-eqb}
+use Rattle.std.proofs.Common.{◌≡◌, ◌⊎◌, inl, inr, ◌==◌, Err, ℕ, true, List, reverse, Option, Some, None, refl, sym, ap, ◌∙◌}
+use Rattle.std.specs.Prelude.{find, is_some, option_and_then, option_map}
 use Rattle.agent_base.specs.declared.refusals.Label.{Label}
 use Rattle.storage_key.specs.Key.{PlainKey}
 use Rattle.storage_key.specs.Plain.{plain_key}
@@ -11,7 +10,8 @@ use Rattle.frame_tree.specs.declared.tab.TreeFault.TheVariants.{NoMemory}
 use Rattle.frame_tree.specs.Calls.{sites_of}
 use Rattle.frame_tree.specs.Document.{PlainDocument}
 use Rattle.frame_tree.specs.Tree.{PlainFrame, IsTree, document_of, has_frame, top_site}
-use Rattle.frame_tree.proofs.TopLemmas.{top-marked}
+use Rattle.frame_tree.proofs.ShapeLemmas.{has-reversed}
+use Rattle.frame_tree.proofs.TopLemmas.{has_zero, top-document}
 use Rattle.live_state.specs.Documents.{key_of_document}
 use Rattle.live_state.specs.Queues.{frames_by}
 use Rattle.live_state.specs.Tabs.{PlainTab}
@@ -20,7 +20,6 @@ use Rattle.agent_model.specs.Partition.{Holdings}
 use Rattle.agent_model.specs.SiteEvent.{Done}
 use Rattle.agent_model.specs.Documents as keyed
 use Rattle.agent_model.specs.Documents.{by_document, by_key, with_key}
-use Rattle.agent_model.proofs.PlacedLemmas.{top_is}
 use Rattle.agent_core.specs.Parts.{IsFound, key_wanted}
 use Rattle.agent_core.specs.declared.documents.Found.TheVariants.{Keyed}
 
@@ -75,28 +74,10 @@ chain_there frame frames document why found (inr refused) =
     let there : has_frame frame frames ≡ true = sym (document_there frame frames) ∙ ap is_some found in
     absurd (cc (there, refused))
 
--- the top is frame 0: a change of every other frame leaves its site
-top_zero : (top : PlainFrame) (below : List PlainFrame) → IsTree (top ∷ below) → (top.frame == 0) ≡ true
-top_zero top below tree = at (top.frame == 0) kept
-  where
-    bare : PlainDocument → PlainDocument
-    bare document = record document { site = None }
-
-    kept : (cond (not (top.frame == 0)) (record top { document = bare top.document }) top).document.site ≡ top.document.site
-    kept = top-marked (λ f. not (f.frame == 0)) bare (λ f zero other. absurd (cc (ap not (eq-eqb f.frame 0 zero), other))) (top ∷ below) tree
-
-    at : (b : Bool) → (cond (not b) (record top { document = bare top.document }) top).document.site ≡ top.document.site → b ≡ true
-    at true same = refl
-    at false same = absurd (cc (ap is_some same, top_is (top ∷ below) tree))
-
 -- a tree has a document in frame 0
 pub top_there : (frames : List PlainFrame) → IsTree frames → is_some (document_of 0 frames) ≡ true
-top_there [] tree = absurd tree
-top_there (top ∷ below) tree = document_there 0 (top ∷ below) ∙ ap (λ b. b || has_frame 0 below) (top_zero top below tree)
+top_there frames tree = document_there 0 frames ∙ sym (has-reversed 0 frames) ∙ has_zero (reverse frames) tree
 
 -- the document of frame 0 has the site of the top
 pub top_found : (frames : List PlainFrame) (document : PlainDocument) → IsTree frames → document_of 0 frames ≡ Some document → top_site frames ≡ document.site
-top_found [] document tree is = absurd tree
-top_found (top ∷ below) document tree is =
-    let found : Some top.document ≡ Some document = ap (λ b. option_map (λ (f : PlainFrame). f.document) (cond b (Some top) (find (λ f. f.frame == 0) below))) (sym (top_zero top below tree)) ∙ is in
-    cc found
+top_found frames document tree is = sym (top-document frames tree) ∙ ap (option_and_then (λ d. d.site)) is

@@ -13,7 +13,6 @@ use Rattle.storage_events.specs.Audience.{same_label}
 use Rattle.storage_events.specs.Event.{EventView}
 use Rattle.storage_events.specs.declared.event.Event.{Event}
 use Rattle.live_state.specs.Tabs.{PlainQueue, PlainTab, is_rising, tab_at}
-use Rattle.live_state.specs.Documents.{documents}
 use Rattle.live_state.specs.Queues.{plain_sent, event_for, label_of, queue_told, sent, with_queues}
 use Rattle.live_state.proofs.ListLemmas.{find-map}
 use Rattle.agent_model.specs.Documents.{Keyed, hears_at, told, told_queue, told_tab}

@@ -9,8 +9,6 @@
 mod refusals;
 mod sink;
 mod source;
-#[cfg(test)]
-mod tests;
 
 pub use refusals::{Failed, Fault, Label, NoMemory};
 pub use sink::{MemSink, Sink, WriteSink, write_all};

@@ -5,7 +5,5 @@
 #![tactic(auto)]
 
 mod shed;
-#[cfg(test)]
-mod tests;
 
 pub use shed::{Bucket, Mode, Shed};

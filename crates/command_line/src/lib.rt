@@ -5,7 +5,5 @@ mod commands;
 mod matches;
 mod numbers;
 mod options;
-#[cfg(test)]
-mod tests;
 
 pub use commands::{Command, read_words};

@@ -11,8 +11,6 @@ mod medium;
 mod mem_disk;
 mod recovery;
 mod schedule;
-#[cfg(test)]
-mod tests;
 
 pub use disk::Disk;
 pub use file_disk::FileDisk;

@@ -11,8 +11,6 @@ mod marks;
 mod sandbox;
 mod sets;
 mod tab;
-#[cfg(test)]
-mod tests;
 
 pub use document::Document;
 pub use sandbox::Sandbox;

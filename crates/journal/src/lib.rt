@@ -16,8 +16,6 @@ mod open_fault;
 mod opening;
 mod region;
 mod replay;
-#[cfg(test)]
-mod tests;
 
 pub use journal::{DeviceFault, Journal};
 pub use laws::{

@@ -9,7 +9,5 @@
 mod frame_queue;
 mod live;
 mod open_tab;
-#[cfg(test)]
-mod tests;
 
 pub use live::Live;

@@ -6,7 +6,5 @@
 #![tactic(auto)]
 
 mod area;
-#[cfg(test)]
-mod tests;
 
 pub use area::{Area, AreaFault, Put, QUOTA};

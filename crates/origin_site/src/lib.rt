@@ -9,8 +9,6 @@ mod address;
 mod domain;
 mod origin;
 mod site;
-#[cfg(test)]
-mod tests;
 
 pub use address::{Address, AddressFault};
 pub use domain::{domain_of, site_of};

@@ -6,7 +6,5 @@
 mod local;
 mod session;
 mod storage;
-#[cfg(test)]
-mod tests;
 
 pub use storage::Storage;

@@ -29,3 +29,5 @@ mod row;
 mod script_faults;
 #[cfg(test)]
 mod sessions;
+#[cfg(test)]
+mod words;

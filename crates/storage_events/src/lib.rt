@@ -8,8 +8,6 @@
 mod broadcast;
 mod event;
 mod queue;
-#[cfg(test)]
-mod tests;
 
 pub use broadcast::audience;
 pub use event::{AreaKind, Event};

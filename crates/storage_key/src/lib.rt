@@ -7,8 +7,6 @@
 
 mod context;
 mod key;
-#[cfg(test)]
-mod tests;
 
 pub use context::Context;
 pub use key::{StorageKey, key_of, order_of, same_key};

@@ -3,10 +3,11 @@ ghost use Rattle.std.specs.Prelude.{◌≡◌, OnOk, OnErr, string_bytes};
 ghost use Rattle.local_area.specs.Area.{area_put};
 ghost use Rattle.buckets.specs.Shed.{held_area, mode_at, shed_put};
 
-use crate::{Mode, Shed};
 use agent_base::NoMemory;
+use buckets::{Mode, Shed};
 use local_area::{AreaFault, Put};
 use std::alloc::{AllocError, Global};
+use std::process::Abort;
 use std::test::Fail;
 
 // Puts a pair into the area of a key.
@@ -38,17 +39,14 @@ fn shed_of(alloc: Global, keys: &[u32]) -> Result<Shed<u32>, AllocError> {
     Ok(shed)
 }
 
-#[test]
-fn eviction_spares_persistent_buckets(rt: HostRuntime) -> Result<(), Fail> {
-    let mut shed = shed_of(rt.alloc(), &[7, 3, 5])?;
+fn check_persisted(rt: &impl Abort, shed: &mut Shed<u32>) {
     for (key, want) in [(5, Ok(true)), (5, Ok(false)), (9, Ok(true))] {
         assert_eq!(rt; shed.persist(key), want, "at {key}");
     }
     assert_eq!(rt; shed.reserve(8), Ok(()));
-    let Ok(copy) = shed.copy() else {
-        assert!(rt; false, "no memory for a copy");
-        return Ok(());
-    };
+}
+
+fn check_evictions(rt: &impl Abort, shed: &mut Shed<u32>) {
     for (keys, want) in [
         (&[3, 5, 8, 9][..], 1),
         (&[3, 5, 7, 7][..], 1),
@@ -56,12 +54,27 @@ fn eviction_spares_persistent_buckets(rt: HostRuntime) -> Result<(), Fail> {
     ] {
         assert_eq!(rt; shed.evict(keys), want, "of {keys:?}");
     }
+}
+
+fn check_usages(rt: &impl Abort, shed: &Shed<u32>, copy: &Shed<u32>) {
     for (key, usage, copied) in [(3, 0, 2), (5, 2, 2), (7, 0, 2), (8, 0, 0), (1, 0, 0)] {
         assert_eq!(rt; shed.usage(&key), usage, "at {key}");
         assert_eq!(rt; copy.usage(&key), copied, "in the copy at {key}");
     }
     assert_eq!(rt; shed.mode(&9), Mode::Persistent);
     assert_eq!(rt; shed.mode(&1), Mode::BestEffort);
+}
+
+#[test]
+fn eviction_spares_persistent_buckets(rt: HostRuntime) -> Result<(), Fail> {
+    let mut shed = shed_of(rt.alloc(), &[7, 3, 5])?;
+    check_persisted(&rt, &mut shed);
+    let Ok(copy) = shed.copy() else {
+        assert!(rt; false, "no memory for a copy");
+        return Ok(());
+    };
+    check_evictions(&rt, &mut shed);
+    check_usages(&rt, &shed, &copy);
     Ok(())
 }
 

@@ -2,8 +2,7 @@ use Rattle.std.proofs.Common.{ap, ◌∙◌}
 use Rattle.std.specs.FinMap.{empty}
 use Rattle.agent_model.specs.Sessions.{has_session}
 use Rattle.page_storage.proofs.CloseLemmas.{none_after}
-use Rattle.page_storage.proofs.tests.copied.Goals as goal
+use Rattle.storage_tests.proofs.pages.copied.Goals as goal
 
--- src/tests.rt:101:5
 pub copy_tab-requires : goal.copy_tab-requires
 copy_tab-requires c = ap (has_session 2) (c.close.ensures.closed empty) ∙ none_after 2 _

@@ -6,7 +6,7 @@ use Rattle.frame_tree.specs.Tree.{PlainFrame, has_frame}
 use Rattle.live_state.specs.Queues.{frames_by}
 use Rattle.live_state.specs.Tabs.{PlainTab, tab_at}
 use Rattle.live_state.proofs.ListLemmas.{is_some-find, is_some-map}
-use Rattle.live_state.proofs.tests.has_document.Goals as goal
+use Rattle.storage_tests.proofs.tabs.has_document.Goals as goal
 
 frames_of : (o : Option PlainTab) (frames : List PlainFrame) → Some frames ≡ option_map (λ t. t.frames) o → frames ≡ frames_by o
 frames_of None frames is = absurd (cc is)

@@ -1,6 +1,6 @@
 use Rattle.std.proofs.Common.{◌≡◌, false}
 use Rattle.journal.specs.Journal.{IsAtRest}
-use Rattle.journal.proofs.tests.random_runs.course_of.Given as goal
+use Rattle.disk_tests.proofs.random_runs.course_of.Given as goal
 
 abbrev pub invariant-steps : goal.invariant-steps
 invariant-steps g l =

@@ -1,19 +1,23 @@
 //! A full queue, and an audience with ample memory.
-use crate::{AreaKind, Event, Queue, audience};
 use agent_base::Label;
+use std::alloc::{AllocError, Global};
 use std::rc::RcStr;
 use std::test::Fail;
+use storage_events::{AreaKind, Event, Queue, audience};
 
-#[test]
-fn full_queue_counts_later_events(rt: HostRuntime) -> Result<(), Fail> {
-    let alloc = rt.alloc();
-    let event = Event {
+// A name that was given a value.
+fn stored(alloc: Global) -> Result<Event, AllocError> {
+    Ok(Event {
         area: AreaKind::Local,
         key: Some(RcStr::from_str(alloc, "k")?),
         before: None,
         after: Some(RcStr::from_str(alloc, "v")?),
         url: RcStr::from_str(alloc, "https://a.test/")?,
-    };
+    })
+}
+
+// A queue after 1,025 pushes, with ample memory.
+fn filled(alloc: Global, event: &Event) -> Queue {
     let mut queue = Queue::new(alloc);
     for _ in 0..1025 {
         if let Ok(copy) = event.copy()
@@ -22,6 +26,14 @@ fn full_queue_counts_later_events(rt: HostRuntime) -> Result<(), Fail> {
             queue.push(copy);
         }
     }
+    queue
+}
+
+#[test]
+fn full_queue_counts_later_events(rt: HostRuntime) -> Result<(), Fail> {
+    let alloc = rt.alloc();
+    let event = stored(alloc)?;
+    let mut queue = filled(alloc, &event);
     let Ok(mut copy) = queue.copy() else {
         assert!(rt; false, "no memory for a copy");
         return Ok(());

@@ -1,35 +1,9 @@
 //! What a restart leaves after each pick, and a disk over a file of the system.
-use super::*;
+use crate::shared::{bytes_of, disk_of, new_file, path_of};
+use disk_model::{Cut, Disk, FileDisk};
 use std::alloc::Global;
-use std::fs::{self, OpenOptions};
+use std::fs;
 use std::test::Fail;
-use std::{env, process};
-
-// A disk of these bytes, with one cut and the numbers of calls that fail.
-fn disk_of(alloc: Global, bytes: &[u8], cut: Option<Cut>, fails: &[u64]) -> Result<MemDisk, Fail> {
-    let mut contents = Vec::new(alloc);
-    contents.extend_from_slice(bytes)?;
-    let mut numbers = Vec::new(alloc);
-    numbers.extend_from_slice(fails)?;
-    let mut cuts = Vec::new(alloc);
-    if let Some(cut) = cut {
-        if cut.call > 0 && cut.pick < 4 {
-            cuts.push(cut)?;
-        }
-    }
-    Ok(MemDisk::new(alloc, contents, cuts, numbers))
-}
-
-// All bytes of a disk.
-fn bytes_of<D: Disk>(alloc: Global, disk: &mut D) -> Result<Vec<u8>, Fail> {
-    let mut bytes = Vec::new(alloc);
-    let Ok(len) = disk.len() else {
-        return Ok(bytes);
-    };
-    bytes.resize(len as usize, 0)?;
-    let _ = disk.read_at(0, &mut bytes);
-    Ok(bytes)
-}
 
 // Writes where the place is within the file or at its end, in room that it makes.
 fn put<D: Disk>(disk: &mut D, at: u64, bytes: &[u8]) -> bool {
@@ -117,15 +91,8 @@ fn is_written<D: Disk>(disk: &mut D) -> bool {
 #[test]
 fn a_file_keeps_what_was_written(rt: HostRuntime) -> Result<(), Fail> {
     let alloc = rt.alloc();
-    let name = format!(in alloc; "cuvandil_file_disk_{}", process::id(rt.process()))?;
-    let path = env::temp_dir(&rt)?.join(alloc, name.as_str())?;
-    let file = OpenOptions::new()
-        .read(true)
-        .write(true)
-        .create(true)
-        .truncate(true)
-        .open(&rt, &path)?;
-    let mut disk = FileDisk::new(file);
+    let path = path_of(&rt, "file_disk")?;
+    let mut disk = FileDisk::new(new_file(&rt, &path)?);
     let is_so = is_written(&mut disk);
     let after = restarted(alloc, &mut disk)?;
     assert!(rt; is_so);

@@ -1,5 +1,5 @@
 //! Calls with ample memory, and faults in mid-stream.
-use super::*;
+use agent_base::{Failed, MemSink, MemSource, ReadAll, ReadSource, WriteSink, read_all, write_all};
 use std::alloc::Global;
 use std::test::Fail;
 

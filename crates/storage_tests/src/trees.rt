@@ -1,17 +1,11 @@
 //! Worked frame trees, and each call with ample memory.
-use crate::{NoFrame, Sandbox, Tab, TreeFault};
-use agent_base::MemSource;
+use crate::shared::list_of;
+use frame_tree::{NoFrame, Sandbox, Tab, TreeFault};
 use origin_site::Address;
 use std::alloc::Global;
+use std::process::Abort;
 use std::test::Fail;
 use suffix_list::SuffixList;
-
-// The list of one rule.
-fn list(alloc: Global) -> Result<SuffixList, Fail> {
-    let bytes = Vec::from_slice(alloc, b"test")?;
-    let mut source = MemSource::new(bytes, Vec::new(alloc));
-    Ok(SuffixList::read(alloc, &mut source)?)
-}
 
 // A tab of `https://a.test/` with these frames: parent, frame, address, and the sandbox's text.
 fn tab_with(
@@ -78,81 +72,84 @@ fn texts_of_sandboxes(rt: HostRuntime) -> Result<(), Fail> {
     Ok(())
 }
 
+// Frames below the top of a tab, some of them below one another, and some sandboxed.
+const FRAMES: &[(u8, u8, &str, Option<&str>)] = &[
+    (0, 1, "https://x.b.test/", None),
+    (1, 2, "https://a.test/inner", None),
+    (0, 3, "https://a.test/", Some("allow-scripts")),
+    (3, 4, "https://a.test/", Some("allow-same-origin")),
+    (0, 9, "http://a.test/", None),
+];
+
+// The chains of these frames, and whether each document of them is https.
+const CHAINS: &[(u8, &str, bool)] = &[
+    (0, "https://a.test ", true),
+    (1, "https://a.test https://b.test ", true),
+    (2, "https://a.test https://b.test https://a.test ", true),
+    (3, "https://a.test - ", true),
+    (4, "https://a.test - - ", true),
+    (9, "https://a.test http://a.test ", false),
+];
+
+fn check_chain(
+    rt: &impl Abort,
+    alloc: Global,
+    tab: &Tab,
+    frame: u8,
+    chain: &str,
+    https: bool,
+) -> Result<(), Fail> {
+    let text = shown(alloc, tab, frame)?;
+    assert_eq!(rt; text.as_str(), chain, "at {frame}");
+    assert_eq!(rt; tab.https_chain(frame), https, "at {frame}");
+    Ok(())
+}
+
 #[test]
 fn chains_of_worked_trees(rt: HostRuntime) -> Result<(), Fail> {
     let alloc = rt.alloc();
-    let list = list(alloc)?;
-    let tab = tab_with(
-        alloc,
-        &list,
-        &[
-            (0, 1, "https://x.b.test/", None),
-            (1, 2, "https://a.test/inner", None),
-            (0, 3, "https://a.test/", Some("allow-scripts")),
-            (3, 4, "https://a.test/", Some("allow-same-origin")),
-            (0, 9, "http://a.test/", None),
-        ],
-    )?
-    .copy()?;
-    for (frame, chain, https) in [
-        (0u8, "https://a.test ", true),
-        (1, "https://a.test https://b.test ", true),
-        (2, "https://a.test https://b.test https://a.test ", true),
-        (3, "https://a.test - ", true),
-        (4, "https://a.test - - ", true),
-        (9, "https://a.test http://a.test ", false),
-    ] {
-        let text = shown(alloc, &tab, frame)?;
-        assert_eq!(rt; text.as_str(), chain, "at {frame}");
-        assert_eq!(rt; tab.https_chain(frame), https, "at {frame}");
+    let list = list_of(alloc, "test")?;
+    let tab = tab_with(alloc, &list, FRAMES)?.copy()?;
+    for (frame, chain, https) in CHAINS {
+        check_chain(&rt, alloc, &tab, *frame, chain, *https)?;
     }
     assert!(rt; matches!(tab.chain(5), Err(TreeFault::NoFrame)));
     assert!(rt; !tab.https_chain(5) && tab.document(5).is_none());
     Ok(())
 }
 
-#[test]
-fn changes_of_a_tree(rt: HostRuntime) -> Result<(), Fail> {
-    let alloc = rt.alloc();
-    let list = list(alloc)?;
-    let mut tab = tab_with(
-        alloc,
-        &list,
-        &[
-            (0, 1, "https://b.test/", Some("allow-same-origin")),
-            (1, 2, "https://b.test/", None),
-            (2, 3, "https://c.test/", None),
-            (0, 4, "https://a.test/", None),
-        ],
-    )?;
-    let taken = tab.add(
-        0,
-        4,
-        Address::read(alloc, "https://a.test/")?,
-        Sandbox::read(None),
-        true,
-        &list,
-    );
-    assert_eq!(rt; taken, Err(TreeFault::FrameExists));
-    let absent = tab.add(
-        7,
-        4,
-        Address::read(alloc, "https://a.test/")?,
-        Sandbox::read(None),
-        true,
-        &list,
-    );
-    assert_eq!(rt; absent, Err(TreeFault::NoFrame));
+// Four frames, each but the last below the one before it.
+const ROW: &[(u8, u8, &str, Option<&str>)] = &[
+    (0, 1, "https://b.test/", Some("allow-same-origin")),
+    (1, 2, "https://b.test/", None),
+    (2, 3, "https://c.test/", None),
+    (0, 4, "https://a.test/", None),
+];
+
+// Adds a frame of `https://a.test/`.
+fn add(
+    alloc: Global,
+    tab: &mut Tab,
+    list: &SuffixList,
+    parent: u8,
+    frame: u8,
+) -> Result<Result<(), TreeFault>, Fail> {
+    let address = Address::read(alloc, "https://a.test/")?;
+    Ok(tab.add(parent, frame, address, Sandbox::read(None), true, list))
+}
+
+fn check_activation(rt: &impl Abort, tab: &mut Tab) {
     assert_eq!(rt; tab.activate(1, 100), Ok(()));
-    for (frame, active) in [(0u8, true), (1, true), (2, true), (3, false), (4, false)] {
+    for (frame, active) in [(0, true), (1, true), (2, true), (3, false), (4, false)] {
         assert_eq!(rt; tab.is_active(frame, 104), active, "at {frame}");
         assert!(rt; !tab.is_active(frame, 105));
     }
     tab.consume();
     assert!(rt; !tab.is_active(1, 100));
-    assert_eq!(rt; tab.set_flag(1), Ok(()));
-    assert_eq!(rt; tab.set_flag(8), Err(NoFrame));
-    tab.navigate(1, Address::read(alloc, "https://b.test/next")?, true, &list)?;
+}
+
+// What frame 1 is after its navigation.
+fn check_navigated(rt: &impl Abort, tab: &Tab) {
     match tab.document(1) {
         Some(document) => {
             assert!(rt;
@@ -163,8 +160,29 @@ fn changes_of_a_tree(rt: HostRuntime) -> Result<(), Fail> {
         None => assert!(rt; false, "frame 1 is gone"),
     }
     assert!(rt; tab.document(2).is_none() && tab.document(3).is_none());
+}
+
+fn check_removal(rt: &impl Abort, tab: &mut Tab) {
     assert_eq!(rt; tab.remove(4), Ok(()));
     assert_eq!(rt; tab.remove(4), Err(NoFrame));
     assert!(rt; tab.document(0).is_some() && tab.document(1).is_some());
+}
+
+#[test]
+fn changes_of_a_tree(rt: HostRuntime) -> Result<(), Fail> {
+    let alloc = rt.alloc();
+    let list = list_of(alloc, "test")?;
+    let mut tab = tab_with(alloc, &list, ROW)?;
+    assert_eq!(rt;
+        add(alloc, &mut tab, &list, 0, 4)?,
+        Err(TreeFault::FrameExists)
+    );
+    assert_eq!(rt; add(alloc, &mut tab, &list, 7, 4)?, Err(TreeFault::NoFrame));
+    check_activation(&rt, &mut tab);
+    assert_eq!(rt; tab.set_flag(1), Ok(()));
+    assert_eq!(rt; tab.set_flag(8), Err(NoFrame));
+    tab.navigate(1, Address::read(alloc, "https://b.test/next")?, true, &list)?;
+    check_navigated(&rt, &tab);
+    check_removal(&rt, &mut tab);
     Ok(())
 }

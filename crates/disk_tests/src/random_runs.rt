@@ -2,11 +2,14 @@
 ghost use Rattle.std.specs.Prelude.{◌≡◌, false, true, OnOk, IfOk};
 ghost use Rattle.journal.specs.Journal.{IsAtRest};
 
-use super::*;
+use crate::journals::{DIGEST, is_made, kept, worked};
+use crate::shared::{disk_of, new_file, path_of};
 use agent_base::Failed;
-use disk_model::FileDisk;
-use std::fs::{self, OpenOptions};
-use std::{env, process};
+use disk_model::{Cut, Disk, FileDisk};
+use journal::{Journal, OpenFault, Replay, ReplayFault};
+use std::alloc::Global;
+use std::fs;
+use std::test::Fail;
 
 // The bodies of the changes behind one another. Contracts see one state, whatever comes.
 #[derive(Debug, Drop)]
@@ -200,15 +203,8 @@ fn a_cut_keeps_what_random_commits_acknowledged(rt: HostRuntime) -> Result<(), F
 #[test]
 fn a_file_of_the_system_has_the_worked_store(rt: HostRuntime) -> Result<(), Fail> {
     let alloc = rt.alloc();
-    let name = format!(in alloc; "cuvandil_journal_{}", process::id(rt.process()))?;
-    let path = env::temp_dir(&rt)?.join(alloc, name.as_str())?;
-    let file = OpenOptions::new()
-        .read(true)
-        .write(true)
-        .create(true)
-        .truncate(true)
-        .open(&rt, &path)?;
-    let mut disk = FileDisk::new(file);
+    let path = path_of(&rt, "journal")?;
+    let mut disk = FileDisk::new(new_file(&rt, &path)?);
     let is_so = is_made(alloc, &mut disk, true, false);
     let found = fs::read(&rt, &path)?;
     let again = kept(alloc, &mut disk);

@@ -1,5 +1,5 @@
 //! Words that are a command, and words that are none.
-use super::*;
+use command_line::{Command, read_words};
 use std::alloc::Global;
 use std::test::Fail;
 

@@ -1,13 +1,12 @@
 //! Cuts in each device call, and the first fault of a store whose bytes were changed by hand.
-use super::*;
-use disk_model::{Cut, Disk, MemDisk};
+use crate::shared::{bytes_of, disk_of};
+use disk_model::{Cut, Disk};
+use journal::{Journal, OpenFault, Replay, ReplayFault};
 use std::alloc::Global;
 use std::test::Fail;
 
-mod random_runs;
-
-// SHA-256 of the empty list.
-const DIGEST: [u8; 32] = [
+/// SHA-256 of the empty list.
+pub const DIGEST: [u8; 32] = [
     0xe3, 0xb0, 0xc4, 0x42, 0x98, 0xfc, 0x1c, 0x14, 0x9a, 0xfb, 0xf4, 0xc8, 0x99, 0x6f, 0xb9, 0x24,
     0x27, 0xae, 0x41, 0xe4, 0x64, 0x9b, 0x93, 0x4c, 0xa4, 0x95, 0x99, 0x1b, 0x78, 0x52, 0xb8, 0x55,
 ];
@@ -59,21 +58,6 @@ impl Replay for LastBody {
     }
 }
 
-// A disk of these bytes, with one cut and the numbers of calls that fail.
-fn disk_of(alloc: Global, bytes: &[u8], cut: Option<Cut>, fails: &[u64]) -> Result<MemDisk, Fail> {
-    let mut contents = Vec::new(alloc);
-    contents.extend_from_slice(bytes)?;
-    let mut cuts = Vec::new(alloc);
-    if let Some(cut) = cut {
-        if cut.call > 0 && cut.pick < 4 {
-            cuts.push(cut)?;
-        }
-    }
-    let mut numbers = Vec::new(alloc);
-    numbers.extend_from_slice(fails)?;
-    Ok(MemDisk::new(alloc, contents, cuts, numbers))
-}
-
 // Opens the store, and answers how many changes it has.
 fn open_it<D: Disk>(alloc: Global, disk: &mut D) -> Result<u64, OpenFault> {
     let mut into = LastBody {
@@ -108,19 +92,8 @@ fn run<D: Disk>(alloc: Global, disk: &mut D, has_checkpoint: bool) -> Result<boo
     Ok(journal.is_shut() || journal.since() != 0)
 }
 
-// All bytes of a disk.
-fn bytes_of<D: Disk>(alloc: Global, disk: &mut D) -> Result<Vec<u8>, Fail> {
-    let mut bytes = Vec::new(alloc);
-    let Ok(len) = disk.len() else {
-        return Ok(bytes);
-    };
-    bytes.resize(len as usize, 0)?;
-    let _ = disk.read_at(0, &mut bytes);
-    Ok(bytes)
-}
-
-// How many changes the store has after a restart.
-fn kept<D: Disk>(alloc: Global, disk: &mut D) -> Result<u64, OpenFault> {
+/// How many changes the store has after a restart.
+pub fn kept<D: Disk>(alloc: Global, disk: &mut D) -> Result<u64, OpenFault> {
     let Ok(()) = disk.restart() else {
         return Err(OpenFault::DeviceFault);
     };
@@ -153,8 +126,8 @@ fn a_cut_in_any_call_keeps_what_was_acknowledged(rt: HostRuntime) -> Result<(), 
     Ok(())
 }
 
-// Whether the file is opened, or a run on it succeeds.
-fn is_made<D: Disk>(alloc: Global, disk: &mut D, commits: bool, has_checkpoint: bool) -> bool {
+/// Whether the file is opened, or a run on it succeeds.
+pub fn is_made<D: Disk>(alloc: Global, disk: &mut D, commits: bool, has_checkpoint: bool) -> bool {
     if commits {
         return run(alloc, disk, has_checkpoint) == Ok(false);
     }
@@ -210,8 +183,8 @@ fn a_call_that_fails_shuts_the_journal(rt: HostRuntime) -> Result<(), Fail> {
     Ok(())
 }
 
-// The worked store: one commit of the body to a new store.
-fn worked(alloc: Global) -> Result<Vec<u8>, Fail> {
+/// The worked store: one commit of the body to a new store.
+pub fn worked(alloc: Global) -> Result<Vec<u8>, Fail> {
     let mut file = Vec::new(alloc);
     file.extend_from_slice(b"\x01PBSTORE\x01\0\0\0")?;
     file.extend_from_slice(&DIGEST)?;

@@ -1,16 +1,11 @@
 //! Addresses, origins and sites from outside, and calls that take memory where there is enough.
-use super::*;
-use agent_base::MemSource;
+use crate::shared::list_of;
+use origin_site::{
+    Address, AddressFault, Origin, Site, SiteFault, same_origin, same_site, site_of,
+};
 use std::alloc::Global;
+use std::process::Abort;
 use std::test::Fail;
-use suffix_list::SuffixList;
-
-// The list that a text is.
-fn list(alloc: Global, text: &str) -> Result<SuffixList, Fail> {
-    let bytes = Vec::from_slice(alloc, text.as_bytes())?;
-    let mut source = MemSource::new(bytes, Vec::new(alloc));
-    Ok(SuffixList::read(alloc, &mut source)?)
-}
 
 // A list, an address, and the site of its origin.
 const SITES: [(&str, &str, &str); 14] = [
@@ -35,15 +30,15 @@ const SITES: [(&str, &str, &str); 14] = [
 ];
 
 // The origin of an address, through a copy of each.
-fn origin_at(alloc: Global, text: &str) -> Result<Origin, Fail> {
+fn copied_origin(alloc: Global, text: &str) -> Result<Origin, Fail> {
     let address = Address::read(alloc, text)?.copy(alloc)?;
     Ok(address.origin(alloc)?.copy(alloc)?)
 }
 
 // The site of an address under a list, through a copy of it.
 fn site_at(alloc: Global, rules: &str, text: &str) -> Result<Site, Fail> {
-    let list = list(alloc, rules)?;
-    let origin = origin_at(alloc, text)?;
+    let list = list_of(alloc, rules)?;
+    let origin = copied_origin(alloc, text)?;
     Ok(site_of(alloc, &origin, &list)?.copy(alloc)?)
 }
 
@@ -67,15 +62,26 @@ fn is_at(alloc: Global, rules: &str, text: &str, named: &str) -> Result<bool, Fa
     Ok(same_site(&site, &read))
 }
 
+fn check_site(
+    rt: &impl Abort,
+    alloc: Global,
+    rules: &str,
+    text: &str,
+    site: &str,
+) -> Result<(), Fail> {
+    let shown = site_text_at(alloc, rules, text)?;
+    assert_eq!(rt; shown.as_str(), site, "{text} under {rules}");
+    let again = at_one_site(alloc, rules, text, shown.as_str())?;
+    assert!(rt; again, "{text} under {rules}");
+    assert!(rt; is_at(alloc, rules, text, site)?, "{text} under {rules}");
+    Ok(())
+}
+
 #[test]
 fn sites_of_addresses(rt: HostRuntime) -> Result<(), Fail> {
     let alloc = rt.alloc();
     for (rules, text, site) in SITES {
-        let shown = site_text_at(alloc, rules, text)?;
-        assert_eq!(rt; shown.as_str(), site, "{text} under {rules}");
-        let again = at_one_site(alloc, rules, text, shown.as_str())?;
-        assert!(rt; again, "{text} under {rules}");
-        assert!(rt; is_at(alloc, rules, text, site)?, "{text} under {rules}");
+        check_site(&rt, alloc, rules, text, site)?;
     }
     Ok(())
 }
@@ -89,7 +95,7 @@ fn texts_of_origins(rt: HostRuntime) -> Result<(), Fail> {
         ("https://a.test:80/p", "https://a.test:80"),
         ("http://[::1]:80", "http://[::1]"),
     ] {
-        let origin = origin_at(alloc, text)?;
+        let origin = copied_origin(alloc, text)?;
         assert_eq!(rt; origin.text(alloc)?.as_str(), shown, "{text}");
     }
     Ok(())
@@ -152,14 +158,14 @@ fn text_of_8192_bytes_is_the_longest(rt: HostRuntime) -> Result<(), Fail> {
 #[test]
 fn ports_and_schemes_tell_origins_apart(rt: HostRuntime) -> Result<(), Fail> {
     let alloc = rt.alloc();
-    let one = origin_at(alloc, "https://a.test/p")?;
+    let one = copied_origin(alloc, "https://a.test/p")?;
     for (text, same) in [
         ("https://A.test:443/q", true),
         ("http://a.test:443/", false),
         ("https://a.test:444/", false),
         ("https://b.test/", false),
     ] {
-        let other = origin_at(alloc, text)?;
+        let other = copied_origin(alloc, text)?;
         assert_eq!(rt; same_origin(&one, &other), same, "{text}");
     }
     Ok(())

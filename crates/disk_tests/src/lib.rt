@@ -1,0 +1,16 @@
+//! Tests of streams, of disks and of the journal of a store file, by calls of their libraries.
+//!
+//! They stand apart from `agent_base`, `disk_model` and `journal`, so that each of these is proved
+//! once.
+#![tactic(auto)]
+
+#[cfg(test)]
+mod disks;
+#[cfg(test)]
+mod journals;
+#[cfg(test)]
+mod random_runs;
+#[cfg(test)]
+mod shared;
+#[cfg(test)]
+mod streams;

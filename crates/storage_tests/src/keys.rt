@@ -1,0 +1,143 @@
+//! Worked chains, and each call that takes memory with ample memory.
+use crate::shared::origin_at;
+use agent_base::NoMemory;
+use origin_site::{Origin, Site, same_origin};
+use std::alloc::Global;
+use std::cmp::Ordering;
+use std::process::Abort;
+use std::test::Fail;
+use storage_key::{Context, StorageKey, key_of, order_of, same_key};
+
+// The sites of these texts; an empty text is an opaque document.
+fn chain_of(alloc: Global, texts: &[&str]) -> Result<Vec<Option<Site>>, Fail> {
+    let mut chain = Vec::new(alloc);
+    for text in texts {
+        let site = match text.is_empty() {
+            true => None,
+            false => Some(Site::read(alloc, text)?),
+        };
+        chain.push(site)?;
+    }
+    Ok(chain)
+}
+
+// The key under a chain with a top; the calls below give no other chain.
+fn key_under(
+    alloc: Global,
+    chain: &[Option<Site>],
+    origin: Option<&Origin>,
+) -> Result<Option<StorageKey>, NoMemory> {
+    match chain {
+        [Some(_), ..] => key_of(alloc, chain, origin),
+        _ => Err(NoMemory),
+    }
+}
+
+// The context in which a document at the end of a chain loads what is at a site.
+fn context_at(alloc: Global, chain: &[&str], url: &str) -> Result<Context, Fail> {
+    let sites = chain_of(alloc, chain)?;
+    let site = Site::read(alloc, url)?;
+    Ok(Context::of(sites.as_slice(), &site))
+}
+
+// The key at the end of a chain is that of this origin under `https://a.test`, with this bit.
+fn check_key(
+    rt: &impl Abort,
+    alloc: Global,
+    chain: &[&str],
+    own: &str,
+    bit: bool,
+) -> Result<(), Fail> {
+    let sites = chain_of(alloc, chain)?;
+    let own = origin_at(alloc, own)?;
+    let Some(key) = key_under(alloc, sites.as_slice(), Some(&own))? else {
+        assert!(rt; false, "no key");
+        return Ok(());
+    };
+    let top = key.top.text(alloc)?;
+    assert_eq!(rt; top.as_str(), "https://a.test");
+    assert!(rt; same_origin(&key.origin, &own));
+    assert_eq!(rt; key.bit, bit);
+    Ok(())
+}
+
+// A chain, the site of a URL, whether it is first party there, and the bit of the key.
+const CHAINS: [(&[&str], &str, bool, bool); 7] = [
+    (&["https://a.test"], "https://a.test", true, false),
+    (
+        &["https://a.test", "https://a.test"],
+        "https://a.test",
+        true,
+        false,
+    ),
+    (
+        &["https://a.test", "https://a.test"],
+        "https://b.test",
+        false,
+        false,
+    ),
+    (&["https://a.test"], "http://a.test", false, false),
+    (
+        &["https://a.test", "https://b.test"],
+        "https://b.test",
+        false,
+        true,
+    ),
+    (
+        &["https://a.test", "https://b.test", "https://a.test"],
+        "https://a.test",
+        false,
+        true,
+    ),
+    (
+        &["https://a.test", "", "https://a.test"],
+        "https://a.test",
+        false,
+        true,
+    ),
+];
+
+#[test]
+fn keys_of_worked_chains(rt: HostRuntime) -> Result<(), Fail> {
+    let alloc = rt.alloc();
+    for (chain, url, first, bit) in CHAINS {
+        let context = context_at(alloc, chain, url)?;
+        assert_eq!(rt; context, Context { first, bit: !first }, "{url}");
+        let own = match chain.last() {
+            Some(last) => *last,
+            None => url,
+        };
+        check_key(&rt, alloc, chain, own, bit)?;
+    }
+    Ok(())
+}
+
+// The key of an origin in a document of `https://b.test` below one of `https://a.test`.
+fn key_at(alloc: Global, text: &str) -> Result<Option<StorageKey>, Fail> {
+    let chain = chain_of(alloc, &["https://a.test", "https://b.test"])?;
+    let origin = origin_at(alloc, text)?;
+    Ok(key_under(alloc, chain.as_slice(), Some(&origin))?)
+}
+
+fn check_order(rt: &impl Abort, lower: &StorageKey, copy: &StorageKey, higher: &StorageKey) {
+    assert!(rt; same_key(lower, copy));
+    assert!(rt; !same_key(lower, higher));
+    assert!(rt; order_of(lower, higher) == Ordering::Less);
+    assert!(rt; order_of(lower, copy) == Ordering::Equal);
+}
+
+#[test]
+fn copies_and_order_of_keys(rt: HostRuntime) -> Result<(), Fail> {
+    let alloc = rt.alloc();
+    let chain = chain_of(alloc, &["https://a.test", "https://b.test"])?;
+    assert!(rt; key_under(alloc, chain.as_slice(), None)?.is_none());
+    let lower = key_at(alloc, "https://b.test")?;
+    let higher = key_at(alloc, "https://b.test:444/")?;
+    let (Some(lower), Some(higher)) = (lower, higher) else {
+        assert!(rt; false, "no key");
+        return Ok(());
+    };
+    check_order(&rt, &lower, &lower.copy(alloc)?, &higher);
+    check_order(&rt, &lower, &lower.clone()?, &higher);
+    Ok(())
+}

@@ -1,0 +1,168 @@
+//! Each call that takes memory, with ample memory.
+use crate::shared::origin_at;
+use local_area::Put;
+use origin_site::Site;
+use page_storage::Storage;
+use std::alloc::Global;
+use std::process::Abort;
+use std::test::Fail;
+use storage_events::AreaKind;
+use storage_key::StorageKey;
+
+// Where an area is: an address, and the site above it.
+type Place = (&'static str, &'static str);
+
+const A: Place = ("https://w.test/", "https://a.test");
+
+const B: Place = ("https://w.test/", "https://b.test");
+
+// The key of a place, with the ancestor bit.
+fn key_of(alloc: Global, (address, top): Place) -> Result<StorageKey, Fail> {
+    Ok(StorageKey {
+        origin: origin_at(alloc, address)?,
+        top: Site::read(alloc, top)?,
+        bit: true,
+    })
+}
+
+// Gives a name of one byte a value of one byte.
+fn put(
+    alloc: Global,
+    storage: &mut Storage,
+    kind: AreaKind,
+    tab: u16,
+    at: Place,
+    value: &str,
+) -> Result<bool, Fail> {
+    let key = key_of(alloc, at)?;
+    let name = String::from_str(alloc, "k")?;
+    let value = String::from_str(alloc, value)?;
+    let put = storage.put(kind, tab, key, name, value);
+    Ok(matches!(&put, Ok(Put::Added)))
+}
+
+// Each of these places gets that name in tab 1.
+fn check_puts(
+    rt: &impl Abort,
+    alloc: Global,
+    storage: &mut Storage,
+    kind: AreaKind,
+    places: &[Place],
+) -> Result<(), Fail> {
+    for at in places {
+        assert!(rt; put(alloc, storage, kind, 1, *at, "v")?);
+    }
+    Ok(())
+}
+
+// The value of that name has to be this one, or an empty text where there is none.
+fn check_value(
+    rt: &impl Abort,
+    alloc: Global,
+    storage: &Storage,
+    kind: AreaKind,
+    tab: u16,
+    at: Place,
+    want: &str,
+) -> Result<(), Fail> {
+    let key = key_of(alloc, at)?;
+    let found = match storage.area(kind, tab, &key) {
+        Some(area) => area.get("k"),
+        None => None,
+    };
+    assert_eq!(rt; found.unwrap_or(""), want, "in tab {tab}");
+    Ok(())
+}
+
+// Removes that name from the local area of tab 1, and clears the session area.
+fn is_emptied(alloc: Global, storage: &mut Storage, at: Place) -> Result<bool, Fail> {
+    let removed = storage.remove(AreaKind::Local, 1, key_of(alloc, at)?, "k");
+    let cleared = storage.clear(AreaKind::Session, 1, key_of(alloc, at)?);
+    Ok(matches!(&removed, Ok(Some(_))) && cleared.is_ok())
+}
+
+// Areas once `A` has a pair of each kind in tab 1, with the values there.
+const VALUES: &[(AreaKind, u16, Place, &str)] = &[
+    (AreaKind::Local, 1, A, "1"),
+    (AreaKind::Local, 9, A, "1"),
+    (AreaKind::Local, 1, B, ""),
+    (AreaKind::Session, 1, A, "2"),
+    (AreaKind::Session, 2, A, ""),
+];
+
+fn check_values(rt: &impl Abort, alloc: Global, storage: &Storage) -> Result<(), Fail> {
+    for (kind, tab, at, want) in VALUES {
+        check_value(rt, alloc, storage, *kind, *tab, *at, want)?;
+    }
+    Ok(())
+}
+
+#[test]
+fn areas_of_keys_stand_apart(rt: HostRuntime) -> Result<(), Fail> {
+    let alloc = rt.alloc();
+    let mut storage = Storage::new(alloc);
+    assert!(rt; put(alloc, &mut storage, AreaKind::Local, 1, A, "1")?);
+    assert!(rt; put(alloc, &mut storage, AreaKind::Session, 1, A, "2")?);
+    check_values(&rt, alloc, &storage)?;
+    assert!(rt; is_emptied(alloc, &mut storage, A)?);
+    check_value(&rt, alloc, &storage, AreaKind::Local, 1, A, "")?;
+    check_value(&rt, alloc, &storage, AreaKind::Session, 1, A, "")
+}
+
+const KEPT: Place = ("https://v.test/", "https://a.test");
+
+// Makes the bucket of one place persistent, and tells whether that of another is not.
+fn is_persisted(
+    alloc: Global,
+    storage: &mut Storage,
+    at: Place,
+    other: Place,
+) -> Result<bool, Fail> {
+    let key = key_of(alloc, at)?;
+    let other = key_of(alloc, other)?;
+    let persisted = storage.persist(key.copy(alloc)?);
+    Ok(persisted.is_ok() && storage.is_persistent(&key) && !storage.is_persistent(&other))
+}
+
+// The first eviction empties one area, and the second none.
+fn check_evictions(rt: &impl Abort, alloc: Global, storage: &mut Storage) -> Result<(), Fail> {
+    let site = Site::read(alloc, "https://a.test")?;
+    assert_eq!(rt; storage.evict(&site), Ok(1));
+    assert_eq!(rt; storage.evict(&site), Ok(0));
+    Ok(())
+}
+
+fn check_usages(rt: &impl Abort, alloc: Global, storage: &Storage) -> Result<(), Fail> {
+    for (at, want) in [(KEPT, 2), (A, 0), (B, 2)] {
+        assert_eq!(rt; storage.usage(&key_of(alloc, at)?), want);
+    }
+    Ok(())
+}
+
+#[test]
+fn evictions_spare_persistent_buckets(rt: HostRuntime) -> Result<(), Fail> {
+    let alloc = rt.alloc();
+    let mut storage = Storage::new(alloc);
+    check_puts(&rt, alloc, &mut storage, AreaKind::Local, &[KEPT, A, B])?;
+    assert!(rt; is_persisted(alloc, &mut storage, KEPT, A)?);
+    check_evictions(&rt, alloc, &mut storage)?;
+    check_usages(&rt, alloc, &storage)
+}
+
+// Copies the session areas of tab 1 under a site to tab 2.
+fn copied(storage: &mut Storage, site: &Site) -> bool {
+    storage.close(2);
+    storage.copy_tab(site, 1, 2).is_ok()
+}
+
+#[test]
+fn copies_are_of_one_site(rt: HostRuntime) -> Result<(), Fail> {
+    let alloc = rt.alloc();
+    let mut storage = Storage::new(alloc);
+    check_puts(&rt, alloc, &mut storage, AreaKind::Session, &[A, B])?;
+    assert!(rt; copied(&mut storage, &Site::read(alloc, "https://a.test")?));
+    for (tab, at, want) in [(1, A, "v"), (1, B, "v"), (2, A, "v"), (2, B, "")] {
+        check_value(&rt, alloc, &storage, AreaKind::Session, tab, at, want)?;
+    }
+    Ok(())
+}

@@ -6,7 +6,7 @@ use crate::shared::list_of;
 use agent_base::Label;
 use frame_tree::{Sandbox, Tab};
 use live_state::Live;
-use origin_site::Address;
+use origin_site::{Address, Site};
 use std::alloc::Global;
 use std::process::Abort;
 use std::rc::RcStr;
@@ -144,6 +144,14 @@ fn tabs_by_number(rt: HostRuntime) -> Result<(), Fail> {
         return Ok(());
     };
     check_documents(&rt, &documents);
+    for (text, count) in [("https://a.test", DOCUMENTS.len()), ("https://b.test", 0)] {
+        let site = Site::read(alloc, text)?;
+        let Ok(documents) = live.documents_under(&site) else {
+            assert!(rt; false, "no memory for the documents under {text}");
+            return Ok(());
+        };
+        assert_eq!(rt; documents.len(), count, "under {text}");
+    }
     Ok(())
 }
 

@@ -115,6 +115,7 @@ fn chains_of_worked_trees(rt: HostRuntime) -> Result<(), Fail> {
     }
     assert!(rt; matches!(tab.chain(5), Err(TreeFault::NoFrame)));
     assert!(rt; !tab.https_chain(5) && tab.document(5).is_none());
+    assert_eq!(rt; tab.last_frame(), 9);
     Ok(())
 }
 

@@ -1,5 +1,5 @@
 -- A put into an area is within its quota, or refused for it.
-use Rattle.std.proofs.Common.{◌≡◌, ◌<◌, ◌≤◌, ℕ, List, ◌⊎◌, Ok, Err, ap, ⊎_elim, inl, inr, arith}
+use Rattle.std.proofs.Common.{◌≡◌, ◌<◌, ℕ, List, ◌⊎◌, Ok, Err, ap, ⊎_elim, inl, inr, arith}
 use Rattle.std.specs.Prelude.{◌↔◌, IfErr, Result}
 use Rattle.local_area.specs.Area.{Pair, area_put, area_weight, quota}
 use Rattle.local_area.specs.declared.area.AreaFault.{AreaFault}

@@ -6,12 +6,10 @@ use Rattle.agent_base.specs.Streams.{Gives, Shortens, Takes}
 
 -- some was taken, and then a piece more
 pub takes_append : (a b c : Option (List ℕ)) (first bytes : List ℕ) → Takes a b first → Takes b c bytes → Takes a c (first ++ bytes)
-takes_append None None None first bytes one two = tt
+takes_append None b c first bytes one two = tt
 takes_append (Some a) (Some b) (Some c) first bytes one two = two ∙ ap (λ x. x ++ bytes) one ∙ append_assoc a first bytes
 takes_append (Some a) None c first bytes one two = absurd one
-takes_append None (Some b) c first bytes one two = absurd one
 takes_append (Some a) (Some b) None first bytes one two = absurd two
-takes_append None None (Some c) first bytes one two = absurd two
 
 -- what was taken up to here, and then a piece more
 pub takes_more : (a b c : Option (List ℕ)) (bytes : List ℕ) (at n : ℕ) → Takes a b (take at bytes) → Takes b c (take n (drop at bytes)) → Takes a c (take (at + n) bytes)
@@ -23,20 +21,17 @@ same_piece bytes at = take_all (length bytes - at) (drop at bytes) (omega (arith
 
 -- what was given is the front of what was left
 pub shortens_by : (a b : Option (List ℕ)) (bytes : List ℕ) → Gives a b bytes → Shortens a b
-shortens_by None None bytes gives = tt
+shortens_by None b bytes gives = tt
 shortens_by (Some a) (Some b) bytes gives =
     (length bytes, sym (ap (λ x. drop (length bytes) x) gives ∙ drop-append_seam bytes b))
 shortens_by (Some a) None bytes gives = absurd gives
-shortens_by None (Some b) bytes gives = absurd gives
 
 -- some was given, and then a piece more
 pub gives_more : (a b c : Option (List ℕ)) (first bytes : List ℕ) → Gives a b first → Gives b c bytes → Gives a c (first ++ bytes)
-gives_more None None None first bytes one two = tt
+gives_more None b c first bytes one two = tt
 gives_more (Some a) (Some b) (Some c) first bytes one two = one ∙ ap (λ x. first ++ x) two ∙ sym (append_assoc first bytes c)
 gives_more (Some a) None c first bytes one two = absurd one
-gives_more None (Some b) c first bytes one two = absurd one
 gives_more (Some a) (Some b) None first bytes one two = absurd two
-gives_more None None (Some c) first bytes one two = absurd two
 
 -- bytes that stand in front of a buffer are the front of what was left, and the rest stays
 pub given_front : (bytes buffer piece : List ℕ) (at n : ℕ) → n ≤ length (drop at bytes) → piece ≡ take n (take (length bytes - at) (drop at bytes)) → drop at bytes ≡ take n (piece ++ drop n buffer) ++ drop (at + n) bytes

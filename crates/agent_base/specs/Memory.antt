@@ -3,7 +3,8 @@ use Rattle.std.specs.Prelude.{ℕ, Bool, List, length, ◌==◌, ◌||◌}
 use Rattle.std.specs.List.{list_any}
 use Rattle.agent_base.specs.Counts.{next_count}
 
--- a source in memory: the bytes left, the numbers of the calls that fail, the calls made, the faults
+-- a source in memory: the bytes left, the numbers of the calls that fail, the calls made, the
+-- faults
 pub record SourceView : Type 0 where
   pub left : List ℕ
   pub fails : List ℕ

@@ -3,7 +3,7 @@
 //! A [`Source`] gives bytes and a [`Sink`] takes them. Each counts its faults, and a call answers
 //! [`Failed`] only where that count rose in the call. [`read_all`] reads to the end of a source and
 //! [`write_all`] writes every byte. A clause on the bytes holds where the object tells its bytes:
-//! the ends in memory do, the adapters over a reader or a writer of std do not.
+//! the ends in memory do, and the adapters where the reader or writer under them does.
 #![tactic(auto)]
 
 mod refusals;

@@ -21,7 +21,8 @@ pub trait Sink {
     fn write(&mut self, bytes: &[u8]) -> Result<usize, Failed>
         requires { 0 < length bytes.now }
         ensures bound { IfOk result (λ n. (0 < n) × (n ≤ length bytes.now)) }
-        ensures bytes { MatchResult result (λ n. Takes (taken self.old) (taken self.new) (take n bytes.now))
+        ensures bytes { MatchResult result
+            (λ n. Takes (taken self.old) (taken self.new) (take n bytes.now))
             (λ _. Takes (taken self.old) (taken self.new) []) }
         ensures cause { HasCause (faults self.old) (faults self.new) result };
 }
@@ -70,7 +71,8 @@ impl MemSink {
     /// An empty sink that takes `room` bytes in all. `fails` holds the numbers of the calls that
     /// fail, from 1.
     pub fn new(alloc: Global, room: usize, fails: Vec<u64>) -> Result<MemSink, NoMemory>
-        ensures { IfOk result (λ s. s ≡ record { taken = []; room = room; fails = fails.items; calls = 0; faults = 0 }) }
+        ensures { IfOk result (λ s. s
+            ≡ record { taken = []; room = room; fails = fails.items; calls = 0; faults = 0 }) }
     {
         let Ok(bytes) = Vec::with_capacity(alloc, room) else {
             return Err(NoMemory);
@@ -101,7 +103,10 @@ impl MemSink {
     fn take_in(&mut self, bytes: &[u8]) -> usize
         requires { length self.old.taken < self.old.room }
         ensures count { result ≡ min (length bytes.now) (self.old.room - length self.old.taken) }
-        ensures taken { self.new ≡ record self.old { taken = self.old.taken ++ take result bytes.now } }
+        ensures taken { self.new ≡ record self.old {
+          taken = self.old.taken
+              ++ take result bytes.now;
+        } }
     {
         let count = bytes.len().min(self.room - self.bytes.len());
         let _ = self.bytes.extend_from_slice(&bytes[..count]);
@@ -118,10 +123,12 @@ impl Sink for MemSink {
     fn write(&mut self, bytes: &[u8]) -> Result<usize, Failed>
         requires { 0 < length bytes.now }
         ensures bound { IfOk result (λ n. (0 < n) × (n ≤ length bytes.now)) }
-        ensures bytes { MatchResult result (λ n. Takes (Some self.old.taken) (Some self.new.taken) (take n bytes.now))
+        ensures bytes { MatchResult result
+            (λ n. Takes (Some self.old.taken) (Some self.new.taken) (take n bytes.now))
             (λ _. Takes (Some self.old.taken) (Some self.new.taken) []) }
         ensures cause { HasCause self.old.faults self.new.faults result }
-        ensures count { IfOk result (λ n. n ≡ min (length bytes.now) (self.old.room - length self.old.taken)) }
+        ensures count { IfOk result
+            (λ n. n ≡ min (length bytes.now) (self.old.room - length self.old.taken)) }
         ensures fails { IsErr result ↔ IsTrue (refuses self.old) }
         ensures calls { self.new.calls ≡ next_count self.old.calls }
         ensures faults { OnErr result (self.new.faults ≡ next_count self.old.faults) }
@@ -137,7 +144,7 @@ impl Sink for MemSink {
     }
 }
 
-/// Any writer of std. It tells nothing of its bytes.
+/// Any writer of std. It tells what the writer tells of the bytes that it holds.
 #[derive(Debug, Drop)]
 pub struct WriteSink<W: Write + Drop> {
     writer: W,
@@ -154,11 +161,12 @@ impl<W: Write + Drop> WriteSink<W> {
 }
 
 impl<W: Write + Drop> Sink for WriteSink<W> {
-    ghost taken = { λ _. None };
+    ghost taken = { λ s. W.contents s.writer };
 
     ghost faults = { λ s. s.faults };
 
     // A writer that takes nothing, or more than it was given, is at fault.
+    #[tactic(auto, using(crate::proofs::Adapters::takes_written, crate::proofs::Adapters::takes_nothing))]
     fn write(&mut self, bytes: &[u8]) -> Result<usize, Failed> {
         match self.writer.write(bytes) {
             Ok(n) if n > 0 && n <= bytes.len() => Ok(n),

@@ -21,7 +21,8 @@ pub trait Source {
     fn read(&mut self, into: &mut [u8]) -> Result<usize, Failed>
         requires { 0 < length into.old }
         ensures bound { IfOk result (λ n. n ≤ length into.new) }
-        ensures bytes { MatchResult result (λ n. Gives (left self.old) (left self.new) (take n into.new))
+        ensures bytes { MatchResult result
+            (λ n. Gives (left self.old) (left self.new) (take n into.new))
             (λ _. Gives (left self.old) (left self.new) []) }
         ensures end { IfOk result (λ n. n ≡ 0 → IfSome (left self.new) (λ rest. rest ≡ [])) }
         ensures cause { HasCause (faults self.old) (faults self.new) result };
@@ -43,8 +44,10 @@ pub fn read_all<S: Source>(alloc: Global, source: &mut S, limit: usize) -> Resul
     ensures all { IfOk result (λ bytes. Gives (S.left source.old) (S.left source.new) bytes.items) }
     ensures end { OnOk result (IfSome (S.left source.new) (λ rest. rest ≡ [])) }
     ensures within { IfOk result (λ bytes. length bytes.items ≤ limit) }
-    ensures too_long { IsErrOf result ReadAll.TooLong → IfSome (S.left source.old) (λ bytes. limit < length bytes) }
-    ensures failed { IsErrOf result ReadAll.Failed → Rose (S.faults source.old) (S.faults source.new) }
+    ensures too_long { IsErrOf result ReadAll.TooLong → IfSome (S.left source.old)
+        (λ bytes. limit < length bytes) }
+    ensures failed { IsErrOf result ReadAll.Failed
+        → Rose (S.faults source.old) (S.faults source.new) }
     ensures later { S.faults source.old ≤ S.faults source.new }
     ensures still { MatchResult result (λ _. S.faults source.new ≡ S.faults source.old)
         (λ why. (why ≡ ReadAll.Failed) ⊎ (S.faults source.new ≡ S.faults source.old)) }
@@ -86,7 +89,12 @@ impl Model for MemSource {
 
     ghost Value = { SourceView };
 
-    ghost view = { λ s. record { left = drop s.at s.bytes.items; fails = s.fails.items; calls = s.calls; faults = s.faults } };
+    ghost view = { λ s. record {
+      left = drop s.at s.bytes.items;
+      fails = s.fails.items;
+      calls = s.calls;
+      faults = s.faults;
+    } };
 
     ghost invariant = { λ s. s.at ≤ length s.bytes.items };
 }
@@ -94,7 +102,8 @@ impl Model for MemSource {
 impl MemSource {
     /// A source of these bytes. `fails` holds the numbers of the calls that fail, from 1.
     pub fn new(bytes: Vec<u8>, fails: Vec<u64>) -> MemSource
-        ensures { result ≡ record { left = bytes.items; fails = fails.items; calls = 0; faults = 0 } }
+        ensures { result
+            ≡ record { left = bytes.items; fails = fails.items; calls = 0; faults = 0 } }
     {
         MemSource {
             bytes,
@@ -135,7 +144,8 @@ impl Source for MemSource {
     fn read(&mut self, into: &mut [u8]) -> Result<usize, Failed>
         requires { 0 < length into.old }
         ensures bound { IfOk result (λ n. n ≤ length into.new) }
-        ensures bytes { MatchResult result (λ n. Gives (Some self.old.left) (Some self.new.left) (take n into.new))
+        ensures bytes { MatchResult result
+            (λ n. Gives (Some self.old.left) (Some self.new.left) (take n into.new))
             (λ _. Gives (Some self.old.left) (Some self.new.left) []) }
         ensures end { IfOk result (λ n. n ≡ 0 → IfSome (Some self.new.left) (λ rest. rest ≡ [])) }
         ensures cause { HasCause self.old.faults self.new.faults result }
@@ -154,7 +164,7 @@ impl Source for MemSource {
     }
 }
 
-/// Any reader of std. It tells nothing of its bytes.
+/// Any reader of std. It tells what the reader tells of the bytes that are left.
 #[derive(Debug, Drop)]
 pub struct ReadSource<R: Read + Drop> {
     reader: R,
@@ -178,11 +188,12 @@ impl<R: Read + Drop> ReadSource<R> {
 }
 
 impl<R: Read + Drop> Source for ReadSource<R> {
-    ghost left = { λ _. None };
+    ghost left = { λ s. R.remaining s.reader };
 
     ghost faults = { λ s. s.faults };
 
     // A reader that answers more than the room it was given is at fault.
+    #[tactic(auto, using(crate::proofs::Adapters::gives_read, crate::proofs::Adapters::gives_none, crate::proofs::Adapters::none_left))]
     fn read(&mut self, into: &mut [u8]) -> Result<usize, Failed> {
         let room = into.len();
         match self.reader.read(into) {

@@ -1,5 +1,5 @@
 -- A restart closes the open stretch, and a run that ends has an admissible history.
-use Rattle.std.proofs.Common.{◌≡◌, inl, inr, ℕ, ◌+◌, ◌*◌, ◌/◌, ◌<◌, true, false, List, [], ◌∷◌}
+use Rattle.std.proofs.Common.{◌≡◌, inl, inr, ℕ, ◌+◌, ◌*◌, ◌/◌, ◌%◌, ◌<◌, Bool, true, false, List, [], ◌∷◌}
 use Rattle.std.proofs.Common.{◌++◌, Option, Some, None, take, length, refl, sym, ap, subst, ◌∙◌}
 use Rattle.std.proofs.Common.{append_assoc, append-nil, arith}
 use Rattle.std.proofs.lemmas.List.{length-append}
@@ -7,7 +7,7 @@ use Rattle.std.proofs.lemmas.Nat.{div-mul-add}
 use Rattle.std.proofs.Math.Seq.{take-append_seam, take-length}
 use Rattle.unwinding.specs.Machine.{Machine}
 use Rattle.unwinding.specs.World.{world_after}
-use Rattle.unwinding.specs.Durable.{Keeping, DurableOf, apply_all, restarted}
+use Rattle.unwinding.specs.Durable.{Keeping, DurableOf, apply_all}
 use Rattle.unwinding.specs.Epochs.{all_changes, with_interrupted, next_durable}
 use Rattle.unwinding.specs.Admissible.{Stretch, OpeningOf, interrupted_line, next_opening}
 use Rattle.unwinding.specs.Admissible.{opening_after, EndsBatch, IsAdmissibleStretch, AreAdmissible}
@@ -15,7 +15,8 @@ use Rattle.unwinding.specs.Admissible.{IsAdmissible}
 use Rattle.unwinding.specs.Course.{Course, empty_course, executed_lines, IsAt, AtBase, answer_all}
 use Rattle.unwinding.specs.Course.{stretch_of, reopen}
 use Rattle.unwinding.specs.CourseSteps.{SeenOf, MayFind, reopened, begins, last_opening, stands}
-use Rattle.unwinding.specs.CourseSteps.{MayKeep, IsOn, history_of}
+use Rattle.unwinding.specs.CourseSteps.{MayKeep, MayEnd, IsOn, history_of, base_of}
+use Rattle.unwinding.specs.Machine.{WorldOf}
 use Rattle.unwinding.proofs.Fronts.{all_changes_append}
 use Rattle.unwinding.proofs.CourseSums.{world_rest, base_is}
 
@@ -72,10 +73,16 @@ module _
   admissible_more y [] s g h = (h, tt)
   admissible_more y (t ∷ ss) s g h = (g.0, admissible_more (next_opening m k y t) ss s g.1 h)
 
-  pub reopened_stands : (o : OpeningOf m k) (r : Course Line) (n : ℕ) (rest : Rest) (d : DurableOf k) → rest ≡ (world_after m (begins m k o) (executed_lines r)).rest → d ≡ (next_opening m k o (stretch_of r n)).state
+  pub reopened_stands : (o : OpeningOf m k) (r : Course Line) (n : ℕ) (rest : Rest) (d : DurableOf k) → k.rest_again rest ≡ k.rest_again (world_after m (begins m k o) (executed_lines r)).rest → d ≡ (next_opening m k o (stretch_of r n)).state
       → reopened m k rest d ≡ stands m k (next_opening m k o (stretch_of r n)) (reopen r n)
   unfolding reopened stands
-  reopened_stands o r n rest d is_rest is_state i = record { world = restarted k (is_rest i) (is_state i); base = record { state = is_state i; count = 0 }; pending = []; held = []; up = true }
+  reopened_stands o r n rest d is_rest is_state i =
+      let opened : WorldOf m = record {
+        partition = λ s. k.partition_again s ((is_state i).partition s);
+        cells = k.cells_again (is_state i).cells;
+        rest = is_rest i;
+      } in
+      record { world = opened; base = record { state = is_state i; count = 0 }; pending = []; held = []; up = true }
 
   -- opened again
   pub on_reopened : (r : Course Line) (kept : ℕ) (d : DurableOf k) (a b : SeenOf m k) (may may' : MayFind m k)
@@ -113,10 +120,26 @@ module _
         images = λ d n left. inl (subst (λ s. IsAt s d n) (ap (λ s. s.base) same ∙ base_is m k x (empty_course)) (at_base d n left));
       }
 
+  -- a run whose waiting lines are lost was not committed
+  not_committed : (r : Course Line) → ◌≡◌ {A = Bool} false true → r.downs ≡ []
+  not_committed r wrong = absurd (never wrong)
+    where
+      never : ◌≡◌ {A = Bool} false true → ⊥
+      never wrong = cc
+
   -- a run that ends here has a good history: what waits is lost
   pub ends_lost : (r : Course Line) (a : SeenOf m k) (may : MayFind m k) → IsOn m k batch x r a may → IsAdmissible m k batch x (history_of m k x false r)
-  ends_lost r a may on = (on.admissible, (refl, whole_batches r on.batches on.whole on.short, omega (arith, ap (λ ls. length (all_changes m (begins m k (last_opening m k x r)) ls)) (take-append_seam r.answered r.waiting))))
+  ends_lost r a may on = (on.admissible, (refl, not_committed r, whole_batches r on.batches on.whole on.short, omega (arith, ap (λ ls. length (all_changes m (begins m k (last_opening m k x r)) ls)) (take-append_seam r.answered r.waiting))))
 
   -- or was committed
-  pub ends_answered : (r : Course Line) (a : SeenOf m k) (may : MayFind m k) → IsOn m k batch x r a may → IsAdmissible m k batch x (history_of m k x true (answer_all r))
-  ends_answered r a may on = (on.admissible, (refl, sym (ap length (append-nil (executed_lines r))), omega (arith, ap (λ ls. length (all_changes m (begins m k (last_opening m k x r)) ls)) (take-append_seam (executed_lines r) []))))
+  pub ends_answered : (r : Course Line) (a : SeenOf m k) (may : MayFind m k) → r.downs ≡ [] → IsOn m k batch x r a may → IsAdmissible m k batch x (history_of m k x true (answer_all r))
+  ends_answered r a may none on = (on.admissible, (refl, (λ e. none), sym (ap length (append-nil (executed_lines r))), omega (arith, ap (λ ls. length (all_changes m (begins m k (last_opening m k x r)) ls)) (take-append_seam (executed_lines r) []))))
+
+  -- what a restart might find once all lines are answered, the store may stand for at the end
+  pub flushed : (r : Course Line) (d : DurableOf k) (n : ℕ) → MayKeep m k batch x (answer_all r) d n → MayEnd m k batch x r d n
+  flushed r d n (inl at) = inr at
+  flushed r d n (inr tried) =
+      let lines : executed_lines r ++ [] ≡ executed_lines r = append-nil (executed_lines r) in
+      let whole : (length (executed_lines r) + 1) % batch ≡ 0 = subst (λ ls. (length ls + 1) % batch ≡ 0) lines tried.2 in
+      let at : IsAt (base_of m k x (executed_lines r ++ tried.0 ∷ [])) d n = subst (λ ls. IsAt (base_of m k x (ls ++ tried.0 ∷ [])) d n) lines tried.3 in
+      inl (inr (tried.0, tried.1, whole, at))

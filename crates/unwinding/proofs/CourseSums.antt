@@ -50,9 +50,9 @@ module _
     unfolding stands
     length_held o r a is = ap (λ s. length s.held) is ∙ length_replies m _ r.waiting
 
-    pub world_rest : (o : OpeningOf m k) (r : Course Line) (a : SeenOf m k) → a ≡ stands m k o r → a.world.rest ≡ (world_after m (begins m k o) (executed_lines r)).rest
+    pub world_rest : (o : OpeningOf m k) (r : Course Line) (a : SeenOf m k) → a ≡ stands m k o r → k.rest_again a.world.rest ≡ k.rest_again (world_after m (begins m k o) (executed_lines r)).rest
     unfolding stands
-    world_rest o r a is = ap (λ s. s.world.rest) is ∙ ap (λ w. w.rest) (sym (world_append m (begins m k o) r.answered r.waiting))
+    world_rest o r a is = ap (λ s. k.rest_again s.world.rest) is ∙ ap (λ w. k.rest_again w.rest) (sym (world_append m (begins m k o) r.answered r.waiting))
 
     pub base_is : (o : OpeningOf m k) (r : Course Line) → (stands m k o r).base ≡ base_of m k o r.answered
     unfolding stands

@@ -29,7 +29,7 @@ module _ {Site Cell Cells Partition Content Rest Line Event Reply Change : Type 
   same_outcome s touched w own e a =
       rw a.partition (ap (λ x. m.step (w.partition s) x e) (used_seen m IsSound f s touched w.cells own.cells (w.partition s) e a.cell))
 
-  never_asks : (s : Site) (p : Partition) (e : Event) (c : Cell) → m.names p e ≡ [] → m.sweeps p e ≡ false → consulted m s p e c ≡ false
+  pub never_asks : (s : Site) (p : Partition) (e : Event) (c : Cell) → m.names p e ≡ [] → m.sweeps p e ≡ false → consulted m s p e c ≡ false
   never_asks s p e c n w = rw (n, w) refl
 
   pub quiet_outcome : (s : Site) (cells : Cells) (p : Partition) (x : Cells) (e : Event) → IsQuiet m cells p e → outcome m s p x e ≡ m.step p (no_cells m cells) e

@@ -14,12 +14,12 @@ use Rattle.unwinding.specs.Machine.{World, Occurrence}
 use Rattle.unwinding.specs.World.{consulted, outcome, after_side, after_sides, after_main}
 use Rattle.unwinding.specs.World.{world_step}
 use Rattle.unwinding.specs.Durable.{partition_changes, cell_changes}
-use Rattle.unwinding.specs.Facts.{PlainFacts, IsQuiet, Facts, KeepingFacts, DurableFacts}
+use Rattle.unwinding.specs.Facts.{UnsharedFacts, IsQuiet, Facts, KeepingFacts, DurableFacts}
 use Rattle.unwinding.specs.Laws.{RestartFacts, Unwound}
 use Rattle.unwinding.specs.Example.{Cell, Shared, Drawer, Cells, Line, same_site, same_cell}
 use Rattle.unwinding.specs.Example.{same_bool, same_note, other, is_home, is_own, note, step_of}
 use Rattle.unwinding.specs.Example.{heard_of}
-use Rattle.unwinding.specs.ExampleSetting.{machine, plain_machine, keeping, IsSound, IsValid}
+use Rattle.unwinding.specs.ExampleSetting.{machine, unshared_machine, keeping, IsSound, IsValid}
 use Rattle.unwinding.specs.ExampleSetting.{example}
 use Rattle.unwinding.specs.ExampleLaw.{ExampleUnwound}
 
@@ -219,9 +219,9 @@ pub restart_facts : RestartFacts example
 unfolding example
 restart_facts = record { facts = facts; keeping = keeping_facts }
 
-pub plain_facts : PlainFacts plain_machine
-unfolding machine plain_machine
-plain_facts =
+pub unshared_facts : UnsharedFacts unshared_machine
+unfolding machine unshared_machine
+unshared_facts =
     record {
       site_same = site_same;
       site_itself = site_itself;

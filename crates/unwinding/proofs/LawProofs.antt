@@ -2,21 +2,21 @@
 use Rattle.std.proofs.Common.{sym, ap, ◌∙◌}
 use Rattle.unwinding.specs.Setting.{Setting}
 use Rattle.unwinding.specs.SiteRun.{site_run}
-use Rattle.unwinding.specs.Laws.{PlainUnwound, EpochUnwound, Unwound, SameReplies, PrintedUnwound}
+use Rattle.unwinding.specs.Laws.{UnsharedUnwound, EpochUnwound, Unwound, SameReplies, PrintedUnwound}
 use Rattle.unwinding.specs.Laws.{RestartProjects, DurableFollows, CourseEnds}
 use Rattle.unwinding.specs.Admissible.{history_epochs}
 use Rattle.unwinding.specs.CourseSteps.{MayKeep, last_opening}
-use Rattle.unwinding.proofs.PlainReplies.{plain_replies}
+use Rattle.unwinding.proofs.UnsharedReplies.{unshared_replies}
 use Rattle.unwinding.proofs.EpochReplies.{lines_replies}
 use Rattle.unwinding.proofs.Restarts.{history_replies, restart_agrees}
 use Rattle.unwinding.proofs.Transcripts.{history_sites}
 use Rattle.unwinding.proofs.DurableLines.{line_kept, lines_kept, restarted_kept}
-use Rattle.unwinding.proofs.CourseRestarts.{ends_lost, ends_answered}
+use Rattle.unwinding.proofs.CourseRestarts.{ends_lost, ends_answered, flushed}
 use Rattle.unwinding.proofs.Tests.{held_of}
 
 module _ (x : Setting) where
-  pub plain_unwound : PlainUnwound x
-  plain_unwound f = plain_replies x.machine f
+  pub unshared_unwound : UnsharedUnwound x
+  unshared_unwound f = unshared_replies x.machine f
 
   pub epoch_unwound : EpochUnwound x
   epoch_unwound f = lines_replies x.machine x.IsSound f
@@ -49,5 +49,6 @@ module _ (x : Setting) where
   course_ends =
       record {
         lost = λ batch o r a on. ends_lost x.machine x.keeping batch o r a (MayKeep x.machine x.keeping batch (last_opening x.machine x.keeping o r) r) on;
-        answered = λ batch o r a on. ends_answered x.machine x.keeping batch o r a (MayKeep x.machine x.keeping batch (last_opening x.machine x.keeping o r) r) on;
+        answered = λ batch o r a none on. ends_answered x.machine x.keeping batch o r a (MayKeep x.machine x.keeping batch (last_opening x.machine x.keeping o r) r) none on;
+        flushed = λ batch o r d n. flushed x.machine x.keeping batch o r d n;
       }

@@ -1,8 +1,10 @@
 pub mod Tests
 pub mod Runs
-pub mod PlainReplies
+pub mod UnsharedReplies
 pub mod HeldCells
 pub mod EpochReplies
+pub mod OthersOut
+pub mod HoldsOnly
 pub mod Fronts
 pub mod SiteChanges
 pub mod Inert
@@ -16,5 +18,6 @@ pub mod CourseScript
 pub mod CourseCounts
 pub mod FiniteCellsLemmas
 pub mod LawProofs
+pub mod ScriptLawProofs
 pub mod ExampleFacts
 pub mod StandardFacts

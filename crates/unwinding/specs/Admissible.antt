@@ -112,10 +112,12 @@ module _
         × WholeBatches batch s.epoch
         × (KeepsAcknowledged m w s.epoch ⊎ KeepsTried m batch w s.epoch)
 
-    -- the last stretch, whose count is that of the acknowledged lines
+    -- the last stretch, whose count is that of the acknowledged lines; where the waiting lines were
+    -- committed at the end, no line met a device fault
     abbrev pub IsAdmissibleEnd : ℕ → OpeningOf → Bool → Stretch Line → Type 0
     IsAdmissibleEnd batch x committed s =
         (s.epoch.interrupted ≡ interrupted_line s.downs)
+        × (committed ≡ true → s.downs ≡ [])
         × EndsAcknowledged batch committed s.epoch
         × KeepsAcknowledged m (restarted k x.rest x.state) s.epoch
 

@@ -62,11 +62,11 @@ module _
           up = true;
         }
 
-    -- What a call that answers a device fault leaves. The rest stays. A restart may find what it
-    -- might have found before, or some other state.
+    -- What a call that answers a device fault leaves. What a restart keeps of the rest stays. A
+    -- restart may find what it might have found before, or some other state.
     pub record GoesDown (old new : SeenOf) (may_old may_new other : MayFind) : Type 0 where
       pub down : new.up ≡ false
-      pub rest : new.world.rest ≡ old.world.rest
+      pub rest : k.rest_again new.world.rest ≡ k.rest_again old.world.rest
       pub images : (d : DurableOf k) (n : ℕ) → may_new d n → may_old d n ⊎ other d n
 
     -- where the open epoch of a course began
@@ -115,16 +115,22 @@ module _
           × ((length (executed_lines r) + 1) % batch ≡ 0)
           × IsAt (base_of o (executed_lines r ++ l ∷ [])) d n)
 
+      -- what the store may stand for after the commit at the end, whether that met a fault or not:
+      -- what a restart might have found, or the state after all executed lines
+      abbrev pub MayEnd : OpeningOf m k → Course Line → DurableOf k → ℕ → Type 0
+      MayEnd o r d n = MayKeep o r d n ⊎ IsAt (base_of o (executed_lines r)) d n
+
       -- the agent stands where the course does
-      pub record IsOn (x : OpeningOf m k) (r : Course Line) (a : SeenOf) (may : MayFind) : Type 0 where
+      pub record IsOn (x : OpeningOf m k) (r : Course Line) (a : SeenOf) (may : MayFind)
+          : Type 0 where
         pub admissible : AreAdmissible m k batch x r.closed
         -- whole batches are answered, and less than one waits
         pub batches : ℕ
         pub whole : length r.answered ≡ batch * batches
         pub short : length r.waiting < batch
         pub rest :
-            a.world.rest
-            ≡ (world_after m (begins (last_opening x r)) (executed_lines r)).rest
+            k.rest_again a.world.rest
+            ≡ k.rest_again (world_after m (begins (last_opening x r)) (executed_lines r)).rest
         pub up : a.up ≡ true → (r.downs ≡ []) × (a ≡ stands (last_opening x r) r)
         pub images : (d : DurableOf k) (n : ℕ) → may d n
             → MayKeep (last_opening x r) r d n

@@ -42,8 +42,8 @@ machine =
     }
 
 -- the same machine where each site keeps to itself: no cell is consulted, and no ring is heard
-unfoldable pub plain_machine : Machine Site Cell Cells Partition Note ℕ Line Event Reply Change
-plain_machine =
+unfoldable pub unshared_machine : Machine Site Cell Cells Partition Note ℕ Line Event Reply Change
+unshared_machine =
     record machine { names = λ p e. []; sweeps = λ p e. false; side = λ w l s. None }
 
 -- a row change of what is kept of a site

@@ -9,7 +9,7 @@ use Rattle.unwinding.specs.Durable.{apply_changes, restarted}
 
 -- What a machine owes that shares no cell and has no event beside the main one, in a run without
 -- restart. It owes nothing on worlds.
-pub record PlainFacts
+pub record UnsharedFacts
     {Site Cell Cells Partition Content Rest Line Event Reply Change : Type 0}
     (m : Machine Site Cell Cells Partition Content Rest Line Event Reply Change) : Type 0 where
   pub site_same : (s t : Site) → m.same_site s t ≡ true → s ≡ t

@@ -1,5 +1,6 @@
 -- Shared cells that hold lists, kept as a finite map without empty lists. An empty cell and an
 -- absent one are the same, and two maps that answer alike are equal.
+-- Source: none; a container of our own.
 use Rattle.std.specs.Prelude.{Bool, not, List, [], ◌∷◌, ◌++◌, Option, Some, None}
 use Rattle.std.specs.declared.cmp.Ordering.{Ordering}
 use Rattle.std.specs.FinMap as map

@@ -13,9 +13,9 @@ use Rattle.unwinding.specs.LocalScript.{beginning_of, local_script}
 use Rattle.unwinding.specs.SiteRun.{begun, found_again, rows_of, site_run}
 use Rattle.unwinding.specs.Transcript.{transcript}
 use Rattle.unwinding.specs.Admissible.{Step, History, OpeningOf, IsAdmissible, history_epochs}
-use Rattle.unwinding.specs.Facts.{PlainFacts, Facts, KeepingFacts, DurableFacts}
+use Rattle.unwinding.specs.Facts.{UnsharedFacts, Facts, KeepingFacts, DurableFacts}
 use Rattle.unwinding.specs.Course.{Course, answer_all}
-use Rattle.unwinding.specs.CourseSteps.{SeenOf, MayKeep, IsOn, last_opening, history_of}
+use Rattle.unwinding.specs.CourseSteps.{SeenOf, MayKeep, MayEnd, IsOn, last_opening, history_of}
 use Rattle.unwinding.specs.Setting.{Setting}
 
 module _ (x : Setting) where
@@ -42,9 +42,9 @@ module _ (x : Setting) where
 
   -- In a run without restart, of a machine that shares no cell and has no event beside the main
   -- one, the replies to a site are its own machine's on its local script.
-  abbrev pub PlainUnwound : Type 0
-  PlainUnwound =
-      PlainFacts x.machine → (s : x.Site) (w : SettingWorld) (lines : List x.Line)
+  abbrev pub UnsharedUnwound : Type 0
+  UnsharedUnwound =
+      UnsharedFacts x.machine → (s : x.Site) (w : SettingWorld) (lines : List x.Line)
       → of_site x.machine s (replies x.machine w lines)
       ≡ epoch_run x.machine s (epoch_script x.machine s w lines)
 
@@ -95,7 +95,8 @@ module _ (x : Setting) where
   own_of_site s o e =
       let w = restarted x.keeping o.rest o.state in
       let css = rows_of (changes_of_site x.machine s (kept_changes x.machine w e)) in
-      let found = found_again x.machine x.keeping s css (beginning_of x.machine x.keeping s o.state) in
+      let began = beginning_of x.machine x.keeping s o.state in
+      let found = found_again x.machine x.keeping s css began in
       (begun x.machine x.keeping s found).own
 
   -- A restart commutes with the projection to a site: its partition of the restarted world is the
@@ -138,8 +139,14 @@ module _ (x : Setting) where
         (MayKeep x.machine x.keeping batch (last_opening x.machine x.keeping o r) r)
         → IsAdmissible x.machine x.keeping batch o (history_of x.machine x.keeping o false r)
     pub answered : (batch : ℕ) (o : SettingOpening) (r : Course x.Line)
-        (a : SeenOf x.machine x.keeping)
+        (a : SeenOf x.machine x.keeping) → r.downs ≡ []
         → IsOn x.machine x.keeping batch o r a
         (MayKeep x.machine x.keeping batch (last_opening x.machine x.keeping o r) r)
         → IsAdmissible x.machine x.keeping batch o
         (history_of x.machine x.keeping o true (answer_all r))
+    -- what a restart might find once the waiting lines are answered, the store may stand for
+    -- after the commit at the end
+    pub flushed : (batch : ℕ) (o : SettingOpening) (r : Course x.Line)
+        (d : SettingState) (n : ℕ)
+        → MayKeep x.machine x.keeping batch o (answer_all r) d n
+        → MayEnd x.machine x.keeping batch o r d n

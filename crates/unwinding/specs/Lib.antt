@@ -11,6 +11,10 @@ pub mod Admissible
 pub mod Transcript
 pub mod Setting
 pub mod Laws
+-- How little a local script holds.
+pub mod LeftOut
+pub mod HeldOnly
+pub mod ScriptLaws
 -- What a machine owes, and an example that has it.
 pub mod Facts
 pub mod Example

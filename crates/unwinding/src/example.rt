@@ -1,7 +1,7 @@
 ghost use Rattle.std.specs.Prelude.{◌≡◌};
-ghost use Rattle.unwinding.specs.Facts.{PlainFacts, DurableFacts};
+ghost use Rattle.unwinding.specs.Facts.{UnsharedFacts, DurableFacts};
 ghost use Rattle.unwinding.specs.Laws.{RestartFacts};
-ghost use Rattle.unwinding.specs.ExampleSetting.{machine, plain_machine, keeping, IsSound, IsValid};
+ghost use Rattle.unwinding.specs.ExampleSetting.{machine, unshared_machine, keeping, IsSound, IsValid};
 ghost use Rattle.unwinding.specs.ExampleSetting.{example};
 ghost use Rattle.unwinding.specs.Example.{step_of, one_cell};
 ghost use Rattle.unwinding.specs.ExampleLaw.{ExampleUnwound};
@@ -115,7 +115,7 @@ impl Isolated for Example {
 /// The example's machine has all facts that the laws ask for, and the one that keeps each site to
 /// itself has the few that are asked of such a machine.
 pub fn example_facts()
-    ensures plain { PlainFacts plain_machine }
+    ensures plain { UnsharedFacts unshared_machine }
     ensures restart { RestartFacts example }
     ensures durable { DurableFacts machine keeping IsSound IsValid }
 {}

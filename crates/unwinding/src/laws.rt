@@ -1,6 +1,7 @@
 ghost use Rattle.unwinding.specs.Setting.{Setting};
-ghost use Rattle.unwinding.specs.Laws.{PlainUnwound, EpochUnwound, Unwound, SameReplies};
+ghost use Rattle.unwinding.specs.Laws.{UnsharedUnwound, EpochUnwound, Unwound, SameReplies};
 ghost use Rattle.unwinding.specs.Laws.{PrintedUnwound, RestartProjects, DurableFollows, CourseEnds};
+ghost use Rattle.unwinding.specs.ScriptLaws.{GivesByOwn, OthersLeftOut, HoldsOnlyChanged};
 
 /// A type that stands for a machine with all that the laws speak of.
 pub trait Isolated {
@@ -8,8 +9,8 @@ pub trait Isolated {
 }
 
 /// The replies to a site without shared cells, side events and restarts.
-pub fn plain_unwinding<M: Isolated>()
-    ensures unwound { PlainUnwound M.setting }
+pub fn unshared_unwinding<M: Isolated>()
+    ensures unwound { UnsharedUnwound M.setting }
 {}
 
 /// The replies to a site in a run without restart.
@@ -45,4 +46,12 @@ pub fn durable_follows<M: Isolated>()
 /// A run that ends has an admissible history.
 pub fn course_ends<M: Isolated>()
     ensures admissible { CourseEnds M.setting }
+{}
+
+/// A local script holds little: what a line gives a site depends on few things, lines of others can
+/// be left out, and a cell is held only where another site has left it different.
+pub fn local_scripts<M: Isolated>()
+    ensures own { GivesByOwn M.setting }
+    ensures left_out { OthersLeftOut M.setting }
+    ensures held { HoldsOnlyChanged M.setting }
 {}

@@ -9,6 +9,6 @@ pub mod example;
 mod laws;
 
 pub use laws::{
-    Isolated, course_ends, durable_follows, epoch_unwinding, plain_unwinding, printed_unwinding,
-    restart_projects, same_replies, unwinding,
+    Isolated, course_ends, durable_follows, epoch_unwinding, local_scripts, printed_unwinding,
+    restart_projects, same_replies, unshared_unwinding, unwinding,
 };

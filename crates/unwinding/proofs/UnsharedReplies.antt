@@ -10,12 +10,12 @@ use Rattle.unwinding.specs.LocalEntries.{line_touched, local_entries}
 use Rattle.unwinding.specs.OneSite.{OwnOf, cells_used, own_outcome, own_step, own_reply, reply_list}
 use Rattle.unwinding.specs.OneSite.{entry_replies, own_after, own_beginning, epoch_script}
 use Rattle.unwinding.specs.OneSite.{epoch_run}
-use Rattle.unwinding.specs.Facts.{PlainFacts}
+use Rattle.unwinding.specs.Facts.{UnsharedFacts}
 use Rattle.unwinding.proofs.Runs.{run_append}
 
 module _ {Site Cell Cells Partition Content Rest Line Event Reply Change : Type 0}
     (m : Machine Site Cell Cells Partition Content Rest Line Event Reply Change)
-    (f : PlainFacts m) where
+    (f : UnsharedFacts m) where
   -- no event consults a cell
   never : (s : Site) (p : Partition) (e : Event) (c : Cell) → consulted m s p e c ≡ false
   never s p e c = rw (f.names_none p e, f.sweeps_none p e) refl
@@ -24,8 +24,8 @@ module _ {Site Cell Cells Partition Content Rest Line Event Reply Change : Type 
   all_blank s p e x = ap (λ t. m.restrict t x) (λ i c. never s p e c i)
 
   -- so an event gives the same whatever the cells are
-  plain_outcome : (s : Site) (p : Partition) (x y : Cells) (e : Event) → outcome m s p x e ≡ outcome m s p y e
-  plain_outcome s p x y e = ap (λ z. m.step p z e) (all_blank s p e x ∙ f.blank_same x y ∙ sym (all_blank s p e y))
+  unshared_outcome : (s : Site) (p : Partition) (x y : Cells) (e : Event) → outcome m s p x e ≡ outcome m s p y e
+  unshared_outcome s p x y e = ap (λ z. m.step p z e) (all_blank s p e x ∙ f.blank_same x y ∙ sym (all_blank s p e y))
 
   sides_same : (w : WorldOf m) (l : Line) (s : Site) → (after_sides m w l).partition s ≡ w.partition s
   sides_same w l s = ap (λ o. after_side m w.cells o (w.partition s)) (f.side_none w l s)
@@ -33,7 +33,7 @@ module _ {Site Cell Cells Partition Content Rest Line Event Reply Change : Type 
   module _ (s : Site) (touched : List Cell) (v : WorldOf m) (own : OwnOf m) (agrees : own.partition ≡ v.partition s) where
     -- the machine gives for an entry what the world's step gives
     same_outcome : (e : EntryOf m) → own_outcome m s own e ≡ outcome m s (v.partition s) v.cells e.event
-    same_outcome e = ap (λ p. outcome m s p (cells_used m e.held own.cells) e.event) agrees ∙ plain_outcome s (v.partition s) _ v.cells e.event
+    same_outcome e = ap (λ p. outcome m s p (cells_used m e.held own.cells) e.event) agrees ∙ unshared_outcome s (v.partition s) _ v.cells e.event
 
     main_agrees : (o : Option (Occurrence Site Event)) → (own_after m s own (main_entries m s touched v o)).partition ≡ (after_main m v o).partition s
     unfolding own_step
@@ -73,13 +73,13 @@ module _ {Site Cell Cells Partition Content Rest Line Event Reply Change : Type 
   unfolding line_reply
   line_replies s touched w l own a = ap (entry_replies m s own) (entries_are s touched w l) ∙ main_replies s touched (after_sides m w l) own (a ∙ sym (sides_same w l s)) (m.refusal w l) (m.main w l)
 
-  plain_entries : (s : Site) (touched : List Cell) (w : WorldOf m) (own : OwnOf m) → own.partition ≡ w.partition s → (ls : List Line) → entry_replies m s own (local_entries m s touched w ls) ≡ of_site m s (replies m w ls)
-  plain_entries s touched w own a [] = refl
-  plain_entries s touched w own a (l ∷ ls) =
+  unshared_entries : (s : Site) (touched : List Cell) (w : WorldOf m) (own : OwnOf m) → own.partition ≡ w.partition s → (ls : List Line) → entry_replies m s own (local_entries m s touched w ls) ≡ of_site m s (replies m w ls)
+  unshared_entries s touched w own a [] = refl
+  unshared_entries s touched w own a (l ∷ ls) =
       run_append m s own (line_entries m s touched w l) _
       ∙ ap (λ x. x ++ entry_replies m s (own_after m s own (line_entries m s touched w l)) (local_entries m s (line_touched m s touched w l) (world_step m w l) ls)) (line_replies s touched w l own a)
-      ∙ ap (λ x. reply_of_site m s (line_reply m w l).site (line_reply m w l).reply ++ x) (plain_entries s (line_touched m s touched w l) (world_step m w l) (own_after m s own (line_entries m s touched w l)) (line_agrees s touched w l own a) ls)
+      ∙ ap (λ x. reply_of_site m s (line_reply m w l).site (line_reply m w l).reply ++ x) (unshared_entries s (line_touched m s touched w l) (world_step m w l) (own_after m s own (line_entries m s touched w l)) (line_agrees s touched w l own a) ls)
 
   -- over lines from any world
-  pub plain_replies : (s : Site) (w : WorldOf m) (ls : List Line) → of_site m s (replies m w ls) ≡ epoch_run m s (epoch_script m s w ls)
-  plain_replies s w ls = sym (plain_entries s [] w (own_beginning m s w) refl ls)
+  pub unshared_replies : (s : Site) (w : WorldOf m) (ls : List Line) → of_site m s (replies m w ls) ≡ epoch_run m s (epoch_script m s w ls)
+  unshared_replies s w ls = sym (unshared_entries s [] w (own_beginning m s w) refl ls)

@@ -5,3 +5,4 @@ pub mod Syncs
 pub mod MemView
 pub mod Recoveries
 pub mod Plans
+mod Pieces

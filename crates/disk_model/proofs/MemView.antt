@@ -89,6 +89,14 @@ anew new base t c none since =
     first_only zero image = image
     first_only (suc k) image = image
 
+-- with nothing recorded, nothing is pending
+pub settled_anew : (new : Past) (c : List ℕ) → new.events ≡ [] → ImageOf (held new) c → Some (held new).contents ≡ Some c
+settled_anew new c none image =
+    let at_none : ImageOf (at_first new.first) c = subst (λ (l : List Event). ImageOf (replay (at_first new.first) l) c) none image in
+    let is_first : (held new).contents ≡ new.first = ap (λ (l : List Event). (replay (at_first new.first) l).contents) none in
+    let same : (held new).contents ≡ c = is_first ∙ sym (image_exact new.first c at_none) in
+    ap (λ (l : List ℕ). Some l) same
+
 -- what a call of the bytes did, said of the past that the disk shows
 pub grows_at : (inside shown new : Past) (h : Past → Held) → inside ≡ shown → Grows inside new (h inside) → Grows shown new (h shown)
 grows_at inside shown new h is grows = subst (λ (p : Past). Grows p new (h p)) is grows

@@ -5,7 +5,7 @@ use Rattle.std.specs.declared.alloc.Global.{Global}
 use Rattle.std.proofs.lemmas.List.{append-nil, take-append-le, take_at}
 use Rattle.disk_model.specs.History.{Held, Event, wrote, overlaid, after, replay, at_first}
 use Rattle.disk_model.specs.Record.{syncs, written_len, written_events, all_events, unless_fresh}
-use Rattle.disk_model.specs.Medium.{IsKept}
+use Rattle.disk_model.specs.MediumBuffers.{IsKept}
 use Rattle.disk_model.specs.declared.medium.Entry.{Entry}
 use Rattle.disk_model.specs.ImageLaws.{end_push}
 use Rattle.disk_model.specs.Laws.{overlaid-written}

@@ -1,7 +1,8 @@
 -- The past of a disk in memory: what it held at each moment since it was made or last restarted.
 -- Our own choice: the record has what the file was at first, and then each write, failed ones too,
 -- each sync that succeeded and each that failed.
-use Rattle.std.specs.Prelude.{◌≡◌, ◌⊎◌, ℕ, ◌+◌, ◌-◌, ◌^◌, ◌≤◌, nat_le, List, [], ◌∷◌, ◌++◌, length, take, drop, if◌then◌else◌}
+use Rattle.std.specs.Prelude.{◌≡◌, ◌⊎◌, ℕ, ◌+◌, ◌-◌, ◌^◌, ◌≤◌, nat_le, List, [], ◌∷◌, ◌++◌, length}
+use Rattle.std.specs.Prelude.{take, drop, if◌then◌else◌}
 use Rattle.disk_model.specs.Image.{IsImage}
 
 -- what a read returns, what was synced, and the ranges written since
@@ -47,7 +48,8 @@ ImageOf h file = IsImage h.synced h.ranges file
 -- an image at some moment from t on; the moments before the first event end at base
 abbrev pub Since : List ℕ → List Event → ℕ → ℕ → List ℕ → Type 0
 Since first events base t file =
-    (k : ℕ) × (k ≤ length events) × (t ≤ base + k) × ImageOf (replay (at_first first) (take k events)) file
+    (k : ℕ) × (k ≤ length events) × (t ≤ base + k)
+    × ImageOf (replay (at_first first) (take k events)) file
 
 -- the bytes and the record of a disk in memory, with the room that was made
 pub record Past : Type 0 where

@@ -17,4 +17,5 @@ greatest_end len (r ∷ ranges) = max (r.0 + r.1) (greatest_end len ranges)
 pub record IsImage (synced : List ℕ) (ranges : List (ℕ × ℕ)) (file : List ℕ) : Type 0 where
   pub no_shorter : length synced ≤ length file
   pub no_longer : length file ≤ greatest_end (length synced) ranges
-  pub outside : (i : ℕ) → i < length synced → IsOutside i ranges → slice_index file i ≡ slice_index synced i
+  pub outside : (i : ℕ) → i < length synced → IsOutside i ranges
+      → slice_index file i ≡ slice_index synced i

@@ -5,10 +5,11 @@ pub mod History
 pub mod Recovery
 pub mod Schedule
 pub mod MemDisk
+pub mod RawFile
 -- What private functions keep, and laws that hold of each record. No public clause rests on it.
 pub mod ImageLaws
 pub mod Laws
 pub mod MemLaws
 pub mod Record
-pub mod Medium
-pub mod Untold
+pub mod MediumBuffers
+pub mod TellsNothing

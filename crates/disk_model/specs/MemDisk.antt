@@ -1,8 +1,10 @@
 -- A disk in memory, as contracts see it, and what it tells.
-use Rattle.std.specs.Prelude.{◌≡◌, ◌↔◌, true, ℕ, ◌+◌, ◌-◌, ◌^◌, List, [], ◌∷◌, length, Some, is_some, unwrap_or, Result, IsErr, IsTrue}
+use Rattle.std.specs.Prelude.{◌≡◌, ◌↔◌, true, ℕ, ◌+◌, List, [], ◌∷◌, length}
+use Rattle.std.specs.Prelude.{Option, Some, None, is_some, unwrap_or, Result, IsErr, IsTrue}
 use Rattle.disk_model.specs.Disk.{View}
 use Rattle.disk_model.specs.History.{Past, held, ImageOf, Since}
 use Rattle.disk_model.specs.Schedule.{Plan, refuses, called}
+use Rattle.disk_model.specs.declared.schedule.Cut.{Cut}
 
 -- its bytes with their past, the calls that are to fail, and its counts
 pub record MemView : Type 0 where
@@ -11,16 +13,17 @@ pub record MemView : Type 0 where
   -- the moments before the past begins end here
   pub base : ℕ
   pub faults : ℕ
-  pub strikes : ℕ
+  pub failures : ℕ
 
--- so many failures more, where calls are to fail without a cut: as many as a count has room for
-abbrev pub failures_of : List ℕ → ℕ → ℕ
-failures_of [] strikes = 0
-failures_of (number ∷ fails) strikes = 2 ^ 64 - strikes
+-- the numbers of the calls in which the power is to be cut
+abbrev pub numbers_of : List Cut → List ℕ
+numbers_of [] = []
+numbers_of (cut ∷ cuts) = cut.call ∷ numbers_of cuts
 
--- so many calls more may fail while the power is on: one for each cut to come
-abbrev pub spare_of : Plan → ℕ → ℕ
-spare_of plan strikes = length plan.cuts + failures_of plan.fails strikes
+-- the cuts to come are told where no call is to fail without one
+abbrev pub told_cuts : List ℕ → List Cut → Option (List ℕ)
+told_cuts [] cuts = Some (numbers_of cuts)
+told_cuts (number ∷ fails) cuts = None
 
 -- what it tells
 abbrev pub view_of : MemView → View
@@ -35,8 +38,8 @@ view_of disk = record {
   room_end = disk.past.room_end;
   room_writes = disk.past.room_writes;
   off = is_some disk.plan.off;
-  strikes = disk.strikes;
-  spare = spare_of disk.plan disk.strikes;
+  failures = disk.failures;
+  cuts = told_cuts disk.plan.fails disk.plan.cuts;
 }
 
 -- the pick of a restart: that of the cut, and 0 while the power is on

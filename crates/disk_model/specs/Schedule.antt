@@ -2,7 +2,8 @@
 -- Our own choice: changing calls are counted from 1 on while the power is on, and a count that has
 -- reached its last value stays there. A cut fires in the call of its number. A number in the list
 -- of failing calls makes that call fail while the power stays on.
-use Rattle.std.specs.Prelude.{ℕ, ◌+◌, ◌<◌, ◌≤◌, Bool, List, [], ◌∷◌, Option, Some, None, is_some, ◌==◌, ◌||◌, if◌then◌else◌}
+use Rattle.std.specs.Prelude.{ℕ, ◌+◌, ◌<◌, ◌≤◌, Bool, List, [], ◌∷◌, Option, Some, None, is_some}
+use Rattle.std.specs.Prelude.{◌==◌, ◌||◌, if◌then◌else◌}
 use Rattle.std.specs.List.{list_any}
 use Rattle.agent_base.specs.Counts.{next_count}
 use Rattle.disk_model.specs.declared.schedule.Cut.{Cut}
@@ -40,7 +41,12 @@ next_fails plan =
 abbrev pub next_plan : Plan → Plan
 next_plan plan =
     let call = next_count plan.calls in
-    record { calls = call; cuts = cuts_after call plan.cuts; fails = plan.fails; off = pick_at call plan.cuts }
+    record {
+      calls = call;
+      cuts = cuts_after call plan.cuts;
+      fails = plan.fails;
+      off = pick_at call plan.cuts;
+    }
 
 -- whether a changing call fails
 abbrev pub refuses : Plan → Bool

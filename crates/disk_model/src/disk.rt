@@ -1,6 +1,9 @@
-// A disk: a file whose writes may be lost or torn until a sync.
-ghost use Rattle.std.specs.Prelude.{◌≡◌, ◌+◌, ◌<◌, ◌≤◌, List, ℕ, length, true, false, Some, IfOk, OnOk, OnErr};
-ghost use Rattle.disk_model.specs.Disk.{View, Holds, Written, Torn, Goes, Follows, IsSettled, Elapses, Stays, Counts, CountsCall, UsesRoom, Strikes};
+//! A disk: a file whose writes may be lost or torn until a sync.
+ghost use Rattle.std.specs.Prelude.{◌≡◌, ◌+◌, ◌<◌, ◌≤◌, List, ℕ, length, true, false, Some};
+ghost use Rattle.std.specs.Prelude.{IfOk, OnOk, OnErr};
+ghost use Rattle.agent_base.specs.Counts.{HasCause};
+ghost use Rattle.disk_model.specs.Disk.{View, Holds, Written, Torn, Goes, Follows, IsSettled};
+ghost use Rattle.disk_model.specs.Disk.{Elapses, Stays, Device, HasFailed, UsesRoom};
 
 use agent_base::{Failed, NoMemory};
 
@@ -13,20 +16,19 @@ pub trait Disk {
 
     /// The length in bytes.
     fn len(&mut self) -> Result<u64, Failed>
-        ensures len { IfOk result (λ n. (c : List ℕ) → (view self.old).contents ≡ Some c → n ≡ length c) }
+        ensures len { IfOk result (λ n. (c : List ℕ) → (view self.old).contents ≡ Some c
+            → n ≡ length c) }
         ensures stays { Stays (view self.old) (view self.new) }
-        ensures faults { Counts result (view self.old) (view self.new) }
-        ensures strikes { Strikes result (view self.old) (view self.new) }
-        ensures room { UsesRoom 0 (view self.old) (view self.new) };
+        ensures device { Device 0 0 result (view self.old) (view self.new) };
 
     /// Fills `into` from an offset.
     fn read_at(&mut self, at: u64, into: &mut [u8]) -> Result<(), Failed>
-        requires within { (c : List ℕ) → (view self.old).contents ≡ Some c → at + length into.old ≤ length c }
-        ensures read { OnOk result ((c : List ℕ) → (view self.old).contents ≡ Some c → Holds c at into.new) }
+        requires within { (c : List ℕ) → (view self.old).contents ≡ Some c
+            → at + length into.old ≤ length c }
+        ensures read { OnOk result ((c : List ℕ) → (view self.old).contents ≡ Some c
+            → Holds c at into.new) }
         ensures stays { Stays (view self.old) (view self.new) }
-        ensures faults { Counts result (view self.old) (view self.new) }
-        ensures strikes { Strikes result (view self.old) (view self.new) }
-        ensures room { UsesRoom 0 (view self.old) (view self.new) };
+        ensures device { Device 0 0 result (view self.old) (view self.new) };
 
     /// Writes over what is there, and past the end. Takes no memory.
     ///
@@ -35,14 +37,14 @@ pub trait Disk {
         requires place { (c : List ℕ) → (view self.old).contents ≡ Some c → at ≤ length c }
         requires room { at + length bytes.now ≤ (view self.old).room_end }
         requires writes { 0 < (view self.old).room_writes }
-        ensures written { OnOk result (Goes (Written at bytes.now) (view self.old).contents (view self.new).contents) }
-        ensures failed { OnErr result (Goes (Torn at (length bytes.now)) (view self.old).contents (view self.new).contents) }
-        ensures images { Follows (Torn at (length bytes.now)) (view self.old).may_leave (view self.new).may_leave }
+        ensures written { OnOk result (Goes (Written at bytes.now)
+            (view self.old).contents (view self.new).contents) }
+        ensures failed { OnErr result (Goes (Torn at (length bytes.now))
+            (view self.old).contents (view self.new).contents) }
+        ensures images { Follows (Torn at (length bytes.now))
+            (view self.old).may_leave (view self.new).may_leave }
         ensures time { Elapses (view self.old) (view self.new) }
-        ensures faults { Counts result (view self.old) (view self.new) }
-        ensures strikes { Strikes result (view self.old) (view self.new) }
-        ensures calls { CountsCall result (view self.old) (view self.new) }
-        ensures room { UsesRoom 1 (view self.old) (view self.new) };
+        ensures device { Device 1 1 result (view self.old) (view self.new) };
 
     /// At `Ok` a cut leaves what a read returns. Takes no memory.
     fn sync(&mut self) -> Result<(), Failed>
@@ -50,10 +52,7 @@ pub trait Disk {
         ensures settled { OnOk result (IsSettled (view self.new)) }
         ensures images { (c : List ℕ) → (view self.new).may_leave c → (view self.old).may_leave c }
         ensures time { Elapses (view self.old) (view self.new) }
-        ensures faults { Counts result (view self.old) (view self.new) }
-        ensures strikes { Strikes result (view self.old) (view self.new) }
-        ensures calls { CountsCall result (view self.old) (view self.new) }
-        ensures room { UsesRoom 0 (view self.old) (view self.new) };
+        ensures device { Device 1 0 result (view self.old) (view self.new) };
 
     /// The power is cut and comes back. Takes no memory.
     ///
@@ -62,11 +61,16 @@ pub trait Disk {
     fn restart(&mut self) -> Result<(), Failed>
         ensures contents { OnOk result (Goes (λ _ d. (view self.old).may_leave d)
             (view self.old).contents (view self.new).contents) }
-        ensures anew { OnOk result ((t : ℕ) (c : List ℕ) → (view self.new).left_since t c → (view self.new).contents ≡ Some c) }
-        ensures failed { OnErr result ((c : List ℕ) → (view self.new).may_leave c → (view self.old).may_leave c) }
-        ensures faults { Counts result (view self.old) (view self.new) }
-        ensures on { OnOk result (((view self.new).off ≡ false) × ((view self.new).strikes ≡ (view self.old).strikes)
-            × ((view self.new).spare ≡ (view self.old).spare)) }
+        ensures anew { OnOk result ((t : ℕ) (c : List ℕ) → (view self.new).left_since t c
+            → (view self.new).contents ≡ Some c) }
+        ensures failed { OnErr result ((c : List ℕ) → (view self.new).may_leave c
+            → (view self.old).may_leave c) }
+        ensures cause { HasCause (view self.old).faults (view self.new).faults result }
+        ensures tells { (view self.new).tells ≡ (view self.old).tells }
+        ensures on { OnOk result (((view self.new).off ≡ false)
+            × ((view self.new).failures ≡ (view self.old).failures)
+            × ((view self.new).cuts ≡ (view self.old).cuts)) }
+        ensures failure { OnErr result (HasFailed (view self.old) (view self.new)) }
         ensures calls { (view self.new).changing ≡ (view self.old).changing }
         ensures room { UsesRoom 0 (view self.old) (view self.new) };
 
@@ -75,23 +79,26 @@ pub trait Disk {
         ensures stays { Stays (view self.old) (view self.new) }
         ensures faults { (view self.new).faults ≡ (view self.old).faults }
         ensures power { ((view self.new).off ≡ (view self.old).off)
-            × ((view self.new).strikes ≡ (view self.old).strikes)
-            × ((view self.new).spare ≡ (view self.old).spare) }
+            × ((view self.new).failures ≡ (view self.old).failures)
+            × ((view self.new).cuts ≡ (view self.old).cuts) }
         ensures end { OnOk result (end ≤ (view self.new).room_end) }
         ensures writes { OnOk result (writes ≤ (view self.new).room_writes) }
         ensures room { OnErr result (UsesRoom 0 (view self.old) (view self.new)) };
 
     // This moment is one of those since an earlier one.
-    ghost counts_now: { (disk : Self) (t : ℕ) (c : List ℕ) → t ≤ (view disk).moment → (view disk).may_leave c
-        → (view disk).left_since t c };
+    ghost counts_now: { (disk : Self) (t : ℕ) (c : List ℕ) → t ≤ (view disk).moment
+        → (view disk).may_leave c → (view disk).left_since t c };
 
     // Since this moment there is no other.
-    ghost only_now: { (disk : Self) (c : List ℕ) → (view disk).left_since (view disk).moment c → (view disk).may_leave c };
+    ghost only_now: { (disk : Self) (c : List ℕ) → (view disk).left_since (view disk).moment c
+        → (view disk).may_leave c };
 
     // A disk that tells has contents, and only such a disk.
-    ghost told: { (disk : Self) → (view disk).tells ≡ true → (c : List ℕ) × ((view disk).contents ≡ Some c) };
+    ghost told: { (disk : Self) → (view disk).tells ≡ true
+        → (c : List ℕ) × ((view disk).contents ≡ Some c) };
 
-    ghost tells_contents: { (disk : Self) (c : List ℕ) → (view disk).contents ≡ Some c → (view disk).tells ≡ true };
+    ghost tells_contents: { (disk : Self) (c : List ℕ) → (view disk).contents ≡ Some c
+        → (view disk).tells ≡ true };
 
     // What a read returns is one of the images.
     ghost contents_may_stay: { (disk : Self) (c : List ℕ) → (view disk).contents ≡ Some c

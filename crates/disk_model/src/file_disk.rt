@@ -1,26 +1,26 @@
-// A disk over a file of the system. It tells nothing of its content, and counts its calls and faults.
-ghost use Rattle.std.specs.Prelude.{◌≡◌, ◌≤◌};
+//! A disk over a file. It tells what the file tells, and counts its calls and faults.
+ghost use Rattle.std.specs.Prelude.{◌≡◌, ◌+◌, ◌^◌, ◌≤◌, List, ℕ, length, Some, OnOk, OnErr};
 ghost use Rattle.agent_base.specs.Counts.{next_count};
+ghost use Rattle.disk_model.specs.Disk.{Holds, Written, Torn, Goes, Follows, Elapses, Stays};
 
 use crate::disk::Disk;
+use crate::raw_file::RawFile;
 use agent_base::{Failed, NoMemory};
-use std::fs::File;
-use std::io;
-use std::os::unix::fs::FileExt;
 
 /// A disk over an open file that is read and written.
 ///
 /// What a file of the system keeps is not proved: over it, clauses speak of counts alone.
 #[derive(Debug, Drop)]
-pub struct FileDisk {
-    file: File,
+pub struct FileDisk<F> {
+    file: F,
     faults: u64,
     calls: u64,
 }
 
-impl FileDisk {
+impl<F: RawFile> FileDisk<F> {
     /// A disk over this file, with no call made yet.
-    pub fn new(file: File) -> FileDisk
+    pub fn new(file: F) -> FileDisk<F>
+        ensures file { result.file ≡ file }
         ensures counts { (result.faults ≡ 0) × (result.calls ≡ 0) }
     {
         FileDisk {
@@ -33,74 +33,76 @@ impl FileDisk {
     // A call that failed.
     fn fault(&mut self) -> Failed
         ensures later { self.old.faults ≤ self.new.faults }
-        ensures counted { self.new.faults ≡ next_count self.old.faults }
-        ensures calls { self.new.calls ≡ self.old.calls }
+        ensures one { self.new.faults ≤ self.old.faults + 1 }
+        ensures counted { self.new ≡ record self.old { faults = next_count self.old.faults } }
     {
         self.faults = self.faults.saturating_add(1);
         Failed
     }
 }
 
-// Fills all of `into`. A read that gives nothing, or more than was asked, is a fault.
-fn read_whole(file: &File, at: u64, into: &mut [u8]) -> io::Result<()> {
+// Fills all of `into`, piece by piece.
+fn read_whole<F: RawFile>(file: &mut F, at: u64, into: &mut [u8]) -> Result<(), Failed>
+    requires within { (c : List ℕ) → (F.view file.old).contents ≡ Some c
+        → at + length into.old ≤ length c }
+    ensures read { OnOk result ((c : List ℕ) → (F.view file.old).contents ≡ Some c
+        → Holds c at into.new) }
+    ensures stays { Stays (F.view file.old) (F.view file.new) }
+{
     let mut done = 0;
-    while done < into.len() {
+    'pieces: while done < into.len() {
         let Some(place) = at.checked_add(done as u64) else {
-            return Err(io::ErrorKind::InvalidInput.into());
+            return Err(Failed);
         };
-        let got = file.read_at(&mut into[done..], place)?;
-        if got == 0 || got > into.len() - done {
-            return Err(io::ErrorKind::UnexpectedEof.into());
-        }
-        done += got;
+        done += file.read_some(place, &mut into[done..])?;
     }
     Ok(())
 }
 
-// Writes all of the bytes. A write that takes nothing, or more than was given, is a fault.
-fn write_whole(file: &File, at: u64, bytes: &[u8]) -> io::Result<()> {
+// Writes all of the bytes, piece by piece.
+fn write_whole<F: RawFile>(file: &mut F, at: u64, bytes: &[u8]) -> Result<(), Failed>
+    requires place { (c : List ℕ) → (F.view file.old).contents ≡ Some c → at ≤ length c }
+    requires fits { at + length bytes.now ≤ 2 ^ 64 }
+    ensures written { OnOk result (Goes (Written at bytes.now)
+        (F.view file.old).contents (F.view file.new).contents) }
+    ensures failed { OnErr result (Goes (Torn at (length bytes.now))
+        (F.view file.old).contents (F.view file.new).contents) }
+    ensures images { Follows (Torn at (length bytes.now))
+        (F.view file.old).may_leave (F.view file.new).may_leave }
+    ensures time { Elapses (F.view file.old) (F.view file.new) }
+    ensures tells { (F.view file.new).tells ≡ (F.view file.old).tells }
+{
     let mut done = 0;
-    while done < bytes.len() {
-        let Some(place) = at.checked_add(done as u64) else {
-            return Err(io::ErrorKind::InvalidInput.into());
-        };
-        let put = file.write_at(&bytes[done..], place)?;
-        if put == 0 || put > bytes.len() - done {
-            return Err(io::ErrorKind::WriteZero.into());
-        }
-        done += put;
+    'pieces: while done < bytes.len() {
+        done += file.write_some(at + done as u64, &bytes[done..])?;
     }
     Ok(())
 }
 
-fn length_of(file: &File) -> io::Result<u64> {
-    Ok(file.metadata()?.len())
-}
+impl<F: RawFile> Disk for FileDisk<F> {
+    ghost use Rattle.disk_model.specs.RawFile.{over_file};
 
-impl Disk for FileDisk {
-    ghost use Rattle.disk_model.specs.Untold.{untold, none_is, false_told};
+    ghost view = { λ d. over_file (F.view d.file) d.faults d.calls };
 
-    ghost view = { λ f. untold f.faults f.calls };
+    ghost counts_now = { λ d t c le left. F.counts_now d.file t c le left };
 
-    ghost counts_now = { λ f t c le left. absurd left };
+    ghost only_now = { λ d c left. F.only_now d.file c left };
 
-    ghost only_now = { λ f c left. left };
+    ghost told = { λ d e. F.told d.file e };
 
-    ghost told = { λ f e. false_told _ e };
+    ghost tells_contents = { λ d c is. F.tells_contents d.file c is };
 
-    ghost tells_contents = { λ f c is. absurd (none_is c is) };
-
-    ghost contents_may_stay = { λ f c is. none_is c is };
+    ghost contents_may_stay = { λ d c is. F.contents_may_stay d.file c is };
 
     fn len(&mut self) -> Result<u64, Failed> {
-        let Ok(len) = length_of(&self.file) else {
+        let Ok(len) = self.file.len() else {
             return Err(self.fault());
         };
         Ok(len)
     }
 
     fn read_at(&mut self, at: u64, into: &mut [u8]) -> Result<(), Failed> {
-        let Ok(()) = read_whole(&self.file, at, into) else {
+        let Ok(()) = read_whole(&mut self.file, at, into) else {
             return Err(self.fault());
         };
         Ok(())
@@ -108,7 +110,7 @@ impl Disk for FileDisk {
 
     fn write_at(&mut self, at: u64, bytes: &[u8]) -> Result<(), Failed> {
         self.calls = self.calls.saturating_add(1);
-        let Ok(()) = write_whole(&self.file, at, bytes) else {
+        let Ok(()) = write_whole(&mut self.file, at, bytes) else {
             return Err(self.fault());
         };
         Ok(())
@@ -116,13 +118,16 @@ impl Disk for FileDisk {
 
     fn sync(&mut self) -> Result<(), Failed> {
         self.calls = self.calls.saturating_add(1);
-        let Ok(()) = self.file.sync_all() else {
+        let Ok(()) = self.file.sync() else {
             return Err(self.fault());
         };
         Ok(())
     }
 
     fn restart(&mut self) -> Result<(), Failed> {
+        let Ok(()) = self.file.restart() else {
+            return Err(self.fault());
+        };
         Ok(())
     }
 

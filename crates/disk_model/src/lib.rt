@@ -2,17 +2,20 @@
 //!
 //! [`Disk`] says what each call promises, at each moment of the call and also where it fails.
 //! [`MemDisk`] is such a disk in memory, whose power can be cut in any of its changing calls.
-//! [`FileDisk`] is one over a file of the system, and tells nothing of its content.
+//! [`FileDisk`] is one over a [`RawFile`], and tells what that tells. A file of the system tells
+//! nothing of its content.
 #![tactic(auto)]
 
 mod disk;
 mod file_disk;
 mod medium;
 mod mem_disk;
+mod raw_file;
 mod recovery;
 mod schedule;
 
 pub use disk::Disk;
 pub use file_disk::FileDisk;
 pub use mem_disk::MemDisk;
+pub use raw_file::RawFile;
 pub use schedule::Cut;

@@ -1,9 +1,10 @@
 // The bytes of a disk in memory, with the record of its changing calls.
-ghost use Rattle.std.specs.Prelude.{◌≡◌, ◌⊎◌, ◌+◌, ◌*◌, ◌<◌, ◌≤◌, ◌++◌, ◌∷◌, [], List, ℕ, length, true, false, OnOk, OnErr, IfOk, IsOk, vec_capacity, vec_len};
+ghost use Rattle.std.specs.Prelude.{◌≡◌, ◌⊎◌, ◌+◌, ◌*◌, ◌<◌, ◌≤◌, ◌++◌, ◌∷◌, [], List, ℕ, length};
+ghost use Rattle.std.specs.Prelude.{true, false, OnOk, OnErr, IfOk, IsOk, vec_capacity, vec_len};
 ghost use Rattle.disk_model.specs.History.{overlaid, wrote, synced, after, Past, held, Grows};
 ghost use Rattle.disk_model.specs.Recovery.{Recovered};
 ghost use Rattle.disk_model.specs.Record.{all_events, unless_fresh, IsMore, IsMiss};
-ghost use Rattle.disk_model.specs.Medium.{IsKept, HasRoom};
+ghost use Rattle.disk_model.specs.MediumBuffers.{IsKept, HasRoom};
 
 use crate::recovery::recover;
 use std::alloc::{AllocError, Global};
@@ -53,8 +54,10 @@ fn begin(
     synced: &mut Vec<u8>,
     first: &mut Vec<u8>,
 ) -> Result<(), AllocError>
-    ensures synced { OnOk result (synced.new.items ≡ unless_fresh fresh contents.now synced.old.items) }
-    ensures first { OnOk result (first.new.items ≡ unless_fresh fresh contents.now first.old.items) }
+    ensures synced { OnOk result
+        (synced.new.items ≡ unless_fresh fresh contents.now synced.old.items) }
+    ensures first { OnOk result
+        (first.new.items ≡ unless_fresh fresh contents.now first.old.items) }
     ensures synced_capacity { vec_capacity synced.old ≤ vec_capacity synced.new }
     ensures first_capacity { vec_capacity first.old ≤ vec_capacity first.new }
     ensures full { OnErr result ((vec_capacity synced.old < length contents.now)
@@ -71,7 +74,8 @@ fn begin(
 fn settle(fresh: bool, contents: &[u8], synced: &mut Vec<u8>) -> Result<(), AllocError>
     ensures synced { OnOk result (unless_fresh fresh contents.now synced.new.items ≡ contents.now) }
     ensures capacity { vec_capacity synced.old ≤ vec_capacity synced.new }
-    ensures full { OnErr result ((fresh ≡ false) × (vec_capacity synced.old < length contents.now)) }
+    ensures full { OnErr result ((fresh ≡ false)
+        × (vec_capacity synced.old < length contents.now)) }
 {
     if !fresh {
         copy(synced, contents)?;
@@ -97,7 +101,8 @@ fn more(good: u64) -> u64
     good.saturating_add(1)
 }
 
-// The bytes, and the record of all changing calls: each write has an entry, and the log has the bytes
+// The bytes, and the record of all changing calls: each write has an entry, and the log has the
+// bytes
 // of all writes back to back. Until the first write the contents stand for the other copies too.
 #[derive(Debug, Drop)]
 pub struct Medium {
@@ -126,7 +131,8 @@ impl Model for Medium {
 
     ghost invariant = { λ m. IsKept m.contents.items m.synced.items m.first.items m.fresh
         m.entries.items m.log.items m.failed m.good m.ranges.items
-        × HasRoom m.contents m.synced m.first m.fresh m.entries m.log m.ranges m.room_end m.room_writes };
+        × HasRoom m.contents m.synced m.first m.fresh m.entries m.log m.ranges
+        m.room_end m.room_writes };
 }
 
 impl Medium {
@@ -243,7 +249,8 @@ impl Medium {
         ensures events { self.new.events ≡ self.old.events }
         ensures end { OnOk result (end ≤ self.new.room_end) }
         ensures writes { OnOk result (self.new.room_writes ≡ writes) }
-        ensures err { OnErr result ((self.new.room_end ≡ self.old.room_end) × (self.new.room_writes ≡ self.old.room_writes)) }
+        ensures err { OnErr result ((self.new.room_end ≡ self.old.room_end)
+            × (self.new.room_writes ≡ self.old.room_writes)) }
     {
         let end = end.max(self.contents.len()).max(self.room_end);
         let all = end.checked_mul(writes).ok_or(AllocError)?;

@@ -1,11 +1,14 @@
-// A disk in memory, whose power can be cut in a changing call.
-ghost use Rattle.std.specs.Prelude.{◌≡◌, ◌↔◌, ◌+◌, ◌<◌, ◌≤◌, true, false, [], List, ℕ, length, Some, None, IfOk, OnOk, OnErr, IsOk, IsErr, IsTrue, is_some, filter, nat_lt, refl, if◌then◌else◌};
-ghost use Rattle.agent_base.specs.Counts.{next_count};
-ghost use Rattle.disk_model.specs.Disk.{Holds, Written, Torn, Goes, Follows, IsSettled, Elapses, Stays, Counts, CountsCall, UsesRoom, Strikes};
+//! A disk in memory, whose power can be cut in a changing call.
+ghost use Rattle.std.specs.Prelude.{◌≡◌, ◌↔◌, ◌+◌, ◌<◌, ◌≤◌, true, false, [], List, ℕ, length};
+ghost use Rattle.std.specs.Prelude.{Some, None, IfOk, OnOk, OnErr, IsOk, IsErr, IsTrue, is_some};
+ghost use Rattle.std.specs.Prelude.{filter, nat_lt, refl, if◌then◌else◌};
+ghost use Rattle.agent_base.specs.Counts.{next_count, HasCause};
+ghost use Rattle.disk_model.specs.Disk.{Holds, Written, Torn, Goes, Follows, IsSettled, Elapses};
+ghost use Rattle.disk_model.specs.Disk.{Stays, Device, HasFailed, UsesRoom};
 ghost use Rattle.disk_model.specs.History.{held, after, wrote, synced, Grows};
 ghost use Rattle.disk_model.specs.Recovery.{Recovered};
 ghost use Rattle.disk_model.specs.Schedule.{AreFrom, next_fails};
-ghost use Rattle.disk_model.specs.MemDisk.{MemView, view_of, pick_of, Calls};
+ghost use Rattle.disk_model.specs.MemDisk.{MemView, view_of, pick_of, numbers_of, Calls};
 ghost use Rattle.disk_model.specs.Laws.{contents_stay, now_counts, now_only};
 ghost use Rattle.disk_model.specs.MemLaws.{is_contents};
 
@@ -23,7 +26,7 @@ pub struct MemDisk {
     schedule: Schedule,
     base: u64,
     faults: u64,
-    strikes: u64,
+    failures: u64,
 }
 
 impl Model for MemDisk {
@@ -36,7 +39,7 @@ impl Model for MemDisk {
       plan = m.schedule;
       base = m.base;
       faults = m.faults;
-      strikes = m.strikes;
+      failures = m.failures;
     } };
 }
 
@@ -48,16 +51,21 @@ impl MemDisk {
     pub fn new(alloc: Global, bytes: Vec<u8>, cuts: Vec<Cut>, fails: Vec<u64>) -> MemDisk
         requires { AreFrom 1 cuts.items }
         ensures contents { (result.past.first ≡ bytes.items) × (result.past.events ≡ []) }
-        ensures plan { result.plan ≡ record { calls = 0; cuts = cuts.items; fails = fails.items; off = None } }
-        ensures counts { (result.faults ≡ 0) × (result.strikes ≡ 0) }
-        ensures spare { fails.items ≡ [] → (view_of result).spare ≡ length cuts.items }
+        ensures plan { result.plan ≡ record {
+          calls = 0;
+          cuts = cuts.items;
+          fails = fails.items;
+          off = None;
+        } }
+        ensures counts { (result.faults ≡ 0) × (result.failures ≡ 0) }
+        ensures cuts { fails.items ≡ [] → (view_of result).cuts ≡ Some (numbers_of cuts.items) }
     {
         MemDisk {
             medium: Medium::new(alloc, bytes),
             schedule: Schedule::new(cuts, fails),
             base: 0,
             faults: 0,
-            strikes: 0,
+            failures: 0,
         }
     }
 
@@ -66,14 +74,18 @@ impl MemDisk {
     pub fn reopen(self) -> MemDisk
         ensures recovered { Recovered (pick_of self.plan) (held self.past) result.past.first }
         ensures anew { result.past.events ≡ [] }
+        ensures image { (c : List ℕ) → (view_of result).contents ≡ Some c
+            → (view_of self).may_leave c }
+        ensures settled { IsSettled (view_of result) }
         ensures plan { result.plan ≡ record {
           calls = 0;
           cuts = self.plan.cuts;
           fails = filter (λ number. nat_lt self.plan.calls number) self.plan.fails;
           off = None;
         } }
-        ensures counts { (result.faults ≡ 0) × (result.strikes ≡ 0) }
-        ensures room { (result.past.room_end ≡ self.past.room_end) × (result.past.room_writes ≡ self.past.room_writes) }
+        ensures counts { (result.faults ≡ 0) × (result.failures ≡ 0) }
+        ensures room { (result.past.room_end ≡ self.past.room_end)
+            × (result.past.room_writes ≡ self.past.room_writes) }
     {
         let mut medium = self.medium;
         let mut schedule = self.schedule;
@@ -84,7 +96,7 @@ impl MemDisk {
             schedule,
             base: 0,
             faults: 0,
-            strikes: 0,
+            failures: 0,
         }
     }
 
@@ -105,15 +117,15 @@ impl MemDisk {
     }
 
     // A call that failed while the power was on.
-    fn strike(&mut self) -> Failed
+    fn failure(&mut self) -> Failed
         ensures later { self.old.faults ≤ self.new.faults }
-        ensures most { self.new.strikes ≤ self.old.strikes + 1 }
+        ensures most { self.new.failures ≤ self.old.failures + 1 }
         ensures counted { self.new ≡ record self.old {
           faults = next_count self.old.faults;
-          strikes = next_count self.old.strikes;
+          failures = next_count self.old.failures;
         } }
     {
-        self.strikes = self.strikes.saturating_add(1);
+        self.failures = self.failures.saturating_add(1);
         self.fault()
     }
 }
@@ -121,7 +133,8 @@ impl MemDisk {
 impl Disk for MemDisk {
     ghost view = { view_of };
 
-    ghost counts_now = { λ m t c le image. now_counts m.past.first m.past.events m.base t c le image };
+    ghost counts_now = { λ m t c le image.
+        now_counts m.past.first m.past.events m.base t c le image };
 
     ghost only_now = { λ m c since. now_only m.past.first m.past.events m.base c since };
 
@@ -133,11 +146,10 @@ impl Disk for MemDisk {
 
     // Each call has the trait's clauses, and after them exactly what this disk does.
     fn len(&mut self) -> Result<u64, Failed>
-        ensures len { IfOk result (λ n. (c : List ℕ) → Some (held self.old.past).contents ≡ Some c → n ≡ length c) }
+        ensures len { IfOk result (λ n. (c : List ℕ) → Some (held self.old.past).contents ≡ Some c
+            → n ≡ length c) }
         ensures stays { Stays (view_of self.old) (view_of self.new) }
-        ensures faults { Counts result (view_of self.old) (view_of self.new) }
-        ensures strikes { Strikes result (view_of self.old) (view_of self.new) }
-        ensures room { UsesRoom 0 (view_of self.old) (view_of self.new) }
+        ensures device { Device 0 0 result (view_of self.old) (view_of self.new) }
         ensures refused { IsErr result ↔ IsTrue (is_some self.old.plan.off) }
         ensures same { self.new ≡ record self.old { faults = self.new.faults } }
     {
@@ -153,9 +165,7 @@ impl Disk for MemDisk {
         ensures read { OnOk result ((c : List ℕ) → Some (held self.old.past).contents ≡ Some c
             → Holds c at into.new) }
         ensures stays { Stays (view_of self.old) (view_of self.new) }
-        ensures faults { Counts result (view_of self.old) (view_of self.new) }
-        ensures strikes { Strikes result (view_of self.old) (view_of self.new) }
-        ensures room { UsesRoom 0 (view_of self.old) (view_of self.new) }
+        ensures device { Device 0 0 result (view_of self.old) (view_of self.new) }
         ensures refused { IsErr result ↔ IsTrue (is_some self.old.plan.off) }
         ensures same { self.new ≡ record self.old { faults = self.new.faults } }
     {
@@ -168,19 +178,18 @@ impl Disk for MemDisk {
     }
 
     fn write_at(&mut self, at: u64, bytes: &[u8]) -> Result<(), Failed>
-        requires place { (c : List ℕ) → Some (held self.old.past).contents ≡ Some c → at ≤ length c }
+        requires place { (c : List ℕ) → Some (held self.old.past).contents ≡ Some c
+            → at ≤ length c }
         requires room { at + length bytes.now ≤ self.old.past.room_end }
         requires writes { 0 < self.old.past.room_writes }
         ensures written { OnOk result (Goes (Written at bytes.now)
             (view_of self.old).contents (view_of self.new).contents) }
         ensures failed { OnErr result (Goes (Torn at (length bytes.now))
             (view_of self.old).contents (view_of self.new).contents) }
-        ensures images { Follows (Torn at (length bytes.now)) (view_of self.old).may_leave (view_of self.new).may_leave }
+        ensures images { Follows (Torn at (length bytes.now))
+            (view_of self.old).may_leave (view_of self.new).may_leave }
         ensures time { Elapses (view_of self.old) (view_of self.new) }
-        ensures faults { Counts result (view_of self.old) (view_of self.new) }
-        ensures strikes { Strikes result (view_of self.old) (view_of self.new) }
-        ensures calls { CountsCall result (view_of self.old) (view_of self.new) }
-        ensures room { UsesRoom 1 (view_of self.old) (view_of self.new) }
+        ensures device { Device 1 1 result (view_of self.old) (view_of self.new) }
         ensures call { Calls result self.old self.new }
         ensures past { self.old.plan.off ≡ None
             → Grows self.old.past self.new.past (after (held self.old.past) (wrote at bytes.now)) }
@@ -191,7 +200,7 @@ impl Disk for MemDisk {
         let fails = self.schedule.call();
         let made = self.medium.write(at as usize, bytes);
         if fails || made.is_err() {
-            return Err(self.strike());
+            return Err(self.failure());
         }
         Ok(())
     }
@@ -199,25 +208,24 @@ impl Disk for MemDisk {
     fn sync(&mut self) -> Result<(), Failed>
         ensures contents { (view_of self.new).contents ≡ (view_of self.old).contents }
         ensures settled { OnOk result (IsSettled (view_of self.new)) }
-        ensures images { (c : List ℕ) → (view_of self.new).may_leave c → (view_of self.old).may_leave c }
+        ensures images { (c : List ℕ) → (view_of self.new).may_leave c
+            → (view_of self.old).may_leave c }
         ensures time { Elapses (view_of self.old) (view_of self.new) }
-        ensures faults { Counts result (view_of self.old) (view_of self.new) }
-        ensures strikes { Strikes result (view_of self.old) (view_of self.new) }
-        ensures calls { CountsCall result (view_of self.old) (view_of self.new) }
-        ensures room { UsesRoom 0 (view_of self.old) (view_of self.new) }
+        ensures device { Device 1 0 result (view_of self.old) (view_of self.new) }
         ensures call { Calls result self.old self.new }
         ensures past { self.old.plan.off ≡ None → Grows self.old.past self.new.past
-            (if next_fails self.old.plan then held self.old.past else after (held self.old.past) synced) }
+            (if next_fails self.old.plan then held self.old.past else after
+            (held self.old.past) synced) }
     {
         if self.schedule.is_off() {
             return Err(self.fault());
         }
         if self.schedule.call() {
             self.medium.miss();
-            return Err(self.strike());
+            return Err(self.failure());
         }
         if self.medium.sync().is_err() {
-            return Err(self.strike());
+            return Err(self.failure());
         }
         Ok(())
     }
@@ -227,14 +235,19 @@ impl Disk for MemDisk {
             (view_of self.old).contents (view_of self.new).contents) }
         ensures anew { OnOk result ((t : ℕ) (c : List ℕ) → (view_of self.new).left_since t c
             → (view_of self.new).contents ≡ Some c) }
-        ensures failed { OnErr result ((c : List ℕ) → (view_of self.new).may_leave c → (view_of self.old).may_leave c) }
-        ensures faults { Counts result (view_of self.old) (view_of self.new) }
-        ensures on { OnOk result (((view_of self.new).off ≡ false) × ((view_of self.new).strikes ≡ (view_of self.old).strikes)
-            × ((view_of self.new).spare ≡ (view_of self.old).spare)) }
+        ensures failed { OnErr result ((c : List ℕ) → (view_of self.new).may_leave c
+            → (view_of self.old).may_leave c) }
+        ensures cause { HasCause (view_of self.old).faults (view_of self.new).faults result }
+        ensures tells { (view_of self.new).tells ≡ (view_of self.old).tells }
+        ensures on { OnOk result (((view_of self.new).off ≡ false)
+            × ((view_of self.new).failures ≡ (view_of self.old).failures)
+            × ((view_of self.new).cuts ≡ (view_of self.old).cuts)) }
+        ensures failure { OnErr result (HasFailed (view_of self.old) (view_of self.new)) }
         ensures calls { (view_of self.new).changing ≡ (view_of self.old).changing }
         ensures room { UsesRoom 0 (view_of self.old) (view_of self.new) }
         ensures ok { IsOk result }
-        ensures recovered { Recovered (pick_of self.old.plan) (held self.old.past) self.new.past.first }
+        ensures recovered { Recovered (pick_of self.old.plan)
+            (held self.old.past) self.new.past.first }
         ensures begun { self.new.past.events ≡ [] }
         ensures plan { self.new.plan ≡ record self.old.plan { off = None } }
     {
@@ -251,8 +264,8 @@ impl Disk for MemDisk {
         ensures stays { Stays (view_of self.old) (view_of self.new) }
         ensures faults { (view_of self.new).faults ≡ (view_of self.old).faults }
         ensures power { ((view_of self.new).off ≡ (view_of self.old).off)
-            × ((view_of self.new).strikes ≡ (view_of self.old).strikes)
-            × ((view_of self.new).spare ≡ (view_of self.old).spare) }
+            × ((view_of self.new).failures ≡ (view_of self.old).failures)
+            × ((view_of self.new).cuts ≡ (view_of self.old).cuts) }
         ensures end { OnOk result (end ≤ (view_of self.new).room_end) }
         ensures writes { OnOk result (writes ≤ (view_of self.new).room_writes) }
         ensures room { OnErr result (UsesRoom 0 (view_of self.old) (view_of self.new)) }

@@ -1,5 +1,7 @@
 // What a cut makes of a file, by its pick.
-ghost use Rattle.std.specs.Prelude.{◌≡◌, ◌⊎◌, ◌+◌, ◌-◌, ◌/◌, max, false, true, [], slice_index, ◌<◌, ◌≤◌, nat_lt, if◌then◌else◌, List, ℕ, length, OnOk, OnErr, vec_capacity, vec_len};
+ghost use Rattle.std.specs.Prelude.{◌≡◌, ◌⊎◌, ◌+◌, ◌-◌, ◌/◌, max, false, true, [], slice_index};
+ghost use Rattle.std.specs.Prelude.{◌<◌, ◌≤◌, nat_lt, if◌then◌else◌, List, ℕ, length, OnOk, OnErr};
+ghost use Rattle.std.specs.Prelude.{vec_capacity, vec_len};
 ghost use Rattle.disk_model.specs.Image.{greatest_end};
 ghost use Rattle.disk_model.specs.History.{Held};
 ghost use Rattle.disk_model.specs.Recovery.{IsSpoiled, IsHalved, Recovered};
@@ -12,7 +14,8 @@ use std::alloc::AllocError;
 fn spoil_range(contents: &mut [u8], at: usize, len: usize)
     requires { at + len ≤ length contents.old }
     ensures inside { (i : ℕ) → at ≤ i → i < at + len → slice_index contents.new i ≡ 165 }
-    ensures outside { (i : ℕ) → (i < at) ⊎ (at + len ≤ i) → slice_index contents.new i ≡ slice_index contents.old i }
+    ensures outside { (i : ℕ) → (i < at) ⊎ (at + len ≤ i)
+        → slice_index contents.new i ≡ slice_index contents.old i }
 {
     contents[at..at + len].fill(0xA5);
 }
@@ -30,7 +33,8 @@ fn spoil(contents: &mut [u8], ranges: &[(usize, usize)])
 // So long at least, by zeros.
 fn lengthen(file: &mut Vec<u8>, end: usize) -> Result<(), AllocError>
     ensures len { OnOk result (length file.new.items ≡ max (length file.old.items) end) }
-    ensures bytes { OnOk result ((i : ℕ) → slice_index file.new.items i ≡ slice_index file.old.items i) }
+    ensures bytes { OnOk result ((i : ℕ)
+        → slice_index file.new.items i ≡ slice_index file.old.items i) }
     ensures capacity { vec_capacity file.old ≤ vec_capacity file.new }
     ensures full { OnErr result (vec_capacity file.old < end) }
 {
@@ -45,8 +49,10 @@ fn place(file: &mut [u8], contents: &[u8], at: usize, end: usize)
     requires order { at ≤ end }
     requires there { end ≤ length file.old }
     requires from { end ≤ length contents.now }
-    ensures inside { (i : ℕ) → at ≤ i → i < end → slice_index file.new i ≡ slice_index contents.now i }
-    ensures outside { (i : ℕ) → (i < at) ⊎ (end ≤ i) → slice_index file.new i ≡ slice_index file.old i }
+    ensures inside { (i : ℕ) → at ≤ i → i < end
+        → slice_index file.new i ≡ slice_index contents.now i }
+    ensures outside { (i : ℕ) → (i < at) ⊎ (end ≤ i)
+        → slice_index file.new i ≡ slice_index file.old i }
 {
     file[at..end].copy_from_slice(&contents[at..end]);
 }
@@ -54,8 +60,11 @@ fn place(file: &mut [u8], contents: &[u8], at: usize, end: usize)
 // The first bytes of a range are in place.
 fn keep(synced: &mut Vec<u8>, contents: &[u8], at: usize, len: usize) -> Result<(), AllocError>
     requires { at + len ≤ length contents.now }
-    ensures len { OnOk result (length synced.new.items ≡ max (if nat_lt 0 len then at + len else 0) (length synced.old.items)) }
-    ensures inside { OnOk result ((i : ℕ) → at ≤ i → i < at + len → slice_index synced.new.items i ≡ slice_index contents.now i) }
+    ensures len { OnOk result
+        (length synced.new.items ≡ max (if nat_lt 0 len then at + len else 0)
+        (length synced.old.items)) }
+    ensures inside { OnOk result ((i : ℕ) → at ≤ i → i < at + len
+        → slice_index synced.new.items i ≡ slice_index contents.now i) }
     ensures outside { OnOk result ((i : ℕ) → (i < at) ⊎ (at + len ≤ i)
         → slice_index synced.new.items i ≡ slice_index synced.old.items i) }
     ensures capacity { vec_capacity synced.old ≤ vec_capacity synced.new }
@@ -71,7 +80,8 @@ fn keep(synced: &mut Vec<u8>, contents: &[u8], at: usize, len: usize) -> Result<
 // Of each range the first half is in place.
 fn halve(synced: &mut Vec<u8>, contents: &[u8], ranges: &[(usize, usize)]) -> Result<(), AllocError>
     requires { greatest_end 0 ranges.now ≤ length contents.now }
-    ensures halved { OnOk result (IsHalved synced.old.items contents.now ranges.now synced.new.items) }
+    ensures halved { OnOk result
+        (IsHalved synced.old.items contents.now ranges.now synced.new.items) }
     ensures capacity { vec_capacity synced.old ≤ vec_capacity synced.new }
     ensures full { OnErr result (vec_capacity synced.old < length contents.now) }
 {
@@ -133,7 +143,8 @@ pub fn recover(
     ensures len { OnOk result (length contents.new.items ≤ length contents.old.items) }
     ensures capacity { vec_capacity contents.old ≤ vec_capacity contents.new }
     ensures synced_capacity { vec_capacity synced.old ≤ vec_capacity synced.new }
-    ensures full { OnErr result ((fresh ≡ false) × ((vec_capacity synced.old < length contents.old.items)
+    ensures full { OnErr result ((fresh ≡ false)
+        × ((vec_capacity synced.old < length contents.old.items)
         ⊎ (vec_capacity contents.old < length contents.old.items))) }
 {
     if fresh {

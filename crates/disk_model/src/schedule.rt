@@ -1,6 +1,7 @@
 // In which changing calls a disk in memory fails, and when its power is cut.
 ghost use Rattle.std.specs.Prelude.{◌≡◌, ◌↔◌, ◌<◌, ◌≤◌, nat_lt, [], None, IsTrue, filter, is_some};
-ghost use Rattle.disk_model.specs.Schedule.{AreFrom, Plan, next_fails, next_plan, pick_at, cuts_after};
+ghost use Rattle.disk_model.specs.Schedule.{AreFrom, Plan, next_fails, next_plan, pick_at};
+ghost use Rattle.disk_model.specs.Schedule.{cuts_after};
 
 use std::marker::Model;
 
@@ -42,7 +43,12 @@ impl Schedule {
     /// No call was made yet, and the power is on.
     pub fn new(cuts: Vec<Cut>, fails: Vec<u64>) -> Schedule
         requires { AreFrom 1 cuts.items }
-        ensures plan { result ≡ record { calls = 0; cuts = cuts.items; fails = fails.items; off = None } }
+        ensures plan { result ≡ record {
+          calls = 0;
+          cuts = cuts.items;
+          fails = fails.items;
+          off = None;
+        } }
     {
         Schedule {
             calls: 0,
@@ -76,7 +82,10 @@ impl Schedule {
     fn cut(&mut self, call: u64) -> Option<u8>
         requires { AreFrom call self.old.cuts }
         ensures pick { result ≡ pick_at call self.old.cuts }
-        ensures plan { self.new ≡ record self.old { calls = call; cuts = cuts_after call self.old.cuts } }
+        ensures plan { self.new ≡ record self.old {
+          calls = call;
+          cuts = cuts_after call self.old.cuts;
+        } }
     {
         let mut pick = None;
         if self.next < self.cuts.len() && self.cuts[self.next].call == call {

@@ -1,5 +1,6 @@
 -- What a `Medium` keeps in its buffers.
-use Rattle.std.specs.Prelude.{◌≡◌, ℕ, ◌+◌, ◌*◌, ◌<◌, ◌≤◌, Bool, true, false, List, [], length, Vec, vec_capacity, vec_len}
+use Rattle.std.specs.Prelude.{◌≡◌, ℕ, ◌+◌, ◌*◌, ◌<◌, ◌≤◌, Bool, true, false, List, [], length, Vec}
+use Rattle.std.specs.Prelude.{vec_capacity, vec_len}
 use Rattle.std.specs.declared.alloc.Global.{Global}
 use Rattle.disk_model.specs.Image.{greatest_end}
 use Rattle.disk_model.specs.History.{replay, at_first}
@@ -9,8 +10,13 @@ use Rattle.disk_model.specs.declared.medium.Entry.{Entry}
 -- the buffers are those of the record
 pub record IsKept (contents synced_bytes first : List ℕ) (fresh : Bool) (entries : List Entry)
     (log : List ℕ) (failed good : ℕ) (ranges : List (ℕ × ℕ)) : Type 0 where
-  pub replayed : replay (at_first (unless_fresh fresh contents first)) (all_events entries log failed good)
-      ≡ record { contents = contents; synced = unless_fresh fresh contents synced_bytes; ranges = ranges }
+  pub replayed : replay (at_first (unless_fresh fresh contents first))
+      (all_events entries log failed good)
+      ≡ record {
+        contents = contents;
+        synced = unless_fresh fresh contents synced_bytes;
+        ranges = ranges;
+      }
   pub log_len : length log ≡ written_len entries
   pub within : greatest_end 0 ranges ≤ length contents
   pub shorter : fresh ≡ false → length synced_bytes ≤ length contents

@@ -1,5 +1,5 @@
 //! Commits of a journal over a file, and plain writes to one, each with its sync.
-ghost use Rattle.std.specs.Prelude.{◌≡◌, false, OnOk, IfOk};
+ghost use Rattle.std.specs.Prelude.{◌≡◌, ◌<◌, false, OnOk, IfOk, length};
 ghost use Rattle.journal.specs.Journal.{IsAtRest};
 
 use crate::watch::Watch;
@@ -77,6 +77,7 @@ fn body_of(alloc: Global, len: u32) -> io::Result<Vec<u8>> {
 fn commit_one<D: Disk>(journal: &mut Journal, disk: &mut D, body: &[u8]) -> Result<(), Failed>
     requires usable { journal.old.shut ≡ false }
     requires at_rest { IsAtRest journal.old (D.view disk.old) }
+    requires some { 0 < length body.now }
     ensures usable { OnOk result (journal.new.shut ≡ false) }
     ensures at_rest { OnOk result (IsAtRest journal.new (D.view disk.new)) }
 {
@@ -98,6 +99,7 @@ fn commit_all<D: Disk>(
 ) -> Result<(), Failed>
     requires usable { journal.old.shut ≡ false }
     requires at_rest { IsAtRest journal.old (D.view disk.old) }
+    requires some { 0 < length body.now }
 {
     'commits: for _ in 0..count {
         commit_one(journal, disk, body)?;
@@ -118,10 +120,13 @@ fn failed() -> io::Error {
     io::ErrorKind::Other.into()
 }
 
-/// Makes a store on a file, and commits so many bodies of so many bytes.
+/// Makes a store on a file, and commits so many bodies of so many bytes, one at least.
 pub fn run(rt: &HostRuntime, path: &str, count: u32, len: u32) -> io::Result<()> {
     let mut disk = FileDisk::new(new_file(rt, path)?);
     let body = body_of(rt.alloc(), len)?;
+    if body.is_empty() {
+        return Err(io::ErrorKind::InvalidInput.into());
+    }
     let Ok(mut journal) = new_store(rt.alloc(), &mut disk) else {
         return Err(failed());
     };

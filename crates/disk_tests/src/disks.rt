@@ -1,8 +1,9 @@
 //! What a restart leaves after each pick, and a disk over a file of the system.
+use crate::part_file::PartFile;
 use crate::shared::{bytes_of, disk_of, new_file, path_of};
 use disk_model::{Cut, Disk, FileDisk};
 use std::alloc::Global;
-use std::fs;
+use std::fs::{self, OpenOptions};
 use std::test::Fail;
 
 // Writes where the place is within the file or at its end, in room that it makes.
@@ -98,6 +99,54 @@ fn a_file_keeps_what_was_written(rt: HostRuntime) -> Result<(), Fail> {
     assert!(rt; is_so);
     assert_eq!(rt; after.as_slice(), b"abXYZ".as_slice());
     assert!(rt; disk.read_at(4, &mut [0; 2]).is_err());
+    let mut read_alone = FileDisk::new(OpenOptions::new().read(true).open(&rt, &path)?);
+    assert_eq!(rt; read_alone.len(), Ok(5));
+    assert!(rt; read_alone.write_at(0, b"abc").is_err());
+    let after = restarted(alloc, &mut read_alone)?;
+    assert_eq!(rt; after.as_slice(), b"abXYZ".as_slice());
     fs::remove_file(&rt, &path)?;
+    Ok(())
+}
+
+#[test]
+fn a_full_device_is_a_fault(rt: HostRuntime) -> Result<(), Fail> {
+    let full = OpenOptions::new().write(true).open(&rt, "/dev/full")?;
+    let mut disk = FileDisk::new(full);
+    assert!(rt; disk.write_at(0, b"abc").is_err());
+    Ok(())
+}
+
+// A write of seven bytes behind `ab` and a read of all, by pieces of at most so many bytes.
+fn by_pieces(alloc: Global, most: usize, fails: u64) -> Result<(bool, Vec<u8>, bool), Fail> {
+    let mut disk = FileDisk::new(PartFile::new(alloc, b"ab", most, fails)?);
+    let is_written = disk.write_at(1, b"BCDEFGH").is_ok();
+    let mut bytes = Vec::new(alloc);
+    bytes.resize(8, 0)?;
+    let is_read = disk.read_at(0, &mut bytes).is_ok();
+    Ok((is_written, bytes, is_read))
+}
+
+// The write of seven bytes takes calls 1 to 3 by pieces of three, and the read of eight calls 4 to
+// 6.
+#[test]
+fn pieces_are_joined_and_faults_are_told(rt: HostRuntime) -> Result<(), Fail> {
+    let alloc = rt.alloc();
+    for (most, fails, is_written, bytes, is_read) in [
+        (8, 0, true, &b"aBCDEFGH"[..], true),
+        (3, 0, true, &b"aBCDEFGH"[..], true),
+        (1, 0, true, &b"aBCDEFGH"[..], true),
+        (3, 1, false, &b"ab\0\0\0\0\0\0"[..], false),
+        (3, 2, false, &b"aBCD\0\0\0\0"[..], false),
+        (3, 5, true, &b"aBC\0\0\0\0\0"[..], false),
+    ] {
+        let found = by_pieces(alloc, most, fails)?;
+        assert_eq!(rt; found.0, is_written, "pieces of {most}, call {fails} fails");
+        assert_eq!(rt;
+            found.1.as_slice(),
+            bytes,
+            "pieces of {most}, call {fails} fails"
+        );
+        assert_eq!(rt; found.2, is_read, "pieces of {most}, call {fails} fails");
+    }
     Ok(())
 }

@@ -1,78 +1,30 @@
 //! Cuts in each device call, and the first fault of a store whose bytes were changed by hand.
-use crate::shared::{bytes_of, disk_of};
+ghost use Rattle.std.specs.Prelude.{◌≡◌, false};
+ghost use Rattle.journal.specs.Journal.{IsAtRest};
+
+use crate::shared::{Bodies, DIGEST, add, bytes_of, disk_of};
+use agent_base::Failed;
 use disk_model::{Cut, Disk};
-use journal::{Journal, OpenFault, Replay, ReplayFault};
+use journal::{Journal, OpenFault};
 use std::alloc::Global;
 use std::test::Fail;
-
-/// SHA-256 of the empty list.
-pub const DIGEST: [u8; 32] = [
-    0xe3, 0xb0, 0xc4, 0x42, 0x98, 0xfc, 0x1c, 0x14, 0x9a, 0xfb, 0xf4, 0xc8, 0x99, 0x6f, 0xb9, 0x24,
-    0x27, 0xae, 0x41, 0xe4, 0x64, 0x9b, 0x93, 0x4c, 0xa4, 0x95, 0x99, 0x1b, 0x78, 0x52, 0xb8, 0x55,
-];
 
 // The body of the worked store: one change that puts `v` under `k` in the area of `https://a.test`.
 const BODY: [u8; 52] =
     *b"\x01\0\0\0\x01\x0e\0\0\0https://a.test\x0e\0\0\0https://a.test\0\x01\0\0\0k\x01\0\0\0v";
 
-// Stands for the body of the last frame. Each body is one change.
-#[derive(Debug, Drop)]
-struct LastBody {
-    body: Vec<u8>,
-}
-
-impl Replay for LastBody {
-    ghost use Rattle.std.specs.Prelude.{◌≡◌, [], List, ℕ};
-    ghost use Rattle.std.proofs.Common.{sym, ◌∙◌};
-
-    ghost State = { List ℕ };
-
-    ghost state = { λ r. r.body.items };
-
-    ghost empty = { [] };
-
-    ghost takes = { λ s kind body t n. (t ≡ body) × (n ≡ 1) };
-
-    ghost refuses = { λ s kind body o. ⊥ };
-
-    ghost one_state = { λ s kind body t u m n one two. one.0 ∙ sym two.0 };
-
-    ghost one_count = { λ s kind body t u m n one two. one.1 ∙ sym two.1 };
-
-    ghost one_fault = { λ s kind body o p one two. absurd one };
-
-    ghost apart = { λ s kind body t n o took refused. refused };
-
-    fn begin(&mut self) {
-        self.body.clear();
-    }
-
-    fn frame(&mut self, snapshot: bool, body: &[u8]) -> Result<u64, ReplayFault> {
-        let _ = snapshot;
-        self.body.clear();
-        let Ok(()) = self.body.extend_from_slice(body) else {
-            self.body.clear();
-            return Err(ReplayFault::NoMemory);
-        };
-        Ok(1)
-    }
-}
-
 // Opens the store, and answers how many changes it has.
 fn open_it<D: Disk>(alloc: Global, disk: &mut D) -> Result<u64, OpenFault> {
-    let mut into = LastBody {
-        body: Vec::new(alloc),
-    };
+    let mut into = Bodies::new(alloc);
     let journal = Journal::open(alloc, disk, &DIGEST, true, &mut into)?;
     Ok(journal.changes())
 }
 
-// Opens the store, commits the body once, and makes a checkpoint of it where it is asked to. Answers
+// Opens the store, commits the body once, and makes a checkpoint of it where it is asked to.
+// Answers
 // whether the journal is shut, and a fault of its opening.
 fn run<D: Disk>(alloc: Global, disk: &mut D, has_checkpoint: bool) -> Result<bool, OpenFault> {
-    let mut into = LastBody {
-        body: Vec::new(alloc),
-    };
+    let mut into = Bodies::new(alloc);
     let mut journal = Journal::open(alloc, disk, &DIGEST, false, &mut into)?;
     let Ok(()) = journal.reserve(disk, BODY.len()) else {
         return Err(OpenFault::NoMemory);
@@ -164,6 +116,61 @@ fn calls_and_bytes_are_counted(rt: HostRuntime) -> Result<(), Fail> {
     ] {
         let found = counts(alloc, zeros, commits, has_checkpoint)?;
         assert_eq!(rt; found, (calls, bytes), "{zeros} zeros");
+    }
+    Ok(())
+}
+
+// So many checkpoints in a row.
+fn checkpoints<D: Disk>(
+    journal: &mut Journal,
+    disk: &mut D,
+    body: &[u8],
+    count: u32,
+) -> Result<(), Failed>
+    requires usable { journal.old.shut ≡ false }
+    requires at_rest { IsAtRest journal.old (D.view disk.old) }
+{
+    'snapshots: for _ in 0..count {
+        add(journal, disk, true, body)?;
+    }
+    Ok(())
+}
+
+// How long the file is after one commit of the body and so many checkpoints of so many bytes.
+fn length_after(alloc: Global, count: u32, bytes: usize) -> Result<usize, Fail> {
+    let mut disk = disk_of(alloc, b"", None, &[])?;
+    let mut into = Bodies::new(alloc);
+    let Ok(mut journal) = Journal::open(alloc, &mut disk, &DIGEST, false, &mut into) else {
+        return Ok(0);
+    };
+    let Ok(()) = add(&mut journal, &mut disk, false, &BODY) else {
+        return Ok(0);
+    };
+    let mut body = Vec::new(alloc);
+    body.resize(bytes, b'x')?;
+    let Ok(()) = checkpoints(&mut journal, &mut disk, &body, count) else {
+        return Ok(0);
+    };
+    Ok(bytes_of(alloc, &mut disk)?.len())
+}
+
+// The live region begins at 128 first, and behind the first commit at 199. A snapshot of 52 bytes
+// with
+// both gates has 71 and fits just between them, and one of 53 does not.
+#[test]
+fn checkpoints_take_back_room(rt: HostRuntime) -> Result<(), Fail> {
+    let alloc = rt.alloc();
+    for (count, bytes, want) in [
+        (0, 0, 199),
+        (1, 52, 270),
+        (2, 52, 270),
+        (1, 53, 271),
+        (2, 53, 343),
+        (3, 53, 343),
+        (40, 48, 266),
+    ] {
+        let found = length_after(alloc, count, bytes)?;
+        assert_eq!(rt; found, want, "{count} checkpoints of {bytes} bytes");
     }
     Ok(())
 }

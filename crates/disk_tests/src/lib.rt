@@ -9,6 +9,8 @@ mod disks;
 #[cfg(test)]
 mod journals;
 #[cfg(test)]
+mod part_file;
+#[cfg(test)]
 mod random_runs;
 #[cfg(test)]
 mod shared;

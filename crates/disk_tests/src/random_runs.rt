@@ -1,58 +1,14 @@
 //! Random commits and checkpoints with a cut in every call, and a store on a file of the system.
-ghost use Rattle.std.specs.Prelude.{◌≡◌, false, true, OnOk, IfOk};
+ghost use Rattle.std.specs.Prelude.{◌≡◌, ◌<◌, false, true, IfOk, length};
 ghost use Rattle.journal.specs.Journal.{IsAtRest};
 
-use crate::journals::{DIGEST, is_made, kept, worked};
-use crate::shared::{disk_of, new_file, path_of};
-use agent_base::Failed;
+use crate::journals::{is_made, kept, worked};
+use crate::shared::{Bodies, DIGEST, add, disk_of, new_file, path_of};
 use disk_model::{Cut, Disk, FileDisk};
-use journal::{Journal, OpenFault, Replay, ReplayFault};
+use journal::{Journal, OpenFault};
 use std::alloc::Global;
 use std::fs;
 use std::test::Fail;
-
-// The bodies of the changes behind one another. Contracts see one state, whatever comes.
-#[derive(Debug, Drop)]
-struct Written {
-    bytes: Vec<u8>,
-}
-
-impl Replay for Written {
-    ghost use Rattle.std.specs.Prelude.{◌≡◌, ℕ};
-    ghost use Rattle.std.proofs.Common.{sym, ◌∙◌};
-
-    ghost State = { ℕ };
-
-    ghost state = { λ r. 0 };
-
-    ghost empty = { 0 };
-
-    ghost takes = { λ s kind body t n. (t ≡ 0) × (n ≡ 1) };
-
-    ghost refuses = { λ s kind body o. ⊥ };
-
-    ghost one_state = { λ s kind body t u m n one two. one.0 ∙ sym two.0 };
-
-    ghost one_count = { λ s kind body t u m n one two. one.1 ∙ sym two.1 };
-
-    ghost one_fault = { λ s kind body o p one two. absurd one };
-
-    ghost apart = { λ s kind body t n o took refused. refused };
-
-    fn begin(&mut self) {
-        self.bytes.clear();
-    }
-
-    fn frame(&mut self, snapshot: bool, body: &[u8]) -> Result<u64, ReplayFault> {
-        if snapshot {
-            self.bytes.clear();
-        }
-        let Ok(()) = self.bytes.extend_from_slice(body) else {
-            return Err(ReplayFault::NoMemory);
-        };
-        Ok(1)
-    }
-}
 
 // The next of a row of numbers that the first one fixes.
 fn next_number(number: u64) -> u64 {
@@ -62,37 +18,13 @@ fn next_number(number: u64) -> u64 {
 }
 
 // A body of 1 to 16 bytes.
-fn body_of(alloc: Global, number: u64) -> Result<Vec<u8>, Fail> {
+fn body_of(alloc: Global, number: u64) -> Result<Vec<u8>, Fail>
+    ensures { IfOk result (λ body. 0 < length body.items) }
+{
     let bytes = number.to_le_bytes();
     let mut body = Vec::new(alloc);
     body.resize(1 + usize::from(bytes[7] % 16), bytes[4])?;
     Ok(body)
-}
-
-// A commit or a checkpoint of this body, in room that it makes.
-fn add<D: Disk>(
-    journal: &mut Journal,
-    disk: &mut D,
-    is_snapshot: bool,
-    body: &[u8],
-) -> Result<(), Failed>
-    requires usable { journal.old.shut ≡ false }
-    requires at_rest { IsAtRest journal.old (D.view disk.old) }
-    ensures usable { OnOk result (journal.new.shut ≡ false) }
-    ensures at_rest { OnOk result (IsAtRest journal.new (D.view disk.new)) }
-{
-    let Ok(()) = journal.reserve(disk, body.len()) else {
-        return Err(Failed);
-    };
-    let done = if is_snapshot {
-        journal.checkpoint(disk, body)
-    } else {
-        journal.commit(disk, body, 1)
-    };
-    let Ok(()) = done else {
-        return Err(Failed);
-    };
-    Ok(())
 }
 
 // The bodies that were committed, and these with the one that was being committed.
@@ -137,9 +69,7 @@ fn course_of<D: Disk>(alloc: Global, disk: &mut D, seed: u64, steps: u32) -> Res
         before: Vec::new(alloc),
         after: Vec::new(alloc),
     };
-    let mut into = Written {
-        bytes: Vec::new(alloc),
-    };
+    let mut into = Bodies::new(alloc);
     let Ok(mut journal) = Journal::open(alloc, disk, &DIGEST, false, &mut into) else {
         return Ok(course);
     };
@@ -155,9 +85,7 @@ fn course_of<D: Disk>(alloc: Global, disk: &mut D, seed: u64, steps: u32) -> Res
 
 // The bodies that the store has after a restart.
 fn restarted<D: Disk>(alloc: Global, disk: &mut D) -> Result<Result<Vec<u8>, OpenFault>, Fail> {
-    let mut into = Written {
-        bytes: Vec::new(alloc),
-    };
+    let mut into = Bodies::new(alloc);
     let Ok(()) = disk.restart() else {
         return Ok(Err(OpenFault::DeviceFault));
     };

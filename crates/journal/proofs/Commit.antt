@@ -6,7 +6,7 @@ use Rattle.disk_model.specs.Disk.{Holds, Written}
 use Rattle.journal.specs.Append.{Same, IsAppending}
 use Rattle.journal.specs.Store.{IsClosed, IsOpen, Frame, encoded, frame_len, FramesAt, AreSized, Head, IsStore}
 use Rattle.journal.specs.Journal.{IsBeforeOrAfter}
-use Rattle.journal.specs.Between.{IsRegion}
+use Rattle.journal.specs.CheckpointParts.{IsRegion}
 use Rattle.journal.proofs.Ranges.{same_within, torn_before, written_before}
 use Rattle.journal.proofs.Sized.{sized_push}
 use Rattle.journal.proofs.Frames.{length-encoded, frames_len-append, frames_onto, frames_end, closed_same, head_same}

@@ -6,7 +6,7 @@ use Rattle.disk_model.specs.Disk.{View, Goes, LeavesOnly, Written}
 use Rattle.journal.specs.Append.{IsAppending}
 use Rattle.journal.specs.Store.{Frame, encoded, base_of}
 use Rattle.journal.specs.Journal.{JournalView, Stands, IsAtRest, next_frame, IsBeforeOrAfter}
-use Rattle.journal.specs.Between.{IsRegion}
+use Rattle.journal.specs.CheckpointParts.{IsRegion}
 use Rattle.journal.proofs.Moments.{weaker, goes_from, goes_back}
 use Rattle.journal.proofs.Frames.{last_of-push}
 use Rattle.journal.proofs.Commit.{gate_place, image, longer}

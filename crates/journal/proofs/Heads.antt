@@ -5,7 +5,7 @@ use Rattle.std.proofs.lemmas.Bool.{cases_eq}
 use Rattle.disk_model.specs.Disk.{Holds}
 use Rattle.journal.specs.Store.{IsOpen, IsClosed, Head, IsOlder, slot_bytes}
 use Rattle.journal.specs.HeadFault.{IsLive, IsFront}
-use Rattle.journal.specs.Read.{IsNext, IsSlotRead, IsHeadRead}
+use Rattle.journal.specs.ReaderAnswers.{IsNext, IsSlotRead, IsHeadRead}
 use Rattle.journal.specs.declared.head.HeadRead.{HeadRead}
 use Rattle.journal.specs.declared.head.HeadRead.TheVariants.{Live, Bad, Other}
 use Rattle.journal.proofs.Unique.{same_number}

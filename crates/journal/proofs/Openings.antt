@@ -1,15 +1,20 @@
 -- What an opening leaves.
 use Rattle.std.proofs.Common.{◌≡◌, inl, inr, ℕ, ◌<◌, ◌≤◌, Bool, true, false, List, length, slice_index, arith, sym, ◌∙◌, ap, subst}
 use Rattle.std.specs.Prelude.{◌⊎◌, Result, Ok, Err, IfOk, IfErr, OnOk}
-use Rattle.journal.specs.Append.{IsReady, IsSettling}
+use Rattle.std.proofs.lemmas.Bool.Decides.{nat_tests}
+use Rattle.journal.specs.Append.{IsReady, IsSettling, settle_calls}
 use Rattle.journal.specs.Store.{IsUnborn, IsOpen}
-use Rattle.journal.specs.Opening.{IsOpening, IsWithin, IsRefusal, IsStoreRefusal, limit}
+use Rattle.journal.specs.Opening.{IsOpening, IsWithin, IsRefusal, IsStoreRefusal, limit, opening_calls}
 use Rattle.journal.specs.declared.open_fault.OpenFault.{OpenFault}
 use Rattle.journal.specs.declared.open_fault.OpenFault.TheVariants.{DeviceFault, NotAStore, OtherList, TooLarge, NoMemory}
 
 pub if_all : {T E : Type 0} (r : Result T E) (A B Q : T → Type 0) (C : Type 0) → IfOk r A → IfOk r B → OnOk r C → ((v : T) → A v → B v → C → Q v) → IfOk r Q
 if_all (Ok v) A B Q C a b c to = to v a b c
 if_all (Err e) A B Q C a b c to = tt
+
+-- the first calls of an opening are not all of them
+pub settle_least : (file : List ℕ) → settle_calls file ≤ opening_calls file
+settle_least file = grind (arith, nat_tests)
 
 pub settling : (digest old new : List ℕ) → IsSettling old new → IsOpening digest old new
 settling digest old new (inl same) = inl same

@@ -1,10 +1,10 @@
 -- An opening has one refusal of a file, and none of a store.
-use Rattle.std.proofs.Common.{◌≡◌, inl, inr, ℕ, ◌<◌, Bool, true, false, List, [], ◌∷◌, length, arith, refl, sym, ◌∙◌, ap, subst}
+use Rattle.std.proofs.Common.{◌≡◌, inl, inr, ⊎_elim, ℕ, ◌<◌, Bool, true, false, List, [], ◌∷◌, length, arith, refl, sym, ◌∙◌, ap, subst}
 use Rattle.std.specs.Prelude.{◌⊎◌, Option, Some, Result, Ok, Err, IfOk, OnOk, MatchResult}
 use Rattle.journal.specs.Store.{IsOpen, Frame, FramesAt, IsStore, IsUnborn}
 use Rattle.journal.specs.Region.{Runs, IsFault, StandsFor}
 use Rattle.journal.specs.HeadFault.{IsOtherList}
-use Rattle.journal.specs.Opening.{IsWithin, IsStoreFault, IsRefusal, IsExcused, IsOfFile, limit}
+use Rattle.journal.specs.Opening.{IsWithin, IsStoreFault, IsRefusal, IsExcused, IsOfFile, IsOpening, FileMeans, limit}
 use Rattle.journal.specs.Journal.{JournalView, Stands}
 use Rattle.journal.specs.declared.open_fault.OpenFault.{OpenFault}
 use Rattle.journal.specs.declared.open_fault.OpenFault.TheVariants.{DeviceFault, NotAStore, OtherList, TooLarge, NoMemory}
@@ -23,6 +23,10 @@ store_of j file frames s = record { live = j.live; number = j.number; begin = j.
 pub store_born : (digest file : List ℕ) (frames : List Frame) → IsStore digest file frames → IsOpen file 0 × (1 < length file)
 store_born digest file frames s = (s.head.gate, omega (arith, s.from, begins_within file s.begin frames s.frames_at))
 
+store_is_born : (digest file : List ℕ) (frames : List Frame) → IsStore digest file frames → IsUnborn file → ⊥
+store_is_born digest file frames s (inl short) = let born = store_born digest file frames s in absurd (omega (arith, born.1, short))
+store_is_born digest file frames s (inr shut) = s.head.gate.1 shut
+
 module _ {S : Type 0} (takes : S → Bool → List ℕ → S → ℕ → Type 0) (refuses : S → Bool → List ℕ → ℕ → Type 0) (empty : S)
     (one_state : (s : S) (k : Bool) (b : List ℕ) (t u : S) (m n : ℕ) → takes s k b t m → takes s k b u n → t ≡ u)
     (one_count : (s : S) (k : Bool) (b : List ℕ) (t u : S) (m n : ℕ) → takes s k b t m → takes s k b u n → m ≡ n)
@@ -37,11 +41,26 @@ module _ {S : Type 0} (takes : S → Bool → List ℕ → S → ℕ → Type 0)
       runs_unique frames false one.0 t u f.last m n one.5 (subst R same two.5)
 
   -- a store stands for one state and one number
-  pub stands_unique : (digest file : List ℕ) (s t : S) (m n : ℕ) → StandsFor takes empty digest file s m → StandsFor takes empty digest file t n → (s ≡ t) × (m ≡ n)
+  stands_unique : (digest file : List ℕ) (s t : S) (m n : ℕ) → StandsFor takes empty digest file s m → StandsFor takes empty digest file t n → (s ≡ t) × (m ≡ n)
   stands_unique digest file s t m n one two =
       let same = store_unique digest file one.0 two.0 one.1 two.1 in
       let R = λ (l : List Frame). Runs takes true empty 0 l s m in
       runs_unique two.0 true empty s t 0 m n (subst R same one.2) two.2
+
+  pub means_unique : (digest file : List ℕ) (s t : S) (m n : ℕ) → FileMeans takes empty digest file s m → FileMeans takes empty digest file t n → (s ≡ t) × (m ≡ n)
+  means_unique digest file s t m n (inl one) (inl two) = stands_unique digest file s t m n one two
+  means_unique digest file s t m n (inl one) (inr two) = absurd (store_is_born digest file one.0 one.1 two.0)
+  means_unique digest file s t m n (inr one) (inl two) = absurd (store_is_born digest file two.0 two.1 one.0)
+  means_unique digest file s t m n (inr one) (inr two) = (one.1 ∙ sym two.1, one.2 ∙ sym two.2)
+
+  -- a cut during an opening changes nothing of what a file stands for
+  pub opening_means : (digest old new : List ℕ) (s : S) (n : ℕ) → FileMeans takes empty digest old s n → IsOpening digest old new → FileMeans takes empty digest new s n
+  opening_means digest old new s n means (inl same) = subst (λ (f : List ℕ). FileMeans takes empty digest f s n) (sym same) means
+  opening_means digest old new s n (inl means) (inr made) = absurd (store_is_born digest old means.0 means.1 made.0)
+  opening_means digest old new s n (inr means) (inr made) = ⊎_elim
+      (λ (unborn : IsUnborn new). inr (unborn, means.1, means.2))
+      (λ (store : IsStore digest new []). inl ([], store, (sym means.1, sym means.2)))
+      made.1
 
   store_fault : (digest file : List ℕ) (a b : ℕ) → IsStoreFault takes refuses empty digest file a → IsStoreFault takes refuses empty digest file b → a ≡ b
   store_fault digest file a b (inl one) (inl two) = head_fault digest file a b one two
@@ -116,7 +135,7 @@ module _ {S : Type 0} (takes : S → Bool → List ℕ → S → ℕ → Type 0)
       (usable : IfOk r (λ j. (j.shut ≡ false) × (j.digest ≡ digest)))
       (kept : IsOpen c 0 → 1 < length c → new ≡ Some c)
       (refused : (why : OpenFault) → r ≡ Err why → IsRefusal takes refuses empty limited digest c why) where
-    pub opens_store : (s : S) (n : ℕ) → IsWithin limited c → StandsFor takes empty digest c s n → MatchResult r (λ j. (state ≡ s) × (j.changes ≡ n)) IsExcused
+    opens_store : (s : S) (n : ℕ) → IsWithin limited c → StandsFor takes empty digest c s n → MatchResult r (λ j. (state ≡ s) × (j.changes ≡ n)) IsExcused
     opens_store s n within stands = by r refl opened usable
       where
         by : (x : Result JournalView OpenFault) → r ≡ x → IfOk x (λ j. (d : List ℕ) → new ≡ Some d → (frames : List Frame) × Stands j d frames × Runs takes true empty 0 frames state j.changes)
@@ -130,12 +149,20 @@ module _ {S : Type 0} (takes : S → Bool → List ℕ → S → ℕ → Type 0)
             runs_unique stands.0 true empty state s 0 j.changes n (subst R same found.2) stands.2
         by (Err w) e o u = store_right limited digest c stands.0 s n w within stands.1 stands.2 (refused w e)
 
-    pub opens_unborn : IfOk r (λ j. IsUnborn c → (state ≡ empty) × (j.changes ≡ 0)) → IsWithin limited c → IsUnborn c → MatchResult r (λ j. (state ≡ empty) × (j.changes ≡ 0)) IsExcused
+    opens_unborn : IfOk r (λ j. IsUnborn c → (state ≡ empty) × (j.changes ≡ 0)) → IsWithin limited c → IsUnborn c → MatchResult r (λ j. (state ≡ empty) × (j.changes ≡ 0)) IsExcused
     opens_unborn made within u = by r refl made
       where
         by : (x : Result JournalView OpenFault) → r ≡ x → IfOk x (λ j. IsUnborn c → (state ≡ empty) × (j.changes ≡ 0)) → MatchResult x (λ j. (state ≡ empty) × (j.changes ≡ 0)) IsExcused
         by (Ok j) e m = m u
         by (Err w) e m = unborn_right limited digest c w within u (refused w e)
+
+    pub opens_means : IfOk r (λ j. IsUnborn c → (state ≡ empty) × (j.changes ≡ 0)) → (s : S) (n : ℕ) → IsWithin limited c → FileMeans takes empty digest c s n
+        → MatchResult r (λ j. (state ≡ s) × (j.changes ≡ n)) IsExcused
+    opens_means made s n within (inl stands) = opens_store s n within stands
+    opens_means made s n within (inr unborn) =
+        let M = λ (t : S). MatchResult r (λ j. (state ≡ t) × (j.changes ≡ 0)) IsExcused in
+        let N = λ (k : ℕ). MatchResult r (λ j. (state ≡ s) × (j.changes ≡ k)) IsExcused in
+        subst N (sym unborn.2) (subst M (sym unborn.1) (opens_unborn made within unborn.0))
 
     born_refused : (why : OpenFault) → IsOfFile why → IsRefusal takes refuses empty limited digest c why → IsWithin limited c → IsOpen c 0 × (1 < length c)
     born_refused DeviceFault of_file cause within = absurd of_file

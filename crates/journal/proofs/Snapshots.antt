@@ -6,7 +6,7 @@ use Rattle.std.proofs.lemmas.List.{append-nil}
 use Rattle.disk_model.specs.Disk.{Holds, Torn, Written}
 use Rattle.journal.specs.Append.{Same, IsAppending, IsStaging, IsStaged}
 use Rattle.journal.specs.Store.{IsClosed, IsOpen, Frame, encoded, frames_len, FramesAt, slot_at, slot_bytes, other_at, IsOlder, magic, version_bytes, Head, IsStore}
-use Rattle.journal.specs.Between.{IsApart, IsBetween, IsRegion}
+use Rattle.journal.specs.CheckpointParts.{IsApart, IsBetween, IsRegion}
 use Rattle.journal.proofs.Ranges.{same_within, same_then, same_here, holds_same, torn_before, torn_behind, written_holds}
 use Rattle.journal.proofs.Commit.{holds_front, holds_back, closed_behind}
 use Rattle.journal.proofs.Frames.{frames_onto, frames_end, closed_same, open_same}

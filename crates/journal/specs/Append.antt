@@ -1,5 +1,6 @@
 -- A block behind a gate byte, as the images of an append have it.
-use Rattle.std.specs.Prelude.{◌≡◌, ◌⊎◌, ℕ, ◌+◌, ◌<◌, ◌≤◌, List, length, slice_index, nat_le, if◌then◌else◌}
+use Rattle.std.specs.Prelude.{◌≡◌, ◌⊎◌, ℕ, ◌+◌, ◌<◌, ◌≤◌, List, length, slice_index, nat_le}
+use Rattle.std.specs.Prelude.{if◌then◌else◌}
 use Rattle.disk_model.specs.Disk.{Holds, Torn, Written}
 
 -- the bytes from a on, below b, are there and the same
@@ -19,16 +20,19 @@ IsStaging at n slot m old new = (mid : List ℕ) × Torn at n old mid × Torn sl
 
 -- two writes, one after the other
 abbrev pub IsStaged : ℕ → List ℕ → ℕ → List ℕ → List ℕ → List ℕ → Type 0
-IsStaged at block slot piece old new = (mid : List ℕ) × Written at block old mid × Written slot piece mid new
+IsStaged at block slot piece old new = (mid : List ℕ) × Written at block old mid
+    × Written slot piece mid new
 
 -- a file of more than one byte stays, and another has a closed byte
 abbrev pub IsReady : List ℕ → List ℕ → Type 0
-IsReady old new = ((1 < length old) × (new ≡ old)) ⊎ ((length old ≤ 1) × (length new ≡ 1) × (slice_index new 0 ≡ 0))
+IsReady old new = ((1 < length old) × (new ≡ old))
+    ⊎ ((length old ≤ 1) × (length new ≡ 1) × (slice_index new 0 ≡ 0))
 
 -- a cut meanwhile leaves the file, or a byte of a file that had at most one
 abbrev pub IsSettling : List ℕ → List ℕ → Type 0
 IsSettling old new = (new ≡ old) ⊎ ((length old ≤ 1) × (length new ≤ 1))
 
--- how many changing calls that takes: one sync, and for a file of at most one byte a write and a sync
+-- how many changing calls that takes: one sync, and for a file of at most one byte a write and a
+-- sync
 abbrev pub settle_calls : List ℕ → ℕ
 settle_calls file = if nat_le (length file) 1 then 3 else 1

@@ -1,8 +1,10 @@
 -- The first fault of the head of a file that is not unborn.
 -- Our own choice: the rows and their order. Each row holds only where none before it does.
-use Rattle.std.specs.Prelude.{◌≡◌, ◌≢◌, ◌⊎◌, ℕ, ◌+◌, ◌^◌, ◌<◌, ◌≤◌, Bool, List, length, replicate, if◌then◌else◌}
+use Rattle.std.specs.Prelude.{◌≡◌, ◌≢◌, ◌⊎◌, ℕ, ◌+◌, ◌^◌, ◌<◌, ◌≤◌, Bool, List, length, replicate}
+use Rattle.std.specs.Prelude.{if◌then◌else◌}
 use Rattle.disk_model.specs.Disk.{Holds}
-use Rattle.journal.specs.Store.{IsOpen, IsClosed, IsOlder, magic, version_bytes, slot_at, other_at, slot_bytes}
+use Rattle.journal.specs.Store.{IsOpen, IsClosed, IsOlder, magic, version_bytes, slot_at, other_at}
+use Rattle.journal.specs.Store.{slot_bytes}
 
 -- what stands before the slots is right
 pub record IsFront (digest file : List ℕ) : Type 0 where

@@ -1,8 +1,10 @@
 -- A journal, as contracts see it, and what it and its disk owe each other between two calls.
 -- Our own choice: the journal keeps no frames. `Stands` says of a file which frames it has.
-use Rattle.std.specs.Prelude.{◌≡◌, ℕ, ◌+◌, ◌-◌, ◌%◌, ◌^◌, ◌<◌, ◌≤◌, Bool, true, false, List, [], ◌∷◌, ◌++◌, ◌⊎◌, Some}
+use Rattle.std.specs.Prelude.{◌≡◌, ℕ, ◌+◌, ◌-◌, ◌%◌, ◌^◌, ◌<◌, ◌≤◌, nat_le, if◌then◌else◌, Bool}
+use Rattle.std.specs.Prelude.{true, false, List, [], ◌∷◌, ◌++◌, ◌⊎◌, Some}
 use Rattle.disk_model.specs.Disk.{View, IsSettled}
-use Rattle.journal.specs.Store.{Frame, IsStore, Head, FramesAt, AreSized, frames_len, last_of, base_of}
+use Rattle.journal.specs.Store.{Frame, IsStore, Head, FramesAt, AreSized, frames_len, last_of}
+use Rattle.journal.specs.Store.{base_of}
 
 -- what an open journal knows of its file, and the room it has for a frame
 pub record JournalView : Type 0 where
@@ -40,7 +42,8 @@ pub record Stands (journal : JournalView) (file : List ℕ) (frames : List Frame
 -- the disk is as the journal left it: nothing is pending, and what it tells is the journal's store
 pub record IsAtRest (journal : JournalView) (view : View) : Type 0 where
   pub settled : IsSettled view
-  pub stands : (c : List ℕ) → view.contents ≡ Some c → (frames : List Frame) × Stands journal c frames
+  pub stands : (c : List ℕ) → view.contents ≡ Some c → (frames : List Frame)
+      × Stands journal c frames
 
 -- a commit or a checkpoint with a body of so many bytes takes no memory
 pub record HasRoom (journal : JournalView) (view : View) (body : ℕ) : Type 0 where
@@ -50,9 +53,19 @@ pub record HasRoom (journal : JournalView) (view : View) (body : ℕ) : Type 0 w
   pub fits : journal.end + body + 148 < 2 ^ 64
   pub writes : 4 ≤ view.room_writes
 
+-- where a checkpoint puts a snapshot with a body of so many bytes: behind the head, where its frame
+-- with both gates ends before the live region, and else behind that region's closed gate
+abbrev pub snapshot_at : JournalView → ℕ → ℕ
+snapshot_at journal body = if nat_le (128 + (body + 19)) journal.begin then 128 else journal.end + 1
+
 -- the frame that a commit writes
 abbrev pub next_frame : JournalView → List ℕ → ℕ → Frame
-next_frame journal body changes = record { snapshot = false; last = (journal.changes + changes) % 2 ^ 64; body = body }
+next_frame journal body changes = record {
+  snapshot = false;
+  last =
+      (journal.changes + changes) % 2 ^ 64;
+  body = body;
+}
 
 -- the frame that a checkpoint writes
 abbrev pub snapshot_frame : JournalView → List ℕ → Frame
@@ -60,7 +73,8 @@ snapshot_frame journal body = record { snapshot = true; last = journal.changes; 
 
 -- a store with these frames, or with one more
 abbrev pub IsBeforeOrAfter : List ℕ → List Frame → Frame → List ℕ → Type 0
-IsBeforeOrAfter digest frames f file = IsStore digest file frames ⊎ IsStore digest file (frames ++ f ∷ [])
+IsBeforeOrAfter digest frames f file = IsStore digest file frames
+    ⊎ IsStore digest file (frames ++ f ∷ [])
 
 -- a store with these frames, or with the snapshot alone
 abbrev pub IsBeforeOrSnapshot : List ℕ → List Frame → Frame → List ℕ → Type 0

@@ -6,5 +6,5 @@ pub mod Opening
 pub mod Journal
 -- What private functions compute. No public clause rests on it.
 pub mod Append
-pub mod Between
-pub mod Read
+pub mod CheckpointParts
+pub mod ReaderAnswers

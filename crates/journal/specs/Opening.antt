@@ -1,12 +1,17 @@
 -- What an opening does to a file, and why it is refused.
 -- Our own choice: a store over 1,073,741,824 bytes is refused where a limit is asked for; this is
 -- looked at first. Then comes whether the file is unborn, then the head, then the region.
-use Rattle.std.specs.Prelude.{◌≡◌, ◌⊎◌, ℕ, ◌^◌, ◌<◌, ◌≤◌, Bool, true, List, [], length, slice_index, nat_le, nat_eq, if◌then◌else◌}
+use Rattle.std.specs.Prelude.{◌≡◌, ◌⊎◌, ℕ, ◌^◌, ◌<◌, ◌≤◌, Bool, true, List, [], length, slice_index}
+use Rattle.std.specs.Prelude.{nat_le, nat_eq, if◌then◌else◌}
+use Rattle.std.specs.Prelude.{Result, IsErrOf, OnOk}
+use Rattle.agent_base.specs.Counts.{Rose}
+use Rattle.disk_model.specs.Disk.{View, IsPowered, HasFailed}
 use Rattle.journal.specs.Store.{IsOpen, IsStore, IsUnborn, Head}
-use Rattle.journal.specs.Region.{TakesOf, RefusesOf, IsFault}
+use Rattle.journal.specs.Region.{TakesOf, RefusesOf, IsFault, StandsFor}
 use Rattle.journal.specs.HeadFault.{IsHeadFault, IsOtherList}
 use Rattle.journal.specs.declared.open_fault.OpenFault.{OpenFault}
-use Rattle.journal.specs.declared.open_fault.OpenFault.TheVariants.{DeviceFault, NotAStore, OtherList, TooLarge, NoMemory}
+use Rattle.journal.specs.declared.open_fault.OpenFault.TheVariants.{DeviceFault, NotAStore}
+use Rattle.journal.specs.declared.open_fault.OpenFault.TheVariants.{OtherList, TooLarge, NoMemory}
 
 -- the greatest length under a limit
 abbrev pub limit : ℕ
@@ -20,7 +25,8 @@ IsWithin limited file = limited ≡ true → length file ≤ limit
 abbrev pub IsStoreFault : {S : Type 0} → TakesOf S → RefusesOf S → S → List ℕ → List ℕ → ℕ → Type 0
 IsStoreFault {S} takes refuses empty digest file offset =
     IsHeadFault digest file offset
-    ⊎ ((live : Bool) × (number : ℕ) × (begin : ℕ) × Head digest file live number begin × (128 ≤ begin)
+    ⊎ ((live : Bool) × (number : ℕ) × (begin : ℕ) × Head digest file live number begin
+    × (128 ≤ begin)
     × (begin < length file) × (begin < 2 ^ 64)
     × IsFault takes refuses file begin empty offset)
 
@@ -41,21 +47,27 @@ IsOfFile (OtherList kept given) = Unit {0}
 IsOfFile (TooLarge len) = Unit {0}
 
 -- why a born file is refused
-abbrev pub IsStoreRefusal : {S : Type 0} → TakesOf S → RefusesOf S → S → List ℕ → List ℕ → OpenFault → Type 0
-IsStoreRefusal takes refuses empty digest file (NotAStore offset) = IsStoreFault takes refuses empty digest file offset
-IsStoreRefusal takes refuses empty digest file (OtherList kept given) = (given ≡ digest) × IsOtherList digest file kept
+abbrev pub IsStoreRefusal : {S : Type 0} → TakesOf S → RefusesOf S → S → List ℕ → List ℕ → OpenFault
+    → Type 0
+IsStoreRefusal takes refuses empty digest file
+    (NotAStore offset) = IsStoreFault takes refuses empty digest file offset
+IsStoreRefusal takes refuses empty digest file (OtherList kept given) = (given ≡ digest)
+    × IsOtherList digest file kept
 IsStoreRefusal takes refuses empty digest file (TooLarge len) = ⊥
 IsStoreRefusal takes refuses empty digest file DeviceFault = ⊥
 IsStoreRefusal takes refuses empty digest file NoMemory = Unit {0}
 
 -- why an opening is refused
-abbrev pub IsRefusal : {S : Type 0} → TakesOf S → RefusesOf S → S → Bool → List ℕ → List ℕ → OpenFault → Type 0
+abbrev pub IsRefusal : {S : Type 0} → TakesOf S → RefusesOf S → S → Bool → List ℕ → List ℕ
+    → OpenFault → Type 0
 IsRefusal takes refuses empty limited digest file (TooLarge len) = (limited ≡ true)
     × (len ≡ length file) × (limit < len)
 IsRefusal takes refuses empty limited digest file (NotAStore offset) =
-    IsWithin limited file × IsOpen file 0 × (1 < length file) × IsStoreFault takes refuses empty digest file offset
+    IsWithin limited file × IsOpen file 0 × (1 < length file)
+    × IsStoreFault takes refuses empty digest file offset
 IsRefusal takes refuses empty limited digest file (OtherList kept given) =
-    IsWithin limited file × IsOpen file 0 × (1 < length file) × (given ≡ digest) × IsOtherList digest file kept
+    IsWithin limited file × IsOpen file 0 × (1 < length file) × (given ≡ digest)
+    × IsOtherList digest file kept
 IsRefusal takes refuses empty limited digest file DeviceFault = Unit {0}
 IsRefusal takes refuses empty limited digest file NoMemory = Unit {0}
 
@@ -64,6 +76,30 @@ IsRefusal takes refuses empty limited digest file NoMemory = Unit {0}
 abbrev pub IsOpening : List ℕ → List ℕ → List ℕ → Type 0
 IsOpening digest old new = (new ≡ old) ⊎ (IsUnborn old × (IsUnborn new ⊎ IsStore digest new []))
 
+-- what a file stands for: a store for what its frames lead to, and an unborn file for the empty
+-- state
+-- with 0 changes
+abbrev pub FileMeans : {S : Type 0} → TakesOf S → S → List ℕ → List ℕ → S → ℕ → Type 0
+FileMeans takes empty digest file s n =
+    StandsFor takes empty digest file s n ⊎ (IsUnborn file × (s ≡ empty) × (n ≡ 0))
+
+-- no call of the disk has failed
+pub record HasNoFault (old new : View) : Type 0 where
+  pub faults : new.faults ≡ old.faults
+  pub off : new.off ≡ old.off
+  pub failures : new.failures ≡ old.failures
+  pub cuts : new.cuts ≡ old.cuts
+
+-- an opening answers a device fault exactly where a call of the disk failed
+pub record Opens {T : Type 0} (result : Result T OpenFault) (old new : View) : Type 0 where
+  pub tells : new.tells ≡ old.tells
+  pub later : old.faults ≤ new.faults
+  pub counted : IsErrOf result DeviceFault → Rose old.faults new.faults
+  pub failed : IsErrOf result DeviceFault → HasFailed old new
+  pub only : IsErrOf result DeviceFault ⊎ HasNoFault old new
+  pub ok : OnOk result (IsPowered old new)
+
 -- how many changing calls an opening makes
 abbrev pub opening_calls : List ℕ → ℕ
-opening_calls file = if nat_le (length file) 1 then 7 else if nat_eq (slice_index file 0) 0 then 5 else 1
+opening_calls file = if nat_le (length file) 1 then 7 else if nat_eq
+    (slice_index file 0) 0 then 5 else 1

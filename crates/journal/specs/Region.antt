@@ -2,7 +2,8 @@
 -- Our own choice: a snapshot stands only at the beginning of a region. Changes have a body that is
 -- not empty, and their number is the one before them and their count, modulo 2^64. Faults come in
 -- the order of `IsFaultAt`. What a body means is given by two relations, of the caller.
-use Rattle.std.specs.Prelude.{◌≡◌, ◌≢◌, ◌⊎◌, ℕ, ◌+◌, ◌%◌, ◌^◌, ◌<◌, ◌≤◌, Bool, true, false, List, [], ◌∷◌, length, slice_index, if◌then◌else◌}
+use Rattle.std.specs.Prelude.{◌≡◌, ◌≢◌, ◌⊎◌, ℕ, ◌+◌, ◌%◌, ◌^◌, ◌<◌, ◌≤◌, Bool, true, false, List}
+use Rattle.std.specs.Prelude.{[], ◌∷◌, length, slice_index, if◌then◌else◌}
 use Rattle.std.specs.Int.{w64, to_le_bytes}
 use Rattle.disk_model.specs.Disk.{Holds}
 use Rattle.journal.specs.Store.{Frame, IsOpen, IsStore, AreSized, encoded, frame_len, frames_len}
@@ -48,18 +49,21 @@ StandsFor takes empty digest file s n = (frames : List Frame) × IsStore digest 
 -- these frames stand behind open gates, whatever follows
 abbrev pub OpensAt : List ℕ → ℕ → List Frame → Type 0
 OpensAt file at [] = Unit {0}
-OpensAt file at (f ∷ frames) = IsOpen file at × Holds file (at + 1) (encoded f) × OpensAt file (at + frame_len f) frames
+OpensAt file at (f ∷ frames) = IsOpen file at × Holds file (at + 1) (encoded f)
+    × OpensAt file (at + frame_len f) frames
 
 -- no gate, or a frame that passes the file's end
 abbrev pub IsCut : List ℕ → ℕ → Type 0
 IsCut file at =
     (length file ≤ at)
     ⊎ (IsOpen file at × ((length file < at + 18)
-    ⊎ ((n : ℕ) × (n < 2 ^ 64) × Holds file (at + 10) (to_le_bytes w64 n) × (length file < at + 18 + n))))
+    ⊎ ((n : ℕ) × (n < 2 ^ 64) × Holds file (at + 10) (to_le_bytes w64 n)
+    × (length file < at + 18 + n))))
 
 -- a frame with a body of that size lies within the file
 abbrev pub IsSized : List ℕ → ℕ → ℕ → Type 0
-IsSized file at size = IsOpen file at × Holds file (at + 10) (to_le_bytes w64 size) × (at + 18 + size ≤ length file)
+IsSized file at size = IsOpen file at × Holds file (at + 10) (to_le_bytes w64 size)
+    × (at + 18 + size ≤ length file)
 
 -- a wrong kind: neither changes nor a snapshot, or a snapshot behind another frame
 abbrev pub IsWrongKind : List ℕ → ℕ → Bool → Type 0
@@ -79,12 +83,14 @@ IsFrameAt file at fresh f =
 -- The first fault of what stands at an offset, from a state and a number. First a frame that is cut
 -- off, second its kind, third an empty body, fourth the body's first fault, fifth its number.
 -- `refuses s kind body o` says that the body has its first fault at o.
-abbrev pub IsFaultAt : {S : Type 0} → TakesOf S → RefusesOf S → List ℕ → ℕ → Bool → S → ℕ → ℕ → Type 0
+abbrev pub IsFaultAt : {S : Type 0} → TakesOf S → RefusesOf S → List ℕ → ℕ → Bool → S → ℕ → ℕ
+    → Type 0
 IsFaultAt {S} takes refuses file at fresh s last offset =
     (IsCut file at × (offset ≡ at))
     ⊎ ((IsWrongKind file at fresh × (offset ≡ at + 1))
     ⊎ ((IsEmpty file at × (offset ≡ at + 10))
-    ⊎ (((f : Frame) × IsFrameAt file at fresh f × ((o : ℕ) × refuses s f.snapshot f.body o × (offset ≡ at + 18 + o)))
+    ⊎ (((f : Frame) × IsFrameAt file at fresh f
+    × ((o : ℕ) × refuses s f.snapshot f.body o × (offset ≡ at + 18 + o)))
     ⊎ ((f : Frame) × IsFrameAt file at fresh f × ((t : S) × (n : ℕ) × takes s f.snapshot f.body t n
     × (IsRightLast f.snapshot last n f.last → ⊥) × (offset ≡ at + 2))))))
 

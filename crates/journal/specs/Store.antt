@@ -3,7 +3,8 @@
 --   0 gate; 1 `PBSTORE`; 8 version 1 (four bytes); 12 SHA-256 of the suffix list (32 bytes);
 --   44 and 61 two slots of a gate, a number and a begin (1, 8 and 8 bytes); 78 fifty zeros;
 --   128 the first region. A gate is closed where its byte is 0, and open at every other value.
-use Rattle.std.specs.Prelude.{◌≡◌, ◌≢◌, ◌⊎◌, ℕ, ◌+◌, ◌%◌, ◌^◌, ◌<◌, ◌≤◌, Bool, List, [], ◌∷◌, ◌++◌, length, replicate, slice_index, if◌then◌else◌}
+use Rattle.std.specs.Prelude.{◌≡◌, ◌≢◌, ◌⊎◌, ℕ, ◌+◌, ◌%◌, ◌^◌, ◌<◌, ◌≤◌, Bool, List, [], ◌∷◌, ◌++◌}
+use Rattle.std.specs.Prelude.{length, replicate, slice_index, if◌then◌else◌}
 use Rattle.std.specs.Int.{w64, to_le_bytes}
 use Rattle.disk_model.specs.Disk.{Holds}
 
@@ -23,7 +24,8 @@ pub record Frame : Type 0 where
 
 -- what stands behind a frame's gate: kind, last, size and body
 unfoldable pub encoded : Frame → List ℕ
-encoded f = (if f.snapshot then 2 else 1) ∷ [] ++ to_le_bytes w64 f.last ++ to_le_bytes w64 (length f.body) ++ f.body
+encoded f = (if f.snapshot then 2 else 1) ∷ [] ++ to_le_bytes w64 f.last ++ to_le_bytes w64
+    (length f.body) ++ f.body
 
 -- how many bytes a frame has, with its gate
 abbrev pub frame_len : Frame → ℕ
@@ -112,4 +114,5 @@ IsUnborn file = (length file ≤ 1) ⊎ (slice_index file 0 ≡ 0)
 
 -- what stands behind the gate of a new store's head, and the closed gate of its region
 abbrev pub new_head : List ℕ → List ℕ
-new_head digest = magic ++ version_bytes ++ digest ++ (1 ∷ slot_bytes 1 128) ++ replicate 17 0 ++ replicate 50 0 ++ 0 ∷ []
+new_head digest = magic ++ version_bytes ++ digest ++
+    (1 ∷ slot_bytes 1 128) ++ replicate 17 0 ++ replicate 50 0 ++ 0 ∷ []

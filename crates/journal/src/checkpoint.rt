@@ -1,9 +1,12 @@
-// A checkpoint: a snapshot in the place of the frames, by the two slots of the head.
-ghost use Rattle.std.specs.Prelude.{◌≡◌, ◌⊎◌, is_err, ◌+◌, ◌-◌, ◌%◌, ◌<◌, ◌≤◌, ◌^◌, ◌++◌, ◌∷◌, [], min, not, Bool, List, ℕ, length, slice_index, Some, true, false, IfOk, OnOk, OnErr};
-ghost use Rattle.disk_model.specs.Disk.{IsSettled, LeavesOnly, Counts, Strikes, Stays, UsesRoom};
+//! A checkpoint: a snapshot in the place of the frames, by the two slots of the head.
+ghost use Rattle.std.specs.Prelude.{◌≡◌, ◌⊎◌, is_err, ◌+◌, ◌-◌, ◌%◌, ◌<◌, ◌≤◌, ◌^◌, ◌++◌, ◌∷◌, []};
+ghost use Rattle.std.specs.Prelude.{not, Bool, List, ℕ, length, slice_index, Some, true, false};
+ghost use Rattle.std.specs.Prelude.{IfOk, OnOk, OnErr, nat_le, if◌then◌else◌};
+ghost use Rattle.disk_model.specs.Disk.{IsSettled, LeavesOnly, Stays, Device};
 ghost use Rattle.journal.specs.Store.{Frame, IsStore, encoded, slot_bytes, other_at};
-ghost use Rattle.journal.specs.Journal.{JournalView, Stands, IsAtRest, HasRoom, IsBeforeOrSnapshot, snapshot_frame, since_of};
-ghost use Rattle.journal.specs.Between.{IsRegion, IsApart, IsBetween};
+ghost use Rattle.journal.specs.Journal.{JournalView, Stands, IsAtRest, HasRoom, IsBeforeOrSnapshot};
+ghost use Rattle.journal.specs.Journal.{snapshot_frame, snapshot_at, since_of};
+ghost use Rattle.journal.specs.CheckpointParts.{IsRegion, IsApart, IsBetween, Switches};
 
 use crate::gated::{append, stage};
 use crate::journal::{DeviceFault, Journal, fill};
@@ -13,11 +16,10 @@ use disk_model::Disk;
 // One byte of the file.
 fn byte_at<D: Disk>(disk: &mut D, at: u64) -> Result<u8, Failed>
     requires { (c : List ℕ) → (D.view disk.old).contents ≡ Some c → at + 1 ≤ length c }
-    ensures byte { IfOk result (λ b. (c : List ℕ) → (D.view disk.old).contents ≡ Some c → slice_index c at ≡ b) }
+    ensures byte { IfOk result (λ b. (c : List ℕ) → (D.view disk.old).contents ≡ Some c
+        → slice_index c at ≡ b) }
     ensures stays { Stays (D.view disk.old) (D.view disk.new) }
-    ensures faults { Counts result (D.view disk.old) (D.view disk.new) }
-    ensures strikes { Strikes result (D.view disk.old) (D.view disk.new) }
-    ensures room { UsesRoom 0 (D.view disk.old) (D.view disk.new) }
+    ensures device { Device 0 0 result (D.view disk.old) (D.view disk.new) }
 {
     let mut byte = [0];
     disk.read_at(at, &mut byte)?;
@@ -40,29 +42,31 @@ fn stage_snapshot<D: Disk>(
     block: &[u8],
 ) -> Result<(), Failed>
     requires settled { IsSettled (D.view disk.old) }
-    requires place { (c : List ℕ) → (D.view disk.old).contents ≡ Some c → (to ≤ length c) × (129 ≤ length c) }
+    requires place { (c : List ℕ) → (D.view disk.old).contents ≡ Some c → (to ≤ length c)
+        × (129 ≤ length c) }
     requires room { to + length block.now ≤ (D.view disk.old).room_end }
     requires head_room { 129 ≤ (D.view disk.old).room_end }
     requires writes { 2 ≤ (D.view disk.old).room_writes }
-    ensures any_moment { (c digest : List ℕ) (begin end : ℕ) (frames : List Frame) → (D.view disk.old).contents ≡ Some c
+    ensures any_moment { (c digest : List ℕ) (begin end : ℕ) (frames : List Frame)
+        → (D.view disk.old).contents ≡ Some c
         → IsRegion digest c live number begin end frames → IsApart to (length block.now) begin end
         → LeavesOnly (D.view disk.old) (D.view disk.new) (λ image. IsStore digest image frames) }
-    ensures between { OnOk result ((c digest : List ℕ) (begin end : ℕ) (frames : List Frame) (f : Frame)
+    ensures between { OnOk result
+        ((c digest : List ℕ) (begin end : ℕ) (frames : List Frame) (f : Frame)
         → (D.view disk.old).contents ≡ Some c
         → IsRegion digest c live number begin end frames → IsApart to (length block.now) begin end
         → block.now ≡ 1 ∷ encoded f ++ 0 ∷ []
-        → (d : List ℕ) × ((D.view disk.new).contents ≡ Some d) × IsBetween digest d live number begin frames to f) }
-    ensures long { OnOk result ((d : List ℕ) → (D.view disk.new).contents ≡ Some d → 129 ≤ length d) }
+        → (d : List ℕ) × ((D.view disk.new).contents ≡ Some d)
+        × IsBetween digest d live number begin frames to f) }
+    ensures long { OnOk result ((d : List ℕ) → (D.view disk.new).contents ≡ Some d
+        → 129 ≤ length d) }
     ensures settled { OnOk result (IsSettled (D.view disk.new)) }
-    ensures faults { Counts result (D.view disk.old) (D.view disk.new) }
-    ensures strikes { Strikes result (D.view disk.old) (D.view disk.new) }
-    ensures calls { (D.view disk.new).changing ≤ (D.view disk.old).changing + 3 }
-    ensures all_calls { OnOk result (min ((D.view disk.old).changing + 3) (2 ^ 64 - 1) ≤ (D.view disk.new).changing) }
-    ensures room { UsesRoom 2 (D.view disk.old) (D.view disk.new) }
+    ensures device { Device 3 2 result (D.view disk.old) (D.view disk.new) }
 {
     let other = other_slot(live);
     let gate = byte_at(disk, other)?;
     if gate == 0 {
+        // A closed gate is not written again: until the sync a cut may leave any byte there.
         stage(
             disk,
             to,
@@ -84,6 +88,32 @@ fn slot_piece(number: u64, begin: u64) -> [u8; 16]
     [a, b, c, d, e, f, g, h, i, j, k, l, m, n, o, p]
 }
 
+// A snapshot's frame at a place of its own, and then the other slot, which tells of it.
+fn switch<D: Disk>(
+    disk: &mut D,
+    live: bool,
+    number: u64,
+    to: u64,
+    block: &[u8],
+) -> Result<(), Failed>
+    requires settled { IsSettled (D.view disk.old) }
+    requires place { (c : List ℕ) → (D.view disk.old).contents ≡ Some c → (to ≤ length c)
+        × (129 ≤ length c) }
+    requires room { to + length block.now ≤ (D.view disk.old).room_end }
+    requires head_room { 129 ≤ (D.view disk.old).room_end }
+    requires writes { 4 ≤ (D.view disk.old).room_writes }
+    ensures switches { Switches result (D.view disk.old)
+        (D.view disk.new) live number to block.now }
+    ensures device { Device 7 4 result (D.view disk.old) (D.view disk.new) }
+{
+    stage_snapshot(disk, live, number, to, block)?;
+    append(
+        disk,
+        other_slot(live),
+        &slot_piece(number.wrapping_add(1), to),
+    )
+}
+
 // Where a snapshot of so many bytes, with both gates, goes: before the live region, or behind it.
 fn snapshot_place(len: u64, begin: u64, end: u64) -> u64
     requires fits { end + 1 < 18446744073709551616 }
@@ -91,12 +121,14 @@ fn snapshot_place(len: u64, begin: u64, end: u64) -> u64
     requires order { (128 ≤ begin) × (begin ≤ end) }
     ensures apart { IsApart result len begin end }
     ensures within { result ≤ end + 1 }
+    ensures place { result ≡ (if nat_le (128 + len) begin then 128 else end + 1) }
 {
     if 128 + len <= begin { 128 } else { end + 1 }
 }
 
 impl Journal {
-    /// Puts a snapshot of the state in the place of the frames. Takes no memory. Seven changing calls.
+    /// Puts a snapshot of the state in the place of the frames. Takes no memory. Seven changing
+    /// calls.
     ///
     /// The number of changes stays. After `DeviceFault` the journal is shut, and the store has the
     /// frames from before or the snapshot.
@@ -112,37 +144,38 @@ impl Journal {
             × Stands self.new d (snapshot_frame self.old body.now ∷ [])) }
         ensures settled { OnOk result (IsSettled (D.view disk.new)) }
         ensures at_rest { OnOk result (IsAtRest self.new (D.view disk.new)) }
-        ensures counts { OnOk result ((self.new.changes ≡ self.old.changes)
-            × (self.new.base ≡ self.old.changes) × (self.new.digest ≡ self.old.digest)) }
+        ensures done { OnOk result (self.new ≡ record self.old {
+          live = not self.old.live;
+          number = (self.old.number + 1) % 2 ^ 64;
+          begin = snapshot_at self.old (length body.now);
+          end = snapshot_at self.old (length body.now) + 18 + length body.now;
+          base = self.old.changes;
+          room = self.new.room;
+        }) }
 
         // A cut at any moment leaves the frames from before, or the snapshot alone.
-        ensures any_moment { (c : List ℕ) (frames : List Frame) → (D.view disk.old).contents ≡ Some c
+        ensures any_moment { (c : List ℕ) (frames : List Frame)
+            → (D.view disk.old).contents ≡ Some c
             → Stands self.old c frames
             → LeavesOnly (D.view disk.old) (D.view disk.new)
             (IsBeforeOrSnapshot self.old.digest frames (snapshot_frame self.old body.now)) }
 
-        ensures failed { OnErr result (self.new ≡ record self.old { shut = true; room = self.new.room }) }
+        ensures failed { OnErr result
+            (self.new ≡ record self.old { shut = true; room = self.new.room }) }
         ensures shut { self.new.shut ≡ is_err result }
         ensures room { self.old.room ≤ self.new.room }
-        ensures faults { Counts result (D.view disk.old) (D.view disk.new) }
-        ensures strikes { Strikes result (D.view disk.old) (D.view disk.new) }
-        ensures calls { (D.view disk.new).changing ≤ (D.view disk.old).changing + 7 }
-        ensures all_calls { OnOk result (min ((D.view disk.old).changing + 7) (2 ^ 64 - 1) ≤ (D.view disk.new).changing) }
+        ensures device { Device 7 4 result (D.view disk.old) (D.view disk.new) }
     {
         self.shut = true;
         let Ok(()) = fill(&mut self.block, true, self.changes, body) else {
             return Err(DeviceFault);
         };
         let to = snapshot_place(self.block.len() as u64, self.begin, self.end);
-        let Ok(()) = stage_snapshot(disk, self.live, self.number, to, &self.block) else {
-            return Err(DeviceFault);
-        };
-        let next = self.number.wrapping_add(1);
-        let Ok(()) = append(disk, other_slot(self.live), &slot_piece(next, to)) else {
+        let Ok(()) = switch(disk, self.live, self.number, to, &self.block) else {
             return Err(DeviceFault);
         };
         self.live = !self.live;
-        self.number = next;
+        self.number = self.number.wrapping_add(1);
         self.begin = to;
         self.end = to + 18 + body.len() as u64;
         self.base = self.changes;

@@ -1,8 +1,8 @@
-// Numbers and frames in the bytes of a store.
+//! Numbers and frames in the bytes of a store.
 ghost use Rattle.std.specs.Prelude.{◌≡◌, ◌+◌, ◌<◌, ◌≤◌, List, ℕ, length};
 ghost use Rattle.std.specs.Int.{w64, to_le_bytes};
 ghost use Rattle.disk_model.specs.Disk.{Holds};
-ghost use Rattle.journal.specs.Read.{IsRead};
+ghost use Rattle.journal.specs.ReaderAnswers.{IsRead};
 
 // The number of eight bytes there.
 pub fn number_at(bytes: &[u8], at: usize) -> u64

@@ -1,7 +1,9 @@
-// A block is appended behind a closed gate, which is opened once the block is on the disk.
-ghost use Rattle.std.specs.Prelude.{◌≡◌, ◌+◌, ◌<◌, ◌≤◌, ◌^◌, ◌-◌, min, ◌∷◌, List, ℕ, length, Some, IfOk, OnOk};
-ghost use Rattle.disk_model.specs.Disk.{Written, Goes, IsSettled, LeavesOnly, Counts, Strikes, UsesRoom};
-ghost use Rattle.journal.specs.Append.{IsAppending, IsStaging, IsStaged, IsReady, IsSettling, settle_calls};
+//! A block is appended behind a closed gate, which is opened once the block is on the disk.
+ghost use Rattle.std.specs.Prelude.{◌≡◌, ◌+◌, ◌<◌, ◌≤◌, ◌∷◌, List, ℕ, length, Some, IfOk, OnOk};
+ghost use Rattle.disk_model.specs.Disk.{Written, Goes, IsSettled, LeavesOnly, Faults, Makes};
+ghost use Rattle.disk_model.specs.Disk.{UsesRoom, Device};
+ghost use Rattle.journal.specs.Append.{IsAppending, IsStaging, IsStaged, IsReady, IsSettling};
+ghost use Rattle.journal.specs.Append.{settle_calls};
 
 use agent_base::Failed;
 use disk_model::Disk;
@@ -14,20 +16,18 @@ pub fn append<D: Disk>(disk: &mut D, gate: u64, block: &[u8]) -> Result<(), Fail
     requires writes { 2 ≤ (D.view disk.old).room_writes }
     requires some { 0 < length block.now }
     requires fits { gate + 1 + length block.now < 18446744073709551616 }
-    ensures written { OnOk result (Goes (Written gate (1 ∷ block.now)) (D.view disk.old).contents (D.view disk.new).contents) }
+    ensures written { OnOk result
+        (Goes (Written gate (1 ∷ block.now)) (D.view disk.old).contents
+        (D.view disk.new).contents) }
     ensures settled { OnOk result (IsSettled (D.view disk.new)) }
     ensures any_moment { (c : List ℕ) → (D.view disk.old).contents ≡ Some c
         → LeavesOnly (D.view disk.old) (D.view disk.new) (IsAppending gate block.now c) }
-    ensures faults { Counts result (D.view disk.old) (D.view disk.new) }
-    ensures strikes { Strikes result (D.view disk.old) (D.view disk.new) }
-    ensures calls { (D.view disk.new).changing ≤ (D.view disk.old).changing + 4 }
-    ensures all_calls { OnOk result (min ((D.view disk.old).changing + 4) (2 ^ 64 - 1) ≤ (D.view disk.new).changing) }
-    ensures room { UsesRoom 2 (D.view disk.old) (D.view disk.new) }
+    ensures device { Device 4 2 result (D.view disk.old) (D.view disk.new) }
 {
     disk.write_at(gate + 1, block)?;
-    disk.sync()?;
+    disk.sync()?; // the block is whole on the disk before its gate may open
     disk.write_at(gate, &[1])?;
-    disk.sync()
+    disk.sync() // the gate is open on the disk before the caller is told so
 }
 
 /// Writes a block and a piece of a slot, which lie apart, and syncs.
@@ -48,16 +48,13 @@ pub fn stage<D: Disk>(
         (D.view disk.old).contents (D.view disk.new).contents) }
     ensures settled { OnOk result (IsSettled (D.view disk.new)) }
     ensures any_moment { (c : List ℕ) → (D.view disk.old).contents ≡ Some c
-        → LeavesOnly (D.view disk.old) (D.view disk.new) (IsStaging at (length block.now) slot (length piece.now) c) }
-    ensures faults { Counts result (D.view disk.old) (D.view disk.new) }
-    ensures strikes { Strikes result (D.view disk.old) (D.view disk.new) }
-    ensures calls { (D.view disk.new).changing ≤ (D.view disk.old).changing + 3 }
-    ensures all_calls { OnOk result (min ((D.view disk.old).changing + 3) (2 ^ 64 - 1) ≤ (D.view disk.new).changing) }
-    ensures room { UsesRoom 2 (D.view disk.old) (D.view disk.new) }
+        → LeavesOnly (D.view disk.old) (D.view disk.new)
+        (IsStaging at (length block.now) slot (length piece.now) c) }
+    ensures device { Device 3 2 result (D.view disk.old) (D.view disk.new) }
 {
     disk.write_at(at, block)?;
     disk.write_at(slot, piece)?;
-    disk.sync()
+    disk.sync() // both are whole on the disk before the slot's gate may open
 }
 
 /// Syncs, asks the length, and closes the first byte of a file that has at most one.
@@ -65,26 +62,26 @@ pub fn settle<D: Disk>(disk: &mut D) -> Result<u64, Failed>
     requires room { 1 ≤ (D.view disk.old).room_end }
     requires writes { 1 ≤ (D.view disk.old).room_writes }
     ensures settled { OnOk result (IsSettled (D.view disk.new)) }
-    ensures contents { OnOk result (Goes IsReady (D.view disk.old).contents (D.view disk.new).contents) }
-    ensures len { IfOk result (λ n. (d : List ℕ) → (D.view disk.new).contents ≡ Some d → n ≡ length d) }
-    ensures any_moment { IsSettled (D.view disk.old) → (c : List ℕ) → (D.view disk.old).contents ≡ Some c
+    ensures contents { OnOk result
+        (Goes IsReady (D.view disk.old).contents (D.view disk.new).contents) }
+    ensures len { IfOk result (λ n. (d : List ℕ) → (D.view disk.new).contents ≡ Some d
+        → n ≡ length d) }
+    ensures any_moment { IsSettled (D.view disk.old) → (c : List ℕ)
+        → (D.view disk.old).contents ≡ Some c
         → LeavesOnly (D.view disk.old) (D.view disk.new) (IsSettling c) }
     ensures kept { (c : List ℕ) → (D.view disk.old).contents ≡ Some c → 1 < length c
         → (D.view disk.new).contents ≡ Some c }
-    ensures faults { Counts result (D.view disk.old) (D.view disk.new) }
-    ensures strikes { Strikes result (D.view disk.old) (D.view disk.new) }
+    ensures faults { Faults result (D.view disk.old) (D.view disk.new) }
     ensures calls { (c : List ℕ) → (D.view disk.old).contents ≡ Some c
-        → (D.view disk.new).changing ≤ (D.view disk.old).changing + settle_calls c }
-    ensures all_calls { OnOk result ((c : List ℕ) → (D.view disk.old).contents ≡ Some c
-        → min ((D.view disk.old).changing + settle_calls c) (2 ^ 64 - 1) ≤ (D.view disk.new).changing) }
+        → Makes (settle_calls c) result (D.view disk.old) (D.view disk.new) }
     ensures room { UsesRoom 1 (D.view disk.old) (D.view disk.new) }
 {
-    disk.sync()?;
+    disk.sync()?; // what is read from now on is what a cut leaves
     let len = disk.len()?;
     if len > 1 {
         return Ok(len);
     }
     disk.write_at(0, &[0])?;
-    disk.sync()?;
+    disk.sync()?; // the gate is closed on the disk before the head is written behind it
     Ok(1)
 }

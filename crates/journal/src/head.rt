@@ -1,9 +1,10 @@
-// The head of a store.
-ghost use Rattle.std.specs.Prelude.{◌≡◌, ◌↔◌, ◌+◌, ◌<◌, ◌≤◌, List, ℕ, length, slice_index, Bool, replicate, Some, None, IsTrue};
+//! The head of a store.
+ghost use Rattle.std.specs.Prelude.{◌≡◌, ◌↔◌, ◌+◌, ◌<◌, ◌≤◌, List, ℕ, length, slice_index, Bool};
+ghost use Rattle.std.specs.Prelude.{replicate, Some, None, IsTrue};
 ghost use Rattle.disk_model.specs.Disk.{Holds};
 ghost use Rattle.journal.specs.Store.{slot_bytes, IsOpen};
 ghost use Rattle.journal.specs.HeadFault.{IsLive};
-ghost use Rattle.journal.specs.Read.{IsHeadRead, IsSlotRead, IsNext};
+ghost use Rattle.journal.specs.ReaderAnswers.{IsHeadRead, IsSlotRead, IsNext};
 
 use crate::fields::number_at;
 

@@ -1,9 +1,12 @@
-// The journal: frames behind gates in the live region of a store.
-ghost use Rattle.std.specs.Prelude.{◌≡◌, ◌⊎◌, ◌↔◌, ◌+◌, ◌-◌, ◌%◌, ◌^◌, ◌<◌, ◌≤◌, ◌∷◌, ◌++◌, [], min, List, ℕ, Bool, length, Some, true, false, OnOk, OnErr, is_err, vec_capacity};
-ghost use Rattle.disk_model.specs.Disk.{IsSettled, LeavesOnly, Counts, Strikes, Stays};
+//! The journal: frames behind gates in the live region of a store.
+ghost use Rattle.std.specs.Prelude.{◌≡◌, ◌⊎◌, ◌↔◌, ◌+◌, ◌-◌, ◌%◌, ◌^◌, ◌<◌, ◌≤◌, ◌∷◌, ◌++◌, []};
+ghost use Rattle.std.specs.Prelude.{List, ℕ, Bool, length, Some, true, false, OnOk, OnErr, is_err};
+ghost use Rattle.std.specs.Prelude.{vec_capacity};
+ghost use Rattle.disk_model.specs.Disk.{IsSettled, LeavesOnly, Stays, Device};
 ghost use Rattle.journal.specs.Store.{Frame, encoded};
 ghost use Rattle.journal.specs.Region.{Runs, StandsFor};
-ghost use Rattle.journal.specs.Journal.{JournalView, Stands, IsAtRest, HasRoom, IsBeforeOrAfter, next_frame, since_of};
+ghost use Rattle.journal.specs.Journal.{JournalView, Stands, IsAtRest, HasRoom, IsBeforeOrAfter};
+ghost use Rattle.journal.specs.Journal.{next_frame, since_of};
 
 use crate::gated::append;
 use agent_base::NoMemory;
@@ -73,13 +76,15 @@ impl Journal {
         ensures room { OnOk result (HasRoom self.new (D.view disk.new) body) }
         ensures same { self.new ≡ record self.old { room = self.new.room } }
         ensures grown { self.old.room ≤ self.new.room }
-        ensures stands { (c : List ℕ) (frames : List Frame) → Stands self.old c frames → Stands self.new c frames }
-        ensures at_rest { IsAtRest self.old (D.view disk.old) → IsAtRest self.new (D.view disk.new) }
+        ensures stands { (c : List ℕ) (frames : List Frame) → Stands self.old c frames
+            → Stands self.new c frames }
+        ensures at_rest { IsAtRest self.old (D.view disk.old)
+            → IsAtRest self.new (D.view disk.new) }
         ensures stays { Stays (D.view disk.old) (D.view disk.new) }
         ensures faults { (D.view disk.new).faults ≡ (D.view disk.old).faults }
         ensures power { ((D.view disk.new).off ≡ (D.view disk.old).off)
-            × ((D.view disk.new).strikes ≡ (D.view disk.old).strikes)
-            × ((D.view disk.new).spare ≡ (D.view disk.old).spare) }
+            × ((D.view disk.new).failures ≡ (D.view disk.old).failures)
+            × ((D.view disk.new).cuts ≡ (D.view disk.old).cuts) }
     {
         let size = body.checked_add(19).ok_or(NoMemory)?;
         let end = self
@@ -95,7 +100,10 @@ impl Journal {
         disk.reserve(end, 4)
     }
 
-    /// Adds a frame with this body, of so many changes. Takes no memory. Four changing calls.
+    /// Adds a frame with this body. Takes no memory. Four changing calls.
+    ///
+    /// `changes` is how many changes the body has: another number, or an empty body, is a fault of
+    /// the store where it is opened. The number is not looked at, for the journal reads no body.
     ///
     /// At `Ok` each cut from then on leaves a store that has the frame, until a checkpoint. After
     /// `DeviceFault` the journal is shut, and the store has the frames from before or these and
@@ -109,6 +117,7 @@ impl Journal {
         requires usable { self.old.shut ≡ false }
         requires at_rest { IsAtRest self.old (D.view disk.old) }
         requires room { HasRoom self.old (D.view disk.old) (length body.now) }
+        requires some { 0 < length body.now }
 
         // The new frame stands behind the old ones.
         ensures acknowledged { OnOk result ((c : List ℕ) (frames : List Frame)
@@ -124,18 +133,17 @@ impl Journal {
         }) }
 
         // A cut at any moment leaves the frames from before, or these and the new one.
-        ensures any_moment { (c : List ℕ) (frames : List Frame) → (D.view disk.old).contents ≡ Some c
+        ensures any_moment { (c : List ℕ) (frames : List Frame)
+            → (D.view disk.old).contents ≡ Some c
             → Stands self.old c frames
             → LeavesOnly (D.view disk.old) (D.view disk.new)
             (IsBeforeOrAfter self.old.digest frames (next_frame self.old body.now changes)) }
 
-        ensures failed { OnErr result (self.new ≡ record self.old { shut = true; room = self.new.room }) }
+        ensures failed { OnErr result
+            (self.new ≡ record self.old { shut = true; room = self.new.room }) }
         ensures shut { self.new.shut ≡ is_err result }
         ensures room { self.old.room ≤ self.new.room }
-        ensures faults { Counts result (D.view disk.old) (D.view disk.new) }
-        ensures strikes { Strikes result (D.view disk.old) (D.view disk.new) }
-        ensures calls { (D.view disk.new).changing ≤ (D.view disk.old).changing + 4 }
-        ensures all_calls { OnOk result (min ((D.view disk.old).changing + 4) (2 ^ 64 - 1) ≤ (D.view disk.new).changing) }
+        ensures device { Device 4 2 result (D.view disk.old) (D.view disk.new) }
     {
         let last = self.changes.wrapping_add(changes);
         self.shut = true;

@@ -1,4 +1,4 @@
-// Why a store was not opened.
+//! Why a store was not opened.
 use std::fmt::{Display, Error as Unwritten, Formatter, Write};
 use thiserror::Error;
 

@@ -1,13 +1,14 @@
-// Opens a store, or makes one.
-ghost use Rattle.std.specs.Prelude.{◌≡◌, ◌⊎◌, ◌+◌, ◌-◌, ◌^◌, ◌<◌, ◌≤◌, ◌++◌, ◌∷◌, [], min, List, ℕ, length, slice_index, true, false, Some, IfOk, IfErr, OnOk, IsErrOf, MatchResult};
-ghost use Rattle.agent_base.specs.Counts.{Rose};
-ghost use Rattle.disk_model.specs.Disk.{IsSettled, LeavesOnly, Counts, IsStruck, IsSpent, Stays, UsesRoom};
+//! Opens a store, or makes one.
+ghost use Rattle.std.specs.Prelude.{◌≡◌, ◌⊎◌, ◌+◌, ◌-◌, ◌^◌, ◌<◌, ◌≤◌, ◌++◌, ◌∷◌, [], min, List, ℕ};
+ghost use Rattle.std.specs.Prelude.{length, slice_index, true, false, Some, IfOk, IfErr, OnOk};
+ghost use Rattle.std.specs.Prelude.{IsErrOf, MatchResult};
+ghost use Rattle.disk_model.specs.Disk.{IsSettled, LeavesOnly, Makes, Stays, UsesRoom};
 ghost use Rattle.journal.specs.Store.{Frame, IsOpen, IsUnborn, IsStore, new_head};
-ghost use Rattle.journal.specs.Region.{Runs, StandsFor};
-ghost use Rattle.journal.specs.Opening.{IsWithin, IsRefusal, IsStoreRefusal, IsOfFile, IsExcused, IsOpening, opening_calls};
+ghost use Rattle.journal.specs.Region.{Runs};
+ghost use Rattle.journal.specs.Opening.{IsWithin, IsRefusal, IsStoreRefusal, IsOfFile, IsExcused};
+ghost use Rattle.journal.specs.Opening.{IsOpening, FileMeans, Opens, opening_calls};
 ghost use Rattle.journal.specs.Journal.{Stands};
 ghost use Rattle.journal.specs.declared.open_fault.OpenFault.{OpenFault};
-ghost use Rattle.journal.specs.declared.open_fault.OpenFault.TheVariants.{DeviceFault};
 
 use crate::gated::{append, settle};
 use crate::head::{HeadRead, read_head};
@@ -24,15 +25,11 @@ const LIMIT: u64 = 1_073_741_824;
 // The whole file.
 fn read_all<D: Disk>(alloc: Global, disk: &mut D, len: u64) -> Result<Vec<u8>, OpenFault>
     requires { (c : List ℕ) → (D.view disk.old).contents ≡ Some c → len ≡ length c }
-    ensures bytes { IfOk result (λ v. (c : List ℕ) → (D.view disk.old).contents ≡ Some c → v.items ≡ c) }
+    ensures bytes { IfOk result (λ v. (c : List ℕ) → (D.view disk.old).contents ≡ Some c
+        → v.items ≡ c) }
     ensures stays { Stays (D.view disk.old) (D.view disk.new) }
     ensures excused { IfErr result IsExcused }
-    ensures later { (D.view disk.old).faults ≤ (D.view disk.new).faults }
-    ensures device { IsErrOf result DeviceFault → Rose (D.view disk.old).faults (D.view disk.new).faults }
-    ensures struck { IsErrOf result DeviceFault → IsStruck (D.view disk.old) (D.view disk.new) }
-    ensures spent { IsSpent (D.view disk.old) (D.view disk.new) }
-    ensures power { OnOk result (((D.view disk.old).off ≡ false) × ((D.view disk.new).off ≡ false)
-        × ((D.view disk.new).strikes ≡ (D.view disk.old).strikes)) }
+    ensures device { Opens result (D.view disk.old) (D.view disk.new) }
     ensures room { UsesRoom 0 (D.view disk.old) (D.view disk.new) }
 {
     let mut bytes = Vec::new(alloc);
@@ -108,26 +105,22 @@ fn make<D: Disk, R: Replay>(
     into: &mut R,
 ) -> Result<Journal, OpenFault>
     requires settled { IsSettled (D.view disk.old) }
-    requires place { (c : List ℕ) → (D.view disk.old).contents ≡ Some c → (1 ≤ length c) × (slice_index c 0 ≡ 0) }
+    requires place { (c : List ℕ) → (D.view disk.old).contents ≡ Some c → (1 ≤ length c)
+        × (slice_index c 0 ≡ 0) }
     requires room { 129 ≤ (D.view disk.old).room_end }
     requires writes { 2 ≤ (D.view disk.old).room_writes }
-    ensures made { IfOk result (λ j. (d : List ℕ) → (D.view disk.new).contents ≡ Some d → Stands j d []) }
+    ensures made { IfOk result (λ j. (d : List ℕ) → (D.view disk.new).contents ≡ Some d
+        → Stands j d []) }
     ensures usable { IfOk result (λ j. (j.shut ≡ false) × (j.digest ≡ digest.now)) }
     ensures changes { IfOk result (λ j. j.changes ≡ 0) }
     ensures empty { OnOk result (R.state into.new ≡ R.empty) }
     ensures settled { OnOk result (IsSettled (D.view disk.new)) }
     ensures excused { IfErr result IsExcused }
-    ensures tells { (D.view disk.new).tells ≡ (D.view disk.old).tells }
-    ensures later { (D.view disk.old).faults ≤ (D.view disk.new).faults }
-    ensures device { IsErrOf result DeviceFault → Rose (D.view disk.old).faults (D.view disk.new).faults }
-    ensures struck { IsErrOf result DeviceFault → IsStruck (D.view disk.old) (D.view disk.new) }
-    ensures spent { IsSpent (D.view disk.old) (D.view disk.new) }
-    ensures power { OnOk result (((D.view disk.old).off ≡ false) × ((D.view disk.new).off ≡ false)
-        × ((D.view disk.new).strikes ≡ (D.view disk.old).strikes)) }
-    ensures calls { (D.view disk.new).changing ≤ (D.view disk.old).changing + 4 }
-    ensures all_calls { OnOk result (min ((D.view disk.old).changing + 4) (2 ^ 64 - 1) ≤ (D.view disk.new).changing) }
+    ensures device { Opens result (D.view disk.old) (D.view disk.new) }
+    ensures calls { Makes 4 result (D.view disk.old) (D.view disk.new) }
     ensures any_moment { (c : List ℕ) → (D.view disk.old).contents ≡ Some c
-        → LeavesOnly (D.view disk.old) (D.view disk.new) (λ image. IsUnborn image ⊎ IsStore digest.now image []) }
+        → LeavesOnly (D.view disk.old) (D.view disk.new) (λ image. IsUnborn image
+        ⊎ IsStore digest.now image []) }
 {
     let Ok(block) = head_of(alloc, digest) else {
         return Err(OpenFault::NoMemory);
@@ -169,28 +162,25 @@ fn open_store<D: Disk, R: Replay>(
     into: &mut R,
 ) -> Result<Journal, OpenFault>
     ensures opened { IfOk result (λ j. (d : List ℕ) → (D.view disk.new).contents ≡ Some d
-        → (frames : List Frame) × Stands j d frames × Runs R.takes true R.empty 0 frames (R.state into.new) j.changes) }
+        → (frames : List Frame) × Stands j d frames
+        × Runs R.takes true R.empty 0 frames (R.state into.new) j.changes) }
     ensures usable { IfOk result (λ j. (j.shut ≡ false) × (j.digest ≡ digest.now)) }
     ensures settled { OnOk result (IsSettled (D.view disk.new)) }
-    ensures within { OnOk result ((c : List ℕ) → (D.view disk.old).contents ≡ Some c → IsWithin limit c) }
+    ensures within { OnOk result ((c : List ℕ) → (D.view disk.old).contents ≡ Some c
+        → IsWithin limit c) }
     ensures kept { (c : List ℕ) → (D.view disk.old).contents ≡ Some c → IsOpen c 0 → 1 < length c
         → (D.view disk.new).contents ≡ Some c }
-    ensures unborn { IfOk result (λ j. (c : List ℕ) → (D.view disk.old).contents ≡ Some c → IsUnborn c
+    ensures unborn { IfOk result (λ j. (c : List ℕ) → (D.view disk.old).contents ≡ Some c
+        → IsUnborn c
         → (R.state into.new ≡ R.empty) × (j.changes ≡ 0)) }
-    ensures refused { (why : OpenFault) → IsErrOf result why → (c : List ℕ) → (D.view disk.old).contents ≡ Some c
+    ensures refused { (why : OpenFault) → IsErrOf result why → (c : List ℕ)
+        → (D.view disk.old).contents ≡ Some c
         → IsRefusal R.takes R.refuses R.empty limit digest.now c why }
-    ensures tells { (D.view disk.new).tells ≡ (D.view disk.old).tells }
-    ensures later { (D.view disk.old).faults ≤ (D.view disk.new).faults }
-    ensures device { IsErrOf result DeviceFault → Rose (D.view disk.old).faults (D.view disk.new).faults }
-    ensures struck { IsErrOf result DeviceFault → IsStruck (D.view disk.old) (D.view disk.new) }
-    ensures spent { IsSpent (D.view disk.old) (D.view disk.new) }
-    ensures power { OnOk result (((D.view disk.old).off ≡ false) × ((D.view disk.new).off ≡ false)
-        × ((D.view disk.new).strikes ≡ (D.view disk.old).strikes)) }
+    ensures device { Opens result (D.view disk.old) (D.view disk.new) }
     ensures calls { (c : List ℕ) → (D.view disk.old).contents ≡ Some c
-        → (D.view disk.new).changing ≤ (D.view disk.old).changing + opening_calls c }
-    ensures all_calls { OnOk result ((c : List ℕ) → (D.view disk.old).contents ≡ Some c
-        → min ((D.view disk.old).changing + opening_calls c) (2 ^ 64 - 1) ≤ (D.view disk.new).changing) }
-    ensures any_moment { IsSettled (D.view disk.old) → (c : List ℕ) → (D.view disk.old).contents ≡ Some c
+        → Makes (opening_calls c) result (D.view disk.old) (D.view disk.new) }
+    ensures any_moment { IsSettled (D.view disk.old) → (c : List ℕ)
+        → (D.view disk.old).contents ≡ Some c
         → LeavesOnly (D.view disk.old) (D.view disk.new) (IsOpening digest.now c) }
 {
     let Ok(()) = disk.reserve(129, 3) else {
@@ -228,38 +218,32 @@ impl Journal {
             × Runs R.takes true R.empty 0 frames (R.state into.new) j.changes) }
         ensures usable { IfOk result (λ j. (j.shut ≡ false) × (j.digest ≡ digest.now)) }
         ensures settled { OnOk result (IsSettled (D.view disk.new)) }
-        ensures kept { (c : List ℕ) → (D.view disk.old).contents ≡ Some c → IsOpen c 0 → 1 < length c
+        ensures kept { (c : List ℕ) → (D.view disk.old).contents ≡ Some c → IsOpen c 0
+            → 1 < length c
             → (D.view disk.new).contents ≡ Some c }
 
-        // A store is opened as what it stands for, and an unborn file as the empty state.
-        ensures store { (c : List ℕ) (s : R.State) (n : ℕ) → (D.view disk.old).contents ≡ Some c → IsWithin limit c
-            → StandsFor R.takes R.empty digest.now c s n
+        // The state and the number of changes are those that the file stands for.
+        ensures means { (c : List ℕ) (s : R.State) (n : ℕ) → (D.view disk.old).contents ≡ Some c
+            → IsWithin limit c → FileMeans R.takes R.empty digest.now c s n
             → MatchResult result (λ j. (R.state into.new ≡ s) × (j.changes ≡ n)) IsExcused }
-        ensures unborn { (c : List ℕ) → (D.view disk.old).contents ≡ Some c → IsWithin limit c → IsUnborn c
-            → MatchResult result (λ j. (R.state into.new ≡ R.empty) × (j.changes ≡ 0)) IsExcused }
 
         // Each refusal of a file has its cause, and comes wherever the cause is.
-        ensures refused { (why : OpenFault) → IsErrOf result why → (c : List ℕ) → (D.view disk.old).contents ≡ Some c
+        ensures refused { (why : OpenFault) → IsErrOf result why → (c : List ℕ)
+            → (D.view disk.old).contents ≡ Some c
             → IsRefusal R.takes R.refuses R.empty limit digest.now c why }
-        ensures exactly { (why : OpenFault) (c : List ℕ) → (D.view disk.old).contents ≡ Some c → IsOfFile why
+        ensures exactly { (why : OpenFault) (c : List ℕ) → (D.view disk.old).contents ≡ Some c
+            → IsOfFile why
             → IsRefusal R.takes R.refuses R.empty limit digest.now c why
             → MatchResult result (λ _. ⊥) (λ w. (w ≡ why) ⊎ IsExcused w) }
 
-        ensures tells { (D.view disk.new).tells ≡ (D.view disk.old).tells }
-        ensures later { (D.view disk.old).faults ≤ (D.view disk.new).faults }
-        ensures device { IsErrOf result DeviceFault → Rose (D.view disk.old).faults (D.view disk.new).faults }
-        ensures struck { IsErrOf result DeviceFault → IsStruck (D.view disk.old) (D.view disk.new) }
-        ensures spent { IsSpent (D.view disk.old) (D.view disk.new) }
-        ensures power { OnOk result (((D.view disk.old).off ≡ false) × ((D.view disk.new).off ≡ false)
-            × ((D.view disk.new).strikes ≡ (D.view disk.old).strikes)) }
+        ensures device { Opens result (D.view disk.old) (D.view disk.new) }
         ensures calls { (c : List ℕ) → (D.view disk.old).contents ≡ Some c
-            → (D.view disk.new).changing ≤ (D.view disk.old).changing + opening_calls c }
-        ensures all_calls { OnOk result ((c : List ℕ) → (D.view disk.old).contents ≡ Some c
-            → min ((D.view disk.old).changing + opening_calls c) (2 ^ 64 - 1) ≤ (D.view disk.new).changing) }
+            → Makes (opening_calls c) result (D.view disk.old) (D.view disk.new) }
 
         // A cut at any moment leaves the file as it was, or of an unborn file an unborn one or a
         // store without frames.
-        ensures any_moment { IsSettled (D.view disk.old) → (c : List ℕ) → (D.view disk.old).contents ≡ Some c
+        ensures any_moment { IsSettled (D.view disk.old) → (c : List ℕ)
+            → (D.view disk.old).contents ≡ Some c
             → LeavesOnly (D.view disk.old) (D.view disk.new) (IsOpening digest.now c) }
     {
         open_store(alloc, disk, digest, limit, into)

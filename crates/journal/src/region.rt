@@ -1,8 +1,9 @@
-// Reads the frames of a region, in order.
-ghost use Rattle.std.specs.Prelude.{◌≡◌, ◌+◌, ◌<◌, ◌≤◌, if◌then◌else◌, List, ℕ, length, slice_index, true, Ok, Err, None, Some, IfOk};
+//! Reads the frames of a region, in order.
+ghost use Rattle.std.specs.Prelude.{◌≡◌, ◌+◌, ◌<◌, ◌≤◌, if◌then◌else◌, List, ℕ, length};
+ghost use Rattle.std.specs.Prelude.{slice_index, true, Ok, Err, None, Some, IfOk};
 ghost use Rattle.journal.specs.Store.{Frame, IsClosed, FramesAt, AreSized, frames_len, base_of};
 ghost use Rattle.journal.specs.Region.{IsFaultAt, IsFault, Runs};
-ghost use Rattle.journal.specs.Read.{IsTaken};
+ghost use Rattle.journal.specs.ReaderAnswers.{IsTaken};
 ghost use Rattle.journal.specs.declared.region.RegionFault.TheVariants.{NotAStore};
 ghost use Rattle.journal.specs.declared.region.Taken.{Taken};
 
@@ -88,10 +89,12 @@ pub fn read_region<R: Replay>(
     begin: usize,
     into: &mut R,
 ) -> Result<Region, RegionFault>
-    ensures frames { IfOk result (λ r. (frames : List Frame) × FramesAt bytes.now begin frames × AreSized frames
+    ensures frames { IfOk result (λ r. (frames : List Frame) × FramesAt bytes.now begin frames
+        × AreSized frames
         × Runs R.takes true R.empty 0 frames (R.state into.new) r.last
         × (r.end ≡ begin + frames_len frames) × (r.base ≡ base_of frames)) }
-    ensures bad { (o : ℕ) → result ≡ Err (NotAStore o) → IsFault R.takes R.refuses bytes.now begin R.empty o }
+    ensures bad { (o : ℕ) → result ≡ Err (NotAStore o)
+        → IsFault R.takes R.refuses bytes.now begin R.empty o }
 {
     into.begin();
     let mut at = begin;

@@ -1,4 +1,4 @@
-// Who takes the frames of a store, without the journal knowing what they say.
+//! Who takes the frames of a store, without the journal knowing what they say.
 ghost use Rattle.std.specs.Prelude.{◌≡◌, ◌≤◌, ◌+◌, List, ℕ, Bool, length, IsErrOf, IfOk, OnErr};
 ghost use Rattle.journal.specs.declared.replay.ReplayFault.TheVariants.{Bad};
 
@@ -34,8 +34,10 @@ pub trait Replay {
     /// Takes a frame, a snapshot or changes, and answers how many changes it has. After a refusal
     /// it stands for the empty state.
     fn frame(&mut self, snapshot: bool, body: &[u8]) -> Result<u64, ReplayFault>
-        ensures takes { IfOk result (λ n. takes (state self.old) snapshot body.now (state self.new) n) }
-        ensures refuses { (o : ℕ) → IsErrOf result (Bad o) → refuses (state self.old) snapshot body.now o }
+        ensures takes { IfOk result
+            (λ n. takes (state self.old) snapshot body.now (state self.new) n) }
+        ensures refuses { (o : ℕ) → IsErrOf result (Bad o)
+            → refuses (state self.old) snapshot body.now o }
         ensures within { (o : ℕ) → IsErrOf result (Bad o) → o ≤ length body.now }
         ensures anew { OnErr result (state self.new ≡ empty) };
 

@@ -3,7 +3,7 @@ use Rattle.journal.specs.Append.{IsReady, IsSettling}
 use Rattle.journal.specs.Store.{IsOpen, IsUnborn, IsStore}
 use Rattle.journal.specs.Opening.{IsOpening, IsStoreRefusal, IsWithin}
 use Rattle.journal.proofs.Moments.{weaker, goes_from, started, stays_on, and_then, settled_images}
-use Rattle.journal.proofs.Openings.{if_all, settling, was_unborn, was_born, within_limit, refusal_of, err_of}
+use Rattle.journal.proofs.Openings.{settle_least, if_all, settling, was_unborn, was_born, within_limit, refusal_of, err_of}
 use Rattle.journal.proofs.opening.open_store.Goals as goal
 
 pub returns-then-gate_of-eq0-clause-opened : goal.returns-then-gate_of-eq0-clause-opened
@@ -55,3 +55,9 @@ returns-clause-refused g c = λ why is_err x is.
     let refused = err_of c.read_store.result _ c.read_store.ensures.refused why is_err in
     let open_gate : IsOpen x 0 = (omega (arith, born.0), λ e. gate (ap (λ (l : List ℕ). slice_index l 0) born.1 ∙ e)) in
     refusal_of g.R.Replay.takes g.R.Replay.refuses g.R.Replay.empty c.args.limit digest x within open_gate born.0 why (subst R bytes refused)
+
+pub returns-in_default-settle-clause-calls : goal.returns-in_default-settle-clause-calls
+returns-in_default-settle-clause-calls g c = λ x is.
+    let stays = c.reserve.ensures.stays in
+    let made = c.settle.ensures.calls x (stays.contents ∙ is) in
+    record { later = omega (arith, made.later, stays.changing); most = omega (arith, made.most, stays.changing, settle_least x); all = tt }

@@ -1,25 +1,16 @@
 use Rattle.std.proofs.Common.{◌≡◌, length, rules}
 use Rattle.journal.proofs.Openings.{if_then, on_then}
-use Rattle.journal.proofs.Refusals.{opens_store, opens_unborn, opens_exactly}
+use Rattle.journal.proofs.Refusals.{opens_means, opens_exactly}
 use Rattle.journal.proofs.journal.Journal.open.Goals as goal
 
-pub returns-clause-store : goal.returns-clause-store
-returns-clause-store g c = λ x s n is within stands.
+pub returns-clause-means : goal.returns-clause-means
+returns-clause-means g c = λ x s n is within means.
     let V = g.D.Disk.view in
     let R = g.R.Replay in
     let law = g.met.R.Replay in
     let o = c.open_store.ensures in
-    opens_store R.takes R.refuses R.empty law.one_state law.one_count law.one_fault law.apart c.args.limit c.args.digest.now x (V c.args.disk.now).contents (V c.open_store.new.disk).contents is (R.state c.open_store.new.into)
-    c.open_store.result o.opened o.usable (o.kept x is) (λ why e. o.refused why e x is) s n within stands
-
-pub returns-clause-unborn : goal.returns-clause-unborn
-returns-clause-unborn g c = λ x is within unborn.
-    let V = g.D.Disk.view in
-    let R = g.R.Replay in
-    let law = g.met.R.Replay in
-    let o = c.open_store.ensures in
-    opens_unborn R.takes R.refuses R.empty law.one_state law.one_count law.one_fault law.apart c.args.limit c.args.digest.now x (V c.args.disk.now).contents (V c.open_store.new.disk).contents is (R.state c.open_store.new.into)
-    c.open_store.result o.opened o.usable (o.kept x is) (λ why e. o.refused why e x is) (if_then c.open_store.result _ _ (λ j made. made x is) o.unborn) within unborn
+    opens_means R.takes R.refuses R.empty law.one_state law.one_count law.one_fault law.apart c.args.limit c.args.digest.now x (V c.args.disk.now).contents (V c.open_store.new.disk).contents is (R.state c.open_store.new.into)
+    c.open_store.result o.opened o.usable (o.kept x is) (λ why e. o.refused why e x is) (if_then c.open_store.result _ _ (λ j made. made x is) o.unborn) s n within means
 
 pub returns-clause-exactly : goal.returns-clause-exactly
 returns-clause-exactly g c = λ why x is of_file cause.

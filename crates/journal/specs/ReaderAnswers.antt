@@ -1,8 +1,10 @@
 -- What private functions of the reader answer.
-use Rattle.std.specs.Prelude.{◌≡◌, ℕ, ◌+◌, ◌%◌, ◌^◌, ◌<◌, ◌≤◌, Bool, true, false, List, length, replicate}
+use Rattle.std.specs.Prelude.{◌≡◌, ℕ, ◌+◌, ◌%◌, ◌^◌, ◌<◌, ◌≤◌, Bool, true, false, List, length}
+use Rattle.std.specs.Prelude.{replicate}
 use Rattle.disk_model.specs.Disk.{Holds}
 use Rattle.journal.specs.Store.{Frame, IsOpen, IsClosed, Head, encoded}
-use Rattle.journal.specs.Region.{TakesOf, IsCut, IsWrongKind, IsEmpty, IsFrameAt, IsRightKind, IsRightLast}
+use Rattle.journal.specs.Region.{TakesOf, IsCut, IsWrongKind, IsEmpty, IsFrameAt, IsRightKind}
+use Rattle.journal.specs.Region.{IsRightLast}
 use Rattle.journal.specs.HeadFault.{IsHeadFault, IsSlotFault, IsLive, IsOtherList}
 use Rattle.journal.specs.declared.fields.Read.{Read}
 use Rattle.journal.specs.declared.fields.Read.TheVariants.{End, Cut, Kind, Empty, Whole}
@@ -17,7 +19,8 @@ IsRead file at fresh Cut = IsCut file at
 IsRead file at fresh Kind = IsWrongKind file at fresh
 IsRead file at fresh Empty = IsEmpty file at
 IsRead file at fresh (Whole snapshot last size) =
-    IsOpen file at × (at + 18 + size ≤ length file) × ((body : List ℕ) → length body ≡ size → Holds file (at + 18) body
+    IsOpen file at × (at + 18 + size ≤ length file)
+    × ((body : List ℕ) → length body ≡ size → Holds file (at + 18) body
     → Holds file (at + 1) (encoded (record { snapshot = snapshot; last = last; body = body }))
     × IsRightKind fresh snapshot body)
 
@@ -40,7 +43,8 @@ IsNext false a false b live = ⊥
 -- what `read_slots` finds
 abbrev pub IsSlotRead : List ℕ → HeadRead → Type 0
 IsSlotRead file (Live live number begin) =
-    IsLive file live number begin × Holds file 78 (replicate 50 0) × (128 ≤ begin) × (begin < length file)
+    IsLive file live number begin × Holds file 78 (replicate 50 0) × (128 ≤ begin)
+    × (begin < length file)
 IsSlotRead file (Other kept) = ⊥
 IsSlotRead file (Bad offset) = IsSlotFault file offset
 

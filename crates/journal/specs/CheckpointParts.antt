@@ -1,0 +1,53 @@
+-- A checkpoint between its two parts.
+use Rattle.std.specs.Prelude.{◌≡◌, ◌⊎◌, ℕ, ◌+◌, ◌%◌, ◌^◌, ◌<◌, ◌≤◌, Bool, not, List, [], ◌∷◌, ◌++◌}
+use Rattle.std.specs.Prelude.{length, Some, Result, OnOk}
+use Rattle.disk_model.specs.Disk.{View, IsSettled, LeavesOnly}
+use Rattle.journal.specs.Store.{Frame, IsClosed, Head, FramesAt, AreSized, frames_len, other_at}
+use Rattle.journal.specs.Store.{encoded}
+use Rattle.journal.specs.Journal.{IsBeforeOrSnapshot}
+
+-- a live region of these frames, up to its closed gate
+pub record IsRegion (digest file : List ℕ) (live : Bool) (number begin end : ℕ)
+    (frames : List Frame) : Type 0 where
+  pub head : Head digest file live number begin
+  pub from : 128 ≤ begin
+  pub fits : begin < 2 ^ 64
+  pub frames_at : FramesAt file begin frames
+  pub sized : AreSized frames
+  pub ends : end ≡ begin + frames_len frames
+
+-- the snapshot's frame lies between the head and the region, or behind the region's closed gate
+abbrev pub IsApart : ℕ → ℕ → ℕ → ℕ → Type 0
+IsApart to len begin end = (128 ≤ to) × ((to + len ≤ begin) ⊎ (to ≡ end + 1))
+
+-- the old region is live, the other slot's gate is closed, and the snapshot's frame stands whole
+pub record IsBetween (digest file : List ℕ) (live : Bool) (number begin : ℕ) (frames : List Frame)
+    (to : ℕ) (f : Frame) : Type 0 where
+  pub head : Head digest file live number begin
+  pub from : 128 ≤ begin
+  pub frames_at : FramesAt file begin frames
+  pub shut : IsClosed file (other_at live)
+  pub fits : begin < 2 ^ 64
+  pub sized : AreSized frames
+  pub behind : 128 ≤ to
+  pub snapshot_at : FramesAt file to (f ∷ [])
+
+-- a snapshot's frame with its open gate, and a closed gate behind it
+pub record IsBlock (f : Frame) (block : List ℕ) : Type 0 where
+  pub bytes : block ≡ 1 ∷ encoded f ++ 0 ∷ []
+  pub last : f.last < 2 ^ 64
+  pub size : length f.body < 2 ^ 64
+
+-- what a switch to a snapshot's frame at `to` leaves of each store that the disk may tell
+pub record Switches {T E : Type 0} (result : Result T E) (old new : View)
+    (live : Bool) (number to : ℕ) (block : List ℕ) : Type 0 where
+  pub settled : OnOk result (IsSettled new)
+  pub any_moment : (c digest : List ℕ) (begin end : ℕ) (frames : List Frame) (f : Frame)
+      → old.contents ≡ Some c → IsRegion digest c live number begin end frames
+      → IsApart to (length block) begin end → IsBlock f block
+      → LeavesOnly old new (IsBeforeOrSnapshot digest frames f)
+  pub switched : OnOk result ((c digest : List ℕ) (begin end : ℕ) (frames : List Frame) (f : Frame)
+      → old.contents ≡ Some c → IsRegion digest c live number begin end frames
+      → IsApart to (length block) begin end → IsBlock f block
+      → (d : List ℕ) × (new.contents ≡ Some d)
+      × Head digest d (not live) ((number + 1) % 2 ^ 64) to × FramesAt d to (f ∷ []))

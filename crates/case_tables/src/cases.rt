@@ -23,7 +23,8 @@ impl<V: Copy> Cases<'_, V> {
     ///
     /// The name comes as bytes, so that a caller may cut it anywhere in a text.
     pub fn find_in_any_case(&self, name: &[u8]) -> Option<V>
-        ensures value { result ≡ first_value (λ other. same_in_any_case other name.now) (rows_of self.now) }
+        ensures value { result ≡ first_value
+            (λ other. same_in_any_case other name.now) (rows_of self.now) }
     {
         first_named_in_any_case(self.rows, name)
     }
@@ -42,7 +43,8 @@ impl<V: Copy> Cases<'_, V> {
 }
 
 fn first_named<V: Copy>(rows: &[(&'static str, V)], name: &str) -> Option<V>
-    ensures { result ≡ option_map (λ row. row.1) (find (λ row. bytes_eq row.0.now name.now) rows.now) }
+    ensures { result
+        ≡ option_map (λ row. row.1) (find (λ row. bytes_eq row.0.now name.now) rows.now) }
 {
     rows.iter().find(|row| row.0 == name).map(|row| row.1)
 }

@@ -28,7 +28,8 @@ tokens_of text = filter (λ token. nat_lt 0 (length token)) (slice_split is_deli
 abbrev pub leading_number : ℕ → ℕ → List ℕ → Option ℕ
 leading_number least most text =
     let digits = take_while is_ascii_digit text in
-    if nat_le least (length digits) && nat_le (length digits) most then Some (digits_value 10 digits)
+    if nat_le least (length digits) && nat_le (length digits) most
+    then Some (digits_value 10 digits)
     else None
 
 -- what follows the digits that a text begins with and a colon, if a colon follows them

@@ -51,7 +51,8 @@ fn full_year(year: u16) -> u16
 }
 
 fn moment(time: Clock, day: u16, month: u16, year: u16) -> Option<i64>
-    ensures { result ≡ (if is_moment time day month year then Some (seconds_at time day month year) else None) }
+    ensures { result ≡ (if is_moment time day month year then Some (seconds_at time day month year)
+        else None) }
 {
     if year < 1601 || year > 9999 || time.hour > 23 || time.minute > 59 || time.second > 59 {
         return None;
@@ -88,7 +89,8 @@ fn day_start(year: u16, month: u16, day: u16) -> Option<i64>
 fn civil_day(year: u16, month: u16, day: u16) -> Option<Date>
     requires { year ≤ 9999 }
     ensures { MatchOption result (is_civil_day year month day ≡ false)
-        (λ date. (is_civil_day year month day ≡ true) × IsYmd (pos year) (pos month) (pos day) date) }
+        (λ date. (is_civil_day year month day ≡ true)
+        × IsYmd (pos year) (pos month) (pos day) date) }
 {
     if month > 12 || day > 31 {
         return None;

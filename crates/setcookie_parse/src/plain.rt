@@ -115,7 +115,8 @@ fn answer_to<'a>(pieces: &[&'a str], now: i64) -> Parsed<'a>
 }
 
 fn pieces_of<'a>(alloc: Global, text: &'a str) -> Result<Vec<&'a str>, AllocError>
-    ensures { IfOk result (λ pieces. map (λ piece. piece.now) pieces.items ≡ slice_split is_semicolon text.now) }
+    ensures { IfOk result (λ pieces. map (λ piece. piece.now) pieces.items
+        ≡ slice_split is_semicolon text.now) }
 {
     text.split(';').collect(alloc)
 }

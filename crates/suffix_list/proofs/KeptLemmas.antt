@@ -1,5 +1,5 @@
 -- What the names of kept rules say of the rules.
-use Rattle.std.proofs.Common.{◌≡◌, ℕ, ◌<◌, Bool, true, false, cond, not, List, [], ◌∷◌, ◌++◌, length, drop, map, refl, ap, ◌∙◌, sym, arith}
+use Rattle.std.proofs.Common.{◌≡◌, ℕ, ◌-◌, ◌<◌, Bool, true, false, cond, not, List, [], ◌∷◌, ◌++◌, length, map, refl, ap, ◌∙◌, sym, arith}
 use Rattle.std.specs.Prelude.{max, nat_lt, nat_le, ◌&&◌, ◌||◌, filter, fold, codes, bytes_eq, string_bytes}
 use Rattle.std.specs.Cmp.Lexicographic.{pointwise}
 use Rattle.std.specs.List.{list_any, list_all, join_with_byte}
@@ -7,11 +7,11 @@ use Rattle.std.proofs.lemmas.Bool.{false_from_ne_true, both_ways, and_parts, con
 use Rattle.std.proofs.lemmas.Bool.Decides.{same_from_decides}
 use Rattle.std.proofs.lemmas.Slice.Eq.{bytes_eq-Decides, slice_eq-Decides}
 use Rattle.suffix_list.specs.declared.rules.KeptRule.{KeptRule}
-use Rattle.suffix_list.specs.Suffix.{Rule, labels_of, covers, matches, matches_labels, stands_for}
+use Rattle.suffix_list.specs.Suffix.{Rule, labels_of, covers, matches_labels, stands_for, suffix_labels}
 use Rattle.suffix_list.specs.ListText.{is_label, is_rule, beside_star}
-use Rattle.suffix_list.specs.Index.{plain_rule, is_named, is_parent_named, is_exception_named, longest}
+use Rattle.suffix_list.specs.Names.{plain_rule, is_named, is_parent_named, is_exception_named, longest}
 use Rattle.suffix_list.proofs.LabelLemmas.{join_labels, some_label}
-use Rattle.suffix_list.proofs.MatchLemmas.{longest_is}
+use Rattle.suffix_list.proofs.MatchLemmas.{longest_is, prevailing_is}
 
 -- a label that stands for itself is no `*`
 label_no_star : (pattern : List ℕ) → is_label pattern ≡ true → bytes_eq pattern (codes "*") ≡ false
@@ -143,32 +143,11 @@ pub any_longest : (test : Rule → Bool) (labels : List (List ℕ)) (kept : List
     → nat_lt 0 (longest test (map plain_rule kept) labels) ≡ list_any test (filter (matches_labels labels) (map plain_rule kept))
 any_longest test labels kept = ap (λ n. nat_lt 0 n) (sym (longest_is test (map plain_rule kept) labels)) ∙ some_most test labels kept 0
 
--- what the look-up in the exceptions' names says of the rules
-pub exception_found : (rules : List Rule) (kept : List KeptRule) (name : List ℕ) (found : Bool) → map plain_rule kept ≡ rules → list_all (λ rule. is_rule (plain_rule rule)) kept ≡ true
-    → found ≡ list_any (is_exception_named name) kept → found ≡ list_any (λ rule. rule.is_exception && covers (labels_of name) rule) rules
-exception_found rules kept name found view are is = is ∙ any_exception name kept are ∙ ap (list_any (λ rule. rule.is_exception && covers (labels_of name) rule)) view
-
--- what the look-up in the other names, and behind `*.`, says of the rules
-pub rule_found : (rules : List Rule) (kept : List KeptRule) (name parent : List ℕ) (found : Bool) → map plain_rule kept ≡ rules → list_all (λ rule. is_rule (plain_rule rule)) kept ≡ true
-    → drop 1 (labels_of name) ≡ labels_of parent
-    → found ≡ (list_any (is_named name) kept || list_any (is_parent_named parent) kept) → found ≡ list_any (λ rule. not rule.is_exception && covers (labels_of name) rule) rules
-rule_found rules kept name parent found view are behind is =
-    is ∙ any_named name (first (labels_of name)) parent kept (split (labels_of name) (some_label name) ∙ ap (λ ls. first (labels_of name) ∷ ls) behind) are
-    ∙ ap (list_any (λ rule. not rule.is_exception && covers (labels_of name) rule)) view
-  where
-    first : List (List ℕ) → List ℕ
-    first [] = []
-    first (label ∷ labels) = label
-
-    split : (labels : List (List ℕ)) → 0 < length labels → labels ≡ first labels ∷ drop 1 labels
-    split [] some = absurd (omega arith)
-    split (label ∷ labels) some = refl
-
--- an exception matches where the longest one has a label
-pub exception_matches : (rules : List Rule) (kept : List KeptRule) (host : List ℕ) (most : ℕ) → map plain_rule kept ≡ rules
-    → most ≡ longest (λ rule. rule.is_exception) rules (labels_of host)
-    → nat_lt 0 most ≡ list_any (λ rule. rule.is_exception) (filter (matches host) rules)
-exception_matches rules kept host most view is =
-    ap (λ n. nat_lt 0 n) (is ∙ ap (λ rs. longest (λ rule. rule.is_exception) rs (labels_of host)) (sym view))
-    ∙ any_longest (λ rule. rule.is_exception) (labels_of host) kept
-    ∙ ap (λ rs. list_any (λ rule. rule.is_exception) (filter (matches host) rs)) view
+-- the prevailing rule of kept rules, from the longest of each kind
+pub prevailing_kept : (kept : List KeptRule) (host : List ℕ) → suffix_labels (map plain_rule kept) host
+    ≡ cond (nat_lt 0 (longest (λ rule. rule.is_exception) (map plain_rule kept) (labels_of host)))
+    (longest (λ rule. rule.is_exception) (map plain_rule kept) (labels_of host) - 1)
+    (max 1 (longest (λ rule. not rule.is_exception) (map plain_rule kept) (labels_of host)))
+prevailing_kept kept host =
+    prevailing_is (map plain_rule kept) (labels_of host) (longest (λ rule. rule.is_exception) (map plain_rule kept) (labels_of host)) refl
+    (any_longest (λ rule. rule.is_exception) (labels_of host) kept)

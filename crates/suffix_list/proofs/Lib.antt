@@ -3,8 +3,9 @@ pub mod MatchLemmas
 pub mod DomainLemmas
 pub mod KeptLemmas
 pub mod LookupLemmas
+pub mod PassLemmas
 pub mod NoteLemmas
 pub mod RuleLemmas
-pub mod ScanLemmas
-pub mod PlainLemmas
+pub mod LineLemmas
+pub mod ReferenceLemmas
 mod StandardFacts

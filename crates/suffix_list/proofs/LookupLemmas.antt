@@ -4,7 +4,7 @@ use Rattle.std.specs.Prelude.{max, ◌&&◌}
 use Rattle.std.specs.List.{list_any}
 use Rattle.std.proofs.lemmas.Bool.{cond-true, cond-false}
 use Rattle.suffix_list.specs.Suffix.{Rule, covers}
-use Rattle.suffix_list.specs.Index.{longest}
+use Rattle.suffix_list.specs.Names.{longest}
 
 -- a rule covers all labels: it is the longest
 pub longest_here : (test : Rule → Bool) (rules : List Rule) (labels : List (List ℕ)) → 0 < length labels

@@ -5,7 +5,7 @@ use Rattle.std.specs.List.{list_any}
 use Rattle.std.proofs.lemmas.Bool.{false_from_ne_true, both_ways, and_parts, and_from, or_parts, or_cases, cases_Bool, cases_lt}
 use lib.Pointwise.{pointwise_long}
 use Rattle.suffix_list.specs.Suffix.{Rule, last_of, covers, matches_labels, most_labels, prevailing_labels, stands_for}
-use Rattle.suffix_list.specs.Index.{longest}
+use Rattle.suffix_list.specs.Names.{longest}
 use Rattle.suffix_list.proofs.LabelLemmas.{last_of_more, last_of_all}
 
 -- a rule that covers labels has as many

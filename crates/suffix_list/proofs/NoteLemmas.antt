@@ -1,40 +1,76 @@
 -- What the look-up's names are after one more rule.
-use Rattle.std.proofs.Common.{◌≡◌, ℕ, ◌<◌, Bool, true, false, cond, refl, ap, ◌∙◌, sym, List, [], ◌∷◌, ◌++◌, length, arith}
-use Rattle.std.specs.Prelude.{◌&&◌, ◌||◌, bytes_eq, string_bytes, String, codes}
+use Rattle.std.proofs.Common.{◌≡◌, ℕ, ◌<◌, Bool, true, false, cond, not, refl, ap, ◌∙◌, sym, List, [], ◌∷◌, ◌++◌, length, arith}
+use Rattle.std.specs.Prelude.{◌&&◌, ◌||◌, bytes_eq, string_bytes, String, codes, Some, unwrap_or}
 use Rattle.std.specs.declared.alloc.Global.{Global}
 use Rattle.std.specs.Cmp.Lexicographic.{pointwise}
-use Rattle.std.specs.HashSet.{UpdatesBy, contains_text}
+use Rattle.std.specs.HashMap.{UpdatesBy, get_by_text}
 use Rattle.std.specs.List.{list_any, list_all}
 use Rattle.std.specs.String.{string_eq}
 use Rattle.std.proofs.lemmas.List.Folds.{list_any-append, list_all-append}
-use Rattle.std.proofs.lemmas.Map.Text.{hash_set_updates_text}
+use Rattle.std.proofs.lemmas.Slice.Eq.{bytes_eq-Decides}
+use Rattle.std.proofs.lemmas.Map.Text.{hash_map_updates_text}
+use Rattle.suffix_list.specs.declared.marks.Marks.{Marks}
 use Rattle.suffix_list.specs.declared.rules.KeptRule.{KeptRule}
 use Rattle.suffix_list.specs.Suffix.{labels_of}
 use Rattle.suffix_list.specs.ListText.{is_rule}
-use Rattle.suffix_list.specs.Index.{Names, plain_rule}
+use Rattle.suffix_list.specs.Names.{Names, plain_rule, no_marks, joined, marks_at, marks_among, name_marks, parent_marks, is_named, is_parent_named, is_exception_named}
 use Rattle.suffix_list.proofs.LabelLemmas.{some_label}
 use Rattle.suffix_list.proofs.KeptLemmas.{labels_eq}
 
-either : (b was : Bool) → cond b true was ≡ (was || b)
-either true true = refl
-either true false = refl
-either false true = refl
-either false false = refl
+or_false : (b : Bool) → b ≡ (b || false)
+or_false true = refl
+or_false false = refl
 
--- the name that is put in is there, and the others as before
-pub name_put : (names after : Names) (key : String Global) (bytes name : List ℕ) (test : Bool) → UpdatesBy string_eq (λ k. string_eq key k) names after true
-    → string_bytes key ≡ bytes → test ≡ bytes_eq bytes name → contains_text after name ≡ (contains_text names name || test)
-name_put names after key bytes name test updates same is =
-    hash_set_updates_text (string_bytes key) names after true updates name
-    ∙ either (bytes_eq (string_bytes key) name) (contains_text names name)
-    ∙ ap (λ b. contains_text names name || b) (ap (λ bs. bytes_eq bs name) same ∙ sym is)
+-- no marks join to no more
+pub joined_none : (marks : Marks) → marks ≡ joined marks no_marks
+joined_none marks = λ i. record { is_rule = or_false marks.is_rule i; is_parent = or_false marks.is_parent i; is_exception = or_false marks.is_exception i }
 
-pub name_kept : (names : Names) (name : List ℕ) (test : Bool) → test ≡ false → contains_text names name ≡ (contains_text names name || test)
-name_kept names name test is = one (contains_text names name) ∙ ap (λ b. contains_text names name || b) (sym is)
+-- the name that is put in has the joined marks, and the others have theirs
+pub mark_put : (names after : Names) (key : String Global) (name other : List ℕ) (all more : Marks) → UpdatesBy string_eq (λ k. string_eq key k) names after (Some all)
+    → string_bytes key ≡ name → all ≡ joined (marks_at names name) more
+    → marks_at after other ≡ cond (bytes_eq name other) (joined (marks_at names other) more) (marks_at names other)
+mark_put names after key name other all more updates same is =
+    ap (λ found. unwrap_or found no_marks) (hash_map_updates_text (string_bytes key) names after (Some all) updates other)
+    ∙ ap (λ bytes. unwrap_or (cond (bytes_eq bytes other) (Some all) (get_by_text names other)) no_marks) same
+    ∙ by (bytes_eq name other) refl
   where
-    one : (b : Bool) → b ≡ (b || false)
-    one true = refl
-    one false = refl
+    by : (b : Bool) → bytes_eq name other ≡ b
+        → unwrap_or (cond b (Some all) (get_by_text names other)) no_marks ≡ cond b (joined (marks_at names other) more) (marks_at names other)
+    by true at = is ∙ ap (λ bytes. joined (marks_at names bytes) more) ((bytes_eq-Decides name other).0 at)
+    by false at = refl
+
+-- what is put at one name, as what is joined at each
+put_joined : (b : Bool) (old more marks : Marks) → cond b more no_marks ≡ marks → cond b (joined old more) old ≡ joined old marks
+put_joined true old more marks is = ap (joined old) is
+put_joined false old more marks is = joined_none old ∙ ap (joined old) is
+
+-- the name of a rule
+pub name_noted : (rule : KeptRule) (bytes name : List ℕ) (old more : Marks) → bytes ≡ string_bytes rule.name
+    → more ≡ record { is_rule = not rule.is_exception; is_parent = false; is_exception = rule.is_exception }
+    → cond (bytes_eq bytes name) (joined old more) old ≡ joined old (name_marks name rule)
+name_noted rule bytes name old more same is =
+    put_joined (bytes_eq bytes name) old more (name_marks name rule)
+    (ap (λ m. cond (bytes_eq bytes name) m no_marks) is ∙ by (bytes_eq bytes name) rule.is_exception ∙ ap (λ bs. record { is_rule = not rule.is_exception && bytes_eq bs name; is_parent = false; is_exception = rule.is_exception && bytes_eq bs name }) same)
+  where
+    by : (b e : Bool) → ◌≡◌ {A = Marks} (cond b (record { is_rule = not e; is_parent = false; is_exception = e }) no_marks) (record { is_rule = not e && b; is_parent = false; is_exception = e && b })
+    by true true = refl
+    by true false = refl
+    by false true = refl
+    by false false = refl
+
+-- what stands behind a `*.`
+pub parent_noted : (rule : KeptRule) (parent name : List ℕ) (old : Marks) → is_parent_named name rule ≡ bytes_eq parent name
+    → cond (bytes_eq parent name) (joined old (record { is_rule = false; is_parent = true; is_exception = false })) old ≡ joined old (parent_marks name rule)
+parent_noted rule parent name old is =
+    put_joined (bytes_eq parent name) old (record { is_rule = false; is_parent = true; is_exception = false }) (parent_marks name rule)
+    (by (bytes_eq parent name) ∙ ap (λ b. record { is_rule = false; is_parent = b; is_exception = false }) (sym is))
+  where
+    by : (b : Bool) → ◌≡◌ {A = Marks} (cond b (record { is_rule = false; is_parent = true; is_exception = false }) no_marks) (record { is_rule = false; is_parent = b; is_exception = false })
+    by true = refl
+    by false = refl
+
+pub parent_absent : (rule : KeptRule) (name : List ℕ) (old : Marks) → is_parent_named name rule ≡ false → old ≡ joined old (parent_marks name rule)
+parent_absent rule name old is = joined_none old ∙ ap (λ b. joined old (record { is_rule = false; is_parent = b; is_exception = false })) (sym is)
 
 -- a name is `*.` and another where its first label is `*` and the rest are the other's
 pub starred_name : (name label : List ℕ) (behind : List (List ℕ)) (parent : List ℕ) → labels_of name ≡ label ∷ behind
@@ -49,14 +85,31 @@ starred_none parent true = no_labels (labels_of parent) (some_label parent)
     no_labels [] some = absurd (omega arith)
     no_labels (label ∷ labels) some = refl
 
--- one more rule in the list and in the names
-pub names_more : (test : KeptRule → Bool) (kept more : List KeptRule) (rule : KeptRule) (was now : Bool) → more ≡ kept ++ (rule ∷ []) → was ≡ list_any test kept → now ≡ (was || test rule) → now ≡ list_any test more
-names_more test kept more rule was now is before after =
-    after ∙ ap (λ b. b || test rule) before ∙ ap (λ b. list_any test kept || b) (one (test rule)) ∙ sym (list_any-append test kept (rule ∷ [])) ∙ ap (list_any test) (sym is)
+-- one more rule in the list and in the marks
+pub marks_more : (kept more : List KeptRule) (rule : KeptRule) (name : List ℕ) (was mid now : Marks) → more ≡ kept ++ (rule ∷ []) → was ≡ marks_among kept name
+    → mid ≡ joined was (name_marks name rule) → now ≡ joined mid (parent_marks name rule) → now ≡ marks_among more name
+marks_more kept more rule name was mid now is before named behind =
+    behind ∙ ap (λ m. joined m (parent_marks name rule)) (named ∙ ap (λ m. joined m (name_marks name rule)) before)
+    ∙ (λ i. record {
+      is_rule = any_more (list_any (is_named name) kept) (is_named name rule) i;
+      is_parent = any_behind (list_any (is_parent_named name) kept) (is_parent_named name rule) i;
+      is_exception = any_more (list_any (is_exception_named name) kept) (is_exception_named name rule) i;
+    })
+    ∙ (λ i. record {
+      is_rule = sym (list_any-append (is_named name) kept (rule ∷ [])) i;
+      is_parent = sym (list_any-append (is_parent_named name) kept (rule ∷ [])) i;
+      is_exception = sym (list_any-append (is_exception_named name) kept (rule ∷ [])) i;
+    })
+    ∙ ap (λ rules. marks_among rules name) (sym is)
   where
-    one : (b : Bool) → b ≡ (b || false)
-    one true = refl
-    one false = refl
+    any_more : (a b : Bool) → ((a || b) || false) ≡ (a || (b || false))
+    any_more true b = refl
+    any_more false b = refl
+
+    any_behind : (a b : Bool) → ((a || false) || b) ≡ (a || (b || false))
+    any_behind true b = refl
+    any_behind false true = refl
+    any_behind false false = refl
 
 pub rules_more : (kept more : List KeptRule) (rule : KeptRule) → more ≡ kept ++ (rule ∷ []) → list_all (λ r. is_rule (plain_rule r)) kept ≡ true → is_rule (plain_rule rule) ≡ true → list_all (λ r. is_rule (plain_rule r)) more ≡ true
 rules_more kept more rule is before here =

@@ -2,5 +2,5 @@
 pub mod Suffix
 pub mod ListText
 -- What private functions compute. No public clause rests on it.
-pub mod Index
-pub mod Scan
+pub mod Names
+pub mod Lines

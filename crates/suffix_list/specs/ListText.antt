@@ -4,8 +4,9 @@
 -- are forbidden in domains.
 -- Our own choice: white space is tab, vertical tab, form feed, carriage return and space. `*` is a
 -- rule's whole leftmost label or is refused. A rule after `!` has no `*` and at least two labels.
--- These conditions hold of a rule as it is written and of its ASCII form, so a full-width `*` counts.
--- A rule that breaks them is a fault, and so is a line that is not UTF-8, also one that is a comment.
+-- These conditions hold of a rule as it is written and of its ASCII form, so a full-width `*`
+-- counts. A rule that breaks them is a fault, and so is a line that is not UTF-8, also one that is
+-- a comment.
 use Rattle.std.specs.Prelude.{ℕ, Bool, not, ◌==◌, ◌&&◌, ◌||◌, nat_eq, nat_le, nat_lt, if◌then◌else◌, List, [], ◌∷◌, length, take, drop, codes, bytes_eq, Option, Some, None, is_none, option_map, option_and_then, Result, Ok, Err}
 use Rattle.std.specs.List.{list_all, list_any, join_with_byte, slice_split, before_first, starts_with, filter_map, enumerate_from}
 use Rattle.std.specs.Str.{byte, is_utf8}

@@ -5,8 +5,8 @@ ghost use Rattle.std.specs.Str.{byte};
 ghost use Rattle.suffix_list.specs.ListText as text;
 ghost use Rattle.suffix_list.specs.Suffix.{labels_of, last_of};
 ghost use Rattle.suffix_list.specs.Suffix as suffix;
-ghost use Rattle.suffix_list.specs.Index.{labels_after};
-ghost use Rattle.suffix_list.specs.Index as spec;
+ghost use Rattle.suffix_list.specs.Names.{labels_after};
+ghost use Rattle.suffix_list.specs.Names as spec;
 
 /// The first label, and what follows its dot.
 pub(crate) fn next_label(name: &str) -> (&str, Option<&str>)

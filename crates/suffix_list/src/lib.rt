@@ -8,9 +8,10 @@
 mod fault;
 mod labels;
 mod list;
-#[cfg(test)]
-mod plain;
+mod marks;
 mod reader;
+#[cfg(test)]
+mod reference;
 mod rule;
 mod rules;
 #[cfg(test)]

@@ -45,6 +45,8 @@ impl SuffixList {
         ensures read_fault { IsErrOf result ListFault.ReadFault
             → Rose (S.faults source.old) (S.faults source.new) }
         ensures later { S.faults source.old ≤ S.faults source.new }
+        ensures still { MatchResult result (λ _. S.faults source.new ≡ S.faults source.old)
+            (λ why. (why ≡ ListFault.ReadFault) ⊎ (S.faults source.new ≡ S.faults source.old)) }
         ensures rest { Shortens (S.left source.old) (S.left source.new) }
     {
         match read_all(alloc, source, BYTE_LIMIT) {
@@ -55,11 +57,12 @@ impl SuffixList {
         }
     }
 
-    /// The registrable domain of a host that is no IP address: its public suffix and one label more.
-    /// Hosts are compared byte by byte, so give one in lower case and in ASCII. Takes no memory. The
-    /// time depends on the host's labels, and not on the number of rules.
+    /// The registrable domain of a host that is no IP address: its public suffix and one label
+    /// more. Hosts are compared byte by byte, so give one in lower case and in ASCII. Takes no
+    /// memory. The time depends on the host's labels, and not on the number of rules.
     pub fn registrable<'h>(&self, host: &'h str) -> Option<&'h str>
-        ensures value { option_map (λ text. text.now) result ≡ spec.registrable_domain self.now.rules host.now }
+        ensures value { option_map (λ text. text.now) result
+            ≡ spec.registrable_domain self.now.rules host.now }
         ensures none { IsNone result ↔ (spec.public_suffix self.now.rules host.now ≡ host.now) }
     {
         one_label_more(host, self.rules.suffix_labels(host))

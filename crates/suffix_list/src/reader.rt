@@ -1,13 +1,13 @@
 //! Reading rules from the bytes of a list, line by line.
 ghost use Rattle.std.specs.Prelude.{◌≡◌, ◌≤◌, ◌<◌, ◌∷◌, ◌⊎◌, Ok, Err, IfSome, MatchResult};
 ghost use Rattle.std.specs.Prelude.{false, true, length, option_copied, option_map};
-ghost use Rattle.suffix_list.specs.Index.{plain_rule};
+ghost use Rattle.suffix_list.specs.Names.{plain_rule};
 ghost use Rattle.suffix_list.specs.ListText.{byte_limit, is_bad, lines_of, rule_in, rules_of_lines};
 ghost use Rattle.std.specs.Prelude.{◌==◌, position, slice_index};
 ghost use Rattle.std.specs.List.{position_or_len};
 ghost use Rattle.suffix_list.specs.ListText.{is_white};
 ghost use Rattle.suffix_list.specs.ListText as spec;
-ghost use Rattle.suffix_list.specs.Scan.{lines_after, rules_after};
+ghost use Rattle.suffix_list.specs.Lines.{lines_after, rules_after};
 
 use crate::ListFault;
 use crate::rule::{RuleFault, read_rule};

@@ -1,7 +1,7 @@
 //! Reading a rule from the text of a line.
 ghost use Rattle.std.specs.Prelude.{◌≡◌, ◌⊎◌, ◌&&◌, ◌||◌, not, MatchResult, bytes_eq, codes, string_bytes};
 ghost use Rattle.idna.specs.Uts46.{domain_to_ascii};
-ghost use Rattle.suffix_list.specs.Index.{plain_rule};
+ghost use Rattle.suffix_list.specs.Names.{plain_rule};
 ghost use Rattle.suffix_list.specs.ListText as spec;
 ghost use Rattle.suffix_list.specs.ListText.{ascii_labels, rule_of, written_rule};
 ghost use Rattle.suffix_list.specs.Suffix.{labels_of};

@@ -1,6 +1,6 @@
 //! Values from the Public Suffix List's own test file (`tests/tests.txt`, CC0), and first faults.
 use super::*;
-use crate::plain::registrable_slowly;
+use crate::reference::registrable_slowly;
 use agent_base::MemSource;
 use std::alloc::Global;
 use std::test::Fail;

@@ -1,4 +1,4 @@
-use Rattle.suffix_list.specs.Index.{plain_rule}
+use Rattle.suffix_list.specs.Names.{plain_rule}
 use Rattle.suffix_list.proofs.RuleLemmas.{rule_in-is_rule}
 use Rattle.suffix_list.proofs.reader.add_line.Goals as goal
 

@@ -1,7 +1,7 @@
 use Rattle.std.proofs.Common.{◌≤◌, ◌+◌, ◌-◌, ◌∙◌, ◌∷◌, ap, sym, arith, drop, length, length-drop, take}
 use Rattle.std.proofs.lemmas.List.{take_all}
 use Rattle.suffix_list.specs.ListText.{lines_of}
-use Rattle.suffix_list.proofs.ScanLemmas.{lines_at, lines_whole}
+use Rattle.suffix_list.proofs.LineLemmas.{lines_at, lines_whole}
 use Rattle.suffix_list.proofs.reader.next_line.Goals as goal
 
 pub returns-in-Some-clause-lines : goal.returns-in-Some-clause-lines

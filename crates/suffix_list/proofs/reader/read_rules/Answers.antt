@@ -1,8 +1,8 @@
 use Rattle.std.proofs.Common.{◌≡◌, ◌+◌, ◌∙◌, ap, [], ◌∷◌, inl, inr, ⊎_elim, option_copied}
 use Rattle.std.proofs.lemmas.Result.{err_from_is_err_and}
 use Rattle.suffix_list.specs.ListText.{lines_of}
-use Rattle.suffix_list.specs.Scan.{lines_after, rules_from, unless_faulty}
-use Rattle.suffix_list.proofs.ScanLemmas.{scan_step}
+use Rattle.suffix_list.specs.Lines.{lines_after, rules_from, unless_faulty}
+use Rattle.suffix_list.proofs.LineLemmas.{scan_step}
 use Rattle.suffix_list.proofs.reader.read_rules.Goals as goal
 
 pub returns-in_err-rules : goal.returns-in_err-rules

@@ -1,6 +1,6 @@
 use Rattle.std.proofs.Common.{◌≡◌, ◌+◌, ◌≤◌, ◌<◌, length, []}
 use Rattle.suffix_list.specs.ListText.{lines_of}
-use Rattle.suffix_list.specs.Scan.{rules_from}
+use Rattle.suffix_list.specs.Lines.{rules_from}
 use Rattle.suffix_list.proofs.reader.read_rules.Given as goal
 
 abbrev pub invariant-lines : goal.invariant-lines

@@ -3,7 +3,7 @@ use Rattle.std.specs.Prelude.{Result, Ok, Err, MatchResult, IsErrOf}
 use Rattle.suffix_list.specs.declared.fault.ListFault.{ListFault}
 use Rattle.suffix_list.specs.declared.fault.ListFault.TheVariants.{NoMemory, ReadFault}
 use Rattle.suffix_list.specs.ListText.{list_of}
-use Rattle.suffix_list.proofs.ScanLemmas.{no_read_fault_in}
+use Rattle.suffix_list.proofs.LineLemmas.{no_read_fault_in}
 use Rattle.suffix_list.proofs.list.SuffixList.read.Goals as goal
 
 -- reading from bytes that are there has no fault of the source

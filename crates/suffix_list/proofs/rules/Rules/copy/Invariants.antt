@@ -1,5 +1,5 @@
 use Rattle.std.proofs.Common.{◌≡◌, map, take}
-use Rattle.suffix_list.specs.Index.{plain_rule}
+use Rattle.suffix_list.specs.Names.{plain_rule}
 use Rattle.suffix_list.proofs.rules.Rules.copy.Given as goal
 
 abbrev pub invariant-rules : goal.invariant-rules

@@ -10,7 +10,7 @@ use Rattle.suffix_list.specs.declared.fault.ListFault.{ListFault}
 use Rattle.suffix_list.specs.declared.fault.ListFault.TheVariants.{BadRule, TooLong, TooManyRules, ReadFault}
 use Rattle.suffix_list.specs.Suffix.{Rule}
 use Rattle.suffix_list.specs.ListText.{byte_limit, is_bad, line_fault, lines_of, list_of, rule_in, rule_limit, rules_in, rules_of_lines, unless_fault, with_digest}
-use Rattle.suffix_list.specs.Scan.{rules_after, rules_from, unless_faulty, with_rule}
+use Rattle.suffix_list.specs.Lines.{rules_after, rules_from, unless_faulty, with_rule}
 
 append_nil : {X : Type 0} (xs : List X) → xs ++ [] ≡ xs
 append_nil [] = refl

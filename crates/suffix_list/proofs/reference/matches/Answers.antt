@@ -2,8 +2,8 @@ use Rattle.std.proofs.Common.{◌≡◌, ◌<◌, ◌∙◌, ap, sym, [], ◌∷
 use Rattle.std.specs.Cmp.Lexicographic.{pointwise}
 use Rattle.suffix_list.specs.Suffix.{labels_of, last_of, stands_for}
 use Rattle.suffix_list.proofs.LabelLemmas.{some_label}
-use Rattle.suffix_list.proofs.PlainLemmas.{more_labels, more_patterns}
-use Rattle.suffix_list.proofs.plain.matches.Goals as goal
+use Rattle.suffix_list.proofs.ReferenceLemmas.{more_labels, more_patterns}
+use Rattle.suffix_list.proofs.reference.matches.Goals as goal
 
 pub labels-init : goal.labels-init
 labels-init c =

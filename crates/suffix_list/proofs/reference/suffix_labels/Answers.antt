@@ -1,9 +1,9 @@
 use Rattle.std.proofs.Common.{◌∙◌, sym, map}
 use Rattle.std.specs.Prelude.{filter}
 use Rattle.suffix_list.specs.Suffix.{matches}
-use Rattle.suffix_list.specs.Index.{plain_rule}
-use Rattle.suffix_list.proofs.PlainLemmas.{any_matching, prevailing_exception, prevailing_rule}
-use Rattle.suffix_list.proofs.plain.suffix_labels.Goals as goal
+use Rattle.suffix_list.specs.Names.{plain_rule}
+use Rattle.suffix_list.proofs.ReferenceLemmas.{any_matching, prevailing_exception, prevailing_rule}
+use Rattle.suffix_list.proofs.reference.suffix_labels.Goals as goal
 
 pub returns-then-any_exception : goal.returns-then-any_exception
 returns-then-any_exception c =

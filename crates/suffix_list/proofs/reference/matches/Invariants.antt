@@ -4,7 +4,7 @@ use denote.Shadow.{shadow}
 use Rattle.std.specs.Prelude.{string_bytes}
 use Rattle.std.specs.Cmp.Lexicographic.{pointwise}
 use Rattle.suffix_list.specs.Suffix.{labels_of, last_of, stands_for}
-use Rattle.suffix_list.proofs.plain.matches.Given as goal
+use Rattle.suffix_list.proofs.reference.matches.Given as goal
 
 abbrev pub invariant-labels : goal.invariant-labels
 invariant-labels l = record {

@@ -1,8 +1,8 @@
-//! The plain slow program: it tries every rule at a host, and answers what the look-up answers.
+//! The reference: it tries every rule at a host, and answers what the look-up answers.
 ghost use Rattle.std.specs.Prelude.{◌≡◌, ◌||◌, ◌&&◌, not, filter, map, option_map};
 ghost use Rattle.std.specs.List.{list_any};
 ghost use Rattle.suffix_list.specs.Suffix as spec;
-ghost use Rattle.suffix_list.specs.Index.{plain_rule};
+ghost use Rattle.suffix_list.specs.Names.{plain_rule};
 
 use crate::labels::{count_labels, last_labels, next_label, one_label_more};
 use crate::rules::KeptRule;
@@ -27,7 +27,8 @@ fn suffix_labels(rules: &[KeptRule], host: &str) -> usize
 
 fn any_exception(rules: &[KeptRule], host: &str) -> bool
     ensures { result
-        ≡ list_any (λ rule. rule.is_exception && spec.matches host.now (plain_rule rule)) rules.now }
+        ≡ list_any (λ rule. rule.is_exception
+        && spec.matches host.now (plain_rule rule)) rules.now }
 {
     rules
         .iter()

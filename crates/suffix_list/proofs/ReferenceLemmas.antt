@@ -7,7 +7,7 @@ use Rattle.std.proofs.lemmas.Bool.{false_from_ne_true}
 use lib.Pointwise.{pointwise_long}
 use Rattle.suffix_list.specs.declared.rules.KeptRule.{KeptRule}
 use Rattle.suffix_list.specs.Suffix.{Rule, labels_of, matches, most_labels, prevailing_labels, stands_for}
-use Rattle.suffix_list.specs.Index.{plain_rule}
+use Rattle.suffix_list.specs.Names.{plain_rule}
 use Rattle.suffix_list.proofs.LabelLemmas.{some_label}
 
 -- one label does not stand for more

@@ -1,9 +1,0 @@
-use Rattle.std.proofs.Common.{◌∙◌, ap, not}
-use Rattle.std.specs.Prelude.{◌&&◌, bytes_eq, string_bytes}
-use Rattle.suffix_list.proofs.NoteLemmas.{name_put}
-use Rattle.suffix_list.proofs.rules.note_name.Goals as goal
-
-pub returns-in_ok-insert : goal.returns-in_ok-insert
-returns-in_ok-insert c = λ name.
-    name_put c.args.names.now c.insert.new.self c.in_ok-from_str.field-0 (string_bytes c.args.rule.now.name) name _ c.in_ok-insert.ensures.updates (c.in_ok-from_str.ensures.ok ∙ c.as_str.ensures.value)
-    (ap (λ b. not b && bytes_eq (string_bytes c.args.rule.now.name) name) c.if-not-rule.true)

@@ -21,6 +21,7 @@ use Rattle.url.proofs.InputLemmas.{is_empty_nonempty}
 use Rattle.url.proofs.SetterLemmas.{own_host}
 use Rattle.url.proofs.ValidLemmas.{special_has_authority, hierarchical, base_from_authority}
 use Rattle.url.proofs.RoundTrip.{host_nonempty}
+use Rattle.agent_base.proofs.Logic.{or_second}
 use Rattle.origin_site.specs.Address.{is_web, host_of, is_ip, port_of, ends_with_dot}
 use Rattle.origin_site.specs.Address.{address_parts, address_by, address_of}
 use Rattle.origin_site.specs.Origin.{PlainOrigin, scheme_text, origin_text, origin_of_address}
@@ -130,14 +131,11 @@ reads_back url read =
     ∙ cond-false _ _ _ (web_test url read.web) ∙ cond-false _ _ _ read.no_dot ∙ cond-false _ _ _ short
     ∙ ap (λ t. Ok (record (address_parts (bare_url url)) { text = t })) (serialize_bare url authority ∙ ap (λ t. t ++ 47 ∷ []) (sym text))
 
-or_right_true : (a b : Bool) → a ≡ false → (a || b) ≡ true → b ≡ true
-or_right_true a b fails either = sym (ap (λ t. t || b) fails) ∙ either
-
 pub web_from_test : (url : Parts) → is_web url ≡ true → IsWeb url
 web_from_test url test =
     ⊎_elim
     (λ yes. inl ((bytes_eq-Decides url.scheme (codes "https")).0 yes))
-    (λ other. inr ((bytes_eq-Decides url.scheme (codes "http")).0 (or_right_true _ _ other test)))
+    (λ other. inr ((bytes_eq-Decides url.scheme (codes "http")).0 (or_second _ _ other test)))
     (cases_Bool (bytes_eq url.scheme (codes "https")))
 
 -- the fact, of an origin with the same fields

@@ -18,8 +18,12 @@ abbrev pub origin_of_address : PlainAddress → PlainOrigin
 origin_of_address address =
     record { https = address.https; ip = address.ip; host = address.host; port = address.port }
 
--- two origins are the same: scheme, host and port are equal. Equal hosts are of one kind where
--- both texts read back, so that looking at `ip` too makes no difference there.
+-- HTML's rule for two tuple origins: scheme, host and port are equal
+abbrev pub IsSameOrigin : PlainOrigin → PlainOrigin → Type 0
+IsSameOrigin a b = (a.https ≡ b.https) × (a.host ≡ b.host) × (a.port ≡ b.port)
+
+-- the same as a test, which looks at `ip` too. That makes no difference where both texts read
+-- back, since equal hosts are of one kind there.
 abbrev pub same_plain_origin : PlainOrigin → PlainOrigin → Bool
 same_plain_origin a b =
     beq a.https b.https && (beq a.ip b.ip && (bytes_eq a.host b.host && (a.port == b.port)))

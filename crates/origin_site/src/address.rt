@@ -52,7 +52,7 @@ impl From<AllocError> for AddressFault {
 }
 
 impl Address {
-    ghost use Rattle.agent_base.specs.Answers.{Answers};
+    ghost use Rattle.agent_base.specs.Answers.{Answers, Decides};
     ghost use Rattle.origin_site.specs.Address.{address_of, address_of_parts, address_parts};
     ghost use Rattle.origin_site.specs.Plain.{plain_address};
 
@@ -83,7 +83,7 @@ impl Address {
     }
 
     fn of_url(alloc: Global, url: &Url) -> Result<Address, AddressFault>
-        ensures { Answers plain_address AddressFault.NoMemory (address_of_parts url.now) result }
+        ensures { Decides plain_address AddressFault.NoMemory (address_of_parts url.now) result }
     {
         if !is_web(url) {
             return Err(AddressFault::OtherScheme);

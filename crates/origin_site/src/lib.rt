@@ -1,8 +1,8 @@
 //! Addresses, their origins and their sites.
 //!
-//! An [`Address`] is an http or https URL. Its [`Origin`] is scheme, host and port, and its [`Site`]
-//! is the scheme and the domain of the host. An origin that came from an address has a text that reads
-//! back. Contracts see each of them as plain data, whose texts are lists of bytes.
+//! An [`Address`] is an http or https URL. Its [`Origin`] is scheme, host and port, and its
+//! [`Site`] is the scheme and the domain of the host. An origin that came from an address has a
+//! text that reads back. Contracts see each of them as plain data, whose texts are lists of bytes.
 #![tactic(auto)]
 
 mod address;

@@ -1,0 +1,91 @@
+-- What putting a cookie makes of the weight of a cell.
+use Rattle.std.proofs.Common.{◌≡◌, ℕ, ◌+◌, ◌≤◌, ◌<◌, ℤ, Bool, true, false, cond, not, List, [], ◌∷◌, ◌++◌, length, refl, ap, ◌∙◌, sym, arith}
+use Rattle.std.specs.Prelude.{nat_lt, ◌==◌}
+use Rattle.std.specs.List.{sum_by, count_by, list_any, range_with_len}
+use Rattle.std.proofs.lemmas.Bool.{ltb-true, ltb-false, lt-ltb}
+use Rattle.std.proofs.lemmas.Bool.Decides.{nat_tests}
+use Rattle.std.proofs.lemmas.List.{length-set, length-append}
+use Rattle.std.proofs.lemmas.List.FromFn.{length-range_with_len}
+use Rattle.std.proofs.lemmas.List.Sums.{sum_by-cons, sum_by-set, sum_by-append, prefix_len-le-length}
+use Rattle.partition_limits.specs.declared.tally.CellKind.{CellKind}
+use Rattle.partition_limits.specs.declared.tally.CellKind.TheVariants.{Own, Partition}
+use Rattle.partition_limits.specs.declared.tally.Tally.{Tally}
+use Rattle.partition_limits.specs.Limits.{fits}
+use Rattle.cookie_jar.specs.Cookie.{PlainCookie, IsCell, same, counted, keeps_limits, pair_bytes}
+use Rattle.partition_limits.specs.Victims.{without}
+use Rattle.cookie_jar.specs.Lifetime.{is_expired}
+use Rattle.cookie_jar.specs.Steps.{place_of, put, going, place_now, removals, removal_at, remove_step, put_step, steps}
+use Rattle.cookie_jar.proofs.CellLemmas.{fits_less}
+use Rattle.cookie_jar.proofs.StepLaws.{put_there, put_last, rows_hold, removals_from_all, going_apart}
+
+-- a cookie that is put makes a cell heavier by no more than itself
+put_sum : (f : PlainCookie → ℕ) (fresh : PlainCookie) (cs : List PlainCookie) → sum_by f (put fresh cs) ≤ sum_by f cs + f fresh
+put_sum f fresh cs = at (nat_lt (place_of fresh cs) (length cs)) refl
+  where
+    at : (b : Bool) → nat_lt (place_of fresh cs) (length cs) ≡ b → sum_by f (put fresh cs) ≤ sum_by f cs + f fresh
+    at true is =
+        let lt = ltb-true _ _ is in
+        rw (put_there fresh cs lt) (omega (arith, sum_by-set f cs (place_of fresh cs) fresh fresh lt))
+    at false is =
+        let top = prefix_len-le-length (λ d. not (same fresh d)) cs in
+        let one : sum_by f (fresh ∷ []) ≡ f fresh + 0 = sum_by-cons f fresh [] in
+        rw (put_last fresh cs (omega (arith, top, ltb-false _ _ is)), sum_by-append f cs (fresh ∷ [])) (omega (arith, one))
+
+put_count : (fresh : PlainCookie) (cs : List PlainCookie) → length (put fresh cs) ≤ length cs + 1
+put_count fresh cs = at (nat_lt (place_of fresh cs) (length cs)) refl
+  where
+    at : (b : Bool) → nat_lt (place_of fresh cs) (length cs) ≡ b → length (put fresh cs) ≤ length cs + 1
+    at true is =
+        let lt = ltb-true _ _ is in
+        rw (put_there fresh cs lt) (omega (arith, length-set cs (place_of fresh cs) fresh))
+    at false is =
+        let top = prefix_len-le-length (λ d. not (same fresh d)) cs in
+        rw (put_last fresh cs (omega (arith, top, ltb-false _ _ is))) (omega (arith, length-append cs (fresh ∷ [])))
+
+-- no cookie goes where the tally holds one more
+pub none_goes : (kind : CellKind) (tally : Tally) (now : ℤ) (fresh : PlainCookie) (cs : List PlainCookie) → IsCell kind tally cs
+    → fits kind (tally.cookies + 1) (tally.bytes + counted kind fresh) ≡ true → going kind now fresh cs ≡ []
+none_goes kind tally now fresh cs cell h =
+    let light : keeps_limits kind (put fresh cs) ≡ true =
+    fits_less kind _ _ _ _ h (omega (arith, cell.cookies, put_count fresh cs)) (omega (arith, cell.bytes, put_sum (counted kind) fresh cs)) in
+    rw (rows_hold kind now (put fresh cs), light) refl
+
+-- a cell's tally is small
+pub small_tally : (kind : CellKind) (tally : Tally) (cs : List PlainCookie) → IsCell kind tally cs → tally.bytes ≤ 10240
+small_tally Own tally cs cell = let none = own_sum cs in omega (arith, cell.bytes, none)
+  where
+    own_sum : (cs : List PlainCookie) → sum_by (counted Own) cs ≡ 0
+    own_sum [] = refl
+    own_sum (c ∷ cs) = let more = own_sum cs in let one : sum_by (counted Own) (c ∷ cs) ≡ 0 + sum_by (counted Own) cs = sum_by-cons (counted Own) c cs in omega (arith, more, one)
+small_tally Partition tally cs cell = within cell.within
+  where
+    within : keeps_limits Partition cs ≡ true → tally.bytes ≤ 10240
+    within h = grind (arith, nat_tests, h, cell.bytes)
+
+-- a cookie of a text is small
+pub small_pair : (kind : CellKind) (c : PlainCookie) → pair_bytes c ≤ 4096 → counted kind c ≤ 10240
+small_pair Own c le = omega arith
+small_pair Partition c le = omega (arith, le)
+
+-- no place moves where none has gone
+range_count : (n m : ℕ) → count_by (λ q. not (list_any (λ g. g == q) [])) (range_with_len n m) ≡ m
+range_count n m = all (range_with_len n m) ∙ length-range_with_len n m
+  where
+    all : (xs : List ℕ) → count_by (λ q. not (list_any (λ g. g == q) [])) xs ≡ length xs
+    all [] = refl
+    all (x ∷ xs) = let more = all xs in sum_by-cons (λ q. cond (not (list_any (λ g. g == q) [])) 1 0) x xs ∙ omega (arith, more)
+
+pub place_stays : (place : ℕ) → place_now [] place ≡ place
+place_stays place = range_count 0 place
+
+-- one removal alone
+pub removal_alone : (place : ℕ) (cs : List PlainCookie) → place < length cs → removals cs [] (place ∷ []) ≡ removal_at place cs
+removal_alone place cs lt =
+    ap (λ p. remove_step p cs ∷ []) (place_stays place) ∙ ap (λ b. cond b (remove_step place cs ∷ []) []) (sym (lt-ltb place (length cs) lt))
+
+-- the steps of storing a cookie that is not expired
+pub steps_are : (kind : CellKind) (now : ℤ) (fresh : PlainCookie) (cs : List PlainCookie) (gone : List ℕ) (place : ℕ) → is_expired now fresh ≡ false
+    → gone ≡ going kind now fresh cs → place ≡ place_of fresh cs → removals cs [] gone ++ put_step (place_now gone place) (without gone cs) ∷ [] ≡ steps kind now fresh cs
+steps_are kind now fresh cs gone place live went here =
+    let left = removals_from_all fresh cs (going kind now fresh cs) (going_apart kind now fresh cs) in
+    rw (went, here, live) (ap (λ xs. removals cs [] (going kind now fresh cs) ++ put_step (place_now (going kind now fresh cs) (place_of fresh cs)) xs ∷ []) (sym left))

@@ -1,0 +1,133 @@
+//! Cookies, with texts of their own and borrowed ones.
+ghost use Rattle.std.specs.Prelude.{◌≡◌, ◌≤◌, IfOk, length};
+ghost use Rattle.cookie_jar.specs.Cookie as spec;
+ghost use Rattle.cookie_jar.specs.Drafts.{plain_draft};
+ghost use Rattle.cookie_jar.specs.Lifetime as spec_of;
+ghost use Rattle.cookie_jar.specs.Views.{plain_cookie};
+
+use agent_base::NoMemory;
+use partition_limits::CellKind;
+use setcookie_parse::SameSite;
+use std::alloc::{AllocError, Global};
+
+/// A cookie that is kept. Times are seconds from 1970 on.
+#[derive(Debug, Drop)]
+pub struct Cookie {
+    pub name: String,
+    pub value: String,
+    pub domain: String,
+    pub path: String,
+    /// Whether the cookie goes to its domain alone, and not to hosts below it.
+    pub host_only: bool,
+    pub secure: bool,
+    pub http_only: bool,
+    pub same_site: SameSite,
+    pub creation: i64,
+    /// The second from which on the cookie is expired, and `None` for a session cookie.
+    pub expiry: Option<i64>,
+    /// The second of the storing or of the last sending.
+    pub last: i64,
+}
+
+/// A cookie whose texts are borrowed.
+#[derive(Debug, Clone, Copy, Drop)]
+pub struct Draft<'a> {
+    pub name: &'a str,
+    pub value: &'a str,
+    pub domain: &'a str,
+    pub path: &'a str,
+    pub host_only: bool,
+    pub secure: bool,
+    pub http_only: bool,
+    pub same_site: SameSite,
+    pub creation: i64,
+    pub expiry: Option<i64>,
+    pub last: i64,
+}
+
+impl Cookie {
+    /// The same cookie, over memory of its own.
+    pub fn copy(&self, alloc: Global) -> Result<Cookie, NoMemory>
+        ensures same { IfOk result (λ c. plain_cookie c ≡ plain_cookie self.now) }
+    {
+        Ok(self.draft().to_cookie(alloc)?)
+    }
+
+    pub(crate) fn draft(&self) -> Draft<'_>
+        ensures { plain_draft result ≡ plain_cookie self.now }
+    {
+        Draft {
+            name: self.name.as_str(),
+            value: self.value.as_str(),
+            domain: self.domain.as_str(),
+            path: self.path.as_str(),
+            host_only: self.host_only,
+            secure: self.secure,
+            http_only: self.http_only,
+            same_site: self.same_site,
+            creation: self.creation,
+            expiry: self.expiry,
+            last: self.last,
+        }
+    }
+}
+
+impl Draft<'_> {
+    pub(crate) fn to_cookie(&self, alloc: Global) -> Result<Cookie, AllocError>
+        ensures { IfOk result (λ c. plain_cookie c ≡ plain_draft self.now) }
+    {
+        Ok(Cookie {
+            name: String::from_str(alloc, self.name)?,
+            value: String::from_str(alloc, self.value)?,
+            domain: String::from_str(alloc, self.domain)?,
+            path: String::from_str(alloc, self.path)?,
+            host_only: self.host_only,
+            secure: self.secure,
+            http_only: self.http_only,
+            same_site: self.same_site,
+            creation: self.creation,
+            expiry: self.expiry,
+            last: self.last,
+        })
+    }
+}
+
+pub fn is_same(new: &Draft<'_>, cookie: &Cookie) -> bool
+    ensures { result ≡ spec.same (plain_draft new.now) (plain_cookie cookie.now) }
+{
+    new.name == cookie.name.as_str()
+        && new.domain == cookie.domain.as_str()
+        && new.host_only == cookie.host_only
+        && new.path == cookie.path.as_str()
+}
+
+pub fn is_expired(expiry: Option<i64>, now: i64) -> bool
+    ensures { result ≡ spec_of.has_passed now expiry }
+{
+    match expiry {
+        None => false,
+        Some(expiry) => expiry <= now,
+    }
+}
+
+/// The bytes that count in a cell.
+pub fn counted(kind: CellKind, cookie: &Cookie) -> u32
+    requires { spec.counted kind (plain_cookie cookie.now) ≤ 10240 }
+    ensures { result ≡ spec.counted kind (plain_cookie cookie.now) }
+{
+    match kind {
+        CellKind::Own => 0,
+        CellKind::Partition => (cookie.name.len() + cookie.value.len()) as u32,
+    }
+}
+
+/// The same of a draft.
+pub fn counted_draft(kind: CellKind, cookie: &Draft<'_>) -> u32
+    requires { spec.counted kind (plain_draft cookie.now) ≤ 10240 }
+    ensures { result ≡ spec.counted kind (plain_draft cookie.now) }
+{
+    match kind {
+        CellKind::Own => 0,
+        CellKind::Partition => (cookie.name.len() + cookie.value.len()) as u32,
+    }
+}

@@ -1,0 +1,27 @@
+//! Cells of cookies: storing the cookie of a Set-Cookie text, and the cookies that go out.
+//!
+//! A [`Jar`] is one cell, the unpartitioned cookies of a domain or its partition under a top-level
+//! site. Contracts see it as a kind and a list of plain cookies.
+#![tactic(auto)]
+
+mod access;
+mod cause;
+mod cookie;
+mod drops;
+mod jar;
+mod key;
+mod matching;
+mod new_cookie;
+mod plan;
+mod removals;
+mod sending;
+mod step;
+mod steps;
+
+pub use access::{Access, Destination};
+pub use cause::CookieDrop;
+pub use cookie::Cookie;
+pub use jar::Jar;
+pub use key::{CellKey, destination};
+pub use plan::{Plan, StoredKind};
+pub use step::JarStep;

@@ -1,0 +1,201 @@
+//! What storing a cookie does, before it is done.
+ghost use Rattle.std.specs.Prelude.{◌≡◌, ◌≤◌, ◌+◌, ◌⊎◌, Ok, true, false, is_some, IfOk};
+ghost use Rattle.std.specs.Prelude.{IsErrOf, IsOk, MatchResult, length, map, option_copied};
+ghost use Rattle.agent_base.specs.Answers.{Answers, Decides};
+ghost use Rattle.setcookie_parse.specs.Views.{cookie_view};
+ghost use Rattle.cookie_jar.specs.Cookie.{IsCell, pair_bytes};
+ghost use Rattle.cookie_jar.specs.Drafts.{plain_draft};
+ghost use Rattle.cookie_jar.specs.Drops.{is_not_ascii_domain};
+ghost use Rattle.cookie_jar.specs.NewCookie.{kind_with};
+ghost use Rattle.cookie_jar.specs.Planned as spec;
+ghost use Rattle.cookie_jar.specs.Views.{plain_access, plain_cookie};
+
+use crate::access::Access;
+use crate::cause::CookieDrop;
+use crate::cookie::{Cookie, Draft, is_expired};
+use crate::drops::{is_not_ascii_domain, later_drop};
+use crate::jar::Jar;
+use crate::new_cookie::{lower_domain, made, own_domain, replaced_creation};
+use crate::step::JarStep;
+use crate::steps::{place_of, steps};
+use agent_base::NoMemory;
+use partition_limits::{CellKind, Tally};
+use setcookie_parse::CookieText;
+use std::alloc::Global;
+use std::marker::Model;
+use suffix_list::SuffixList;
+
+/// What storing a cookie does.
+#[derive(Debug, Clone, Copy, PartialEq, Eq)]
+pub enum StoredKind {
+    /// The cookie is new.
+    Added,
+    /// The cookie is in the place of the same one.
+    Replaced,
+    /// The cookie is expired; the same one goes, if it is there.
+    Removed,
+}
+
+/// What storing a cookie does to a cell, with the memory that it takes.
+#[derive(Debug, Drop)]
+pub struct Plan {
+    pub(crate) kind: StoredKind,
+    pub(crate) steps: Vec<JarStep>,
+    pub(crate) fresh: Cookie,
+}
+
+impl Model for Plan {
+    ghost use Rattle.cookie_jar.specs.Planned.{PlainPlan};
+    ghost use Rattle.cookie_jar.specs.Views.{plain_cookie};
+
+    ghost Value = { PlainPlan };
+
+    ghost view = { λ p. record {
+      kind = p.kind;
+      steps = p.steps.items;
+      fresh = plain_cookie p.fresh;
+    } };
+}
+
+impl Plan {
+    /// What is done, in a word.
+    pub fn kind(&self) -> StoredKind
+        ensures value { result ≡ self.now.kind }
+    {
+        self.kind
+    }
+
+    /// The steps, in the order in which they are done.
+    pub fn steps(&self) -> &[JarStep]
+        ensures value { result.now ≡ self.now.steps }
+    {
+        self.steps.as_slice()
+    }
+
+    /// The cookie that an `Insert` or a `Replace` puts.
+    pub fn fresh(&self) -> &Cookie
+        ensures value { plain_cookie result.now ≡ self.now.fresh }
+    {
+        &self.fresh
+    }
+}
+
+impl Jar {
+    /// What storing the cookie of a text does to this cell, which is that of the destination, or an
+    /// empty one if there is none. A drop is told before any memory is taken but that of a Domain
+    /// in lower case.
+    pub fn plan(
+        &self,
+        alloc: Global,
+        text: &CookieText<'_>,
+        access: &Access<'_>,
+        list: &SuffixList,
+        now: i64,
+    ) -> Result<Plan, CookieDrop>
+        requires pair { length text.now.name.now + length text.now.value.now ≤ 4096 }
+        ensures answer { Answers (λ p. p) CookieDrop.NoMemory (spec.planned list.now.rules
+            (cookie_view text.now) (plain_access access.now) self.now.kind now self.now.cookies)
+            result }
+        ensures memory { IsErrOf result CookieDrop.NoMemory → (is_some text.now.domain ≡ true)
+            × (is_not_ascii_domain (cookie_view text.now) ≡ false)
+            ⊎ IsOk (spec.planned list.now.rules (cookie_view text.now) (plain_access access.now)
+            self.now.kind now self.now.cookies) }
+        ensures fit { IfOk result (λ p. spec.IsPlanFor self.now p) }
+    {
+        if is_not_ascii_domain(text) {
+            return Err(CookieDrop::NonAsciiDomain);
+        }
+        let lower = lower_domain(alloc, text)?;
+        planned_with(
+            alloc,
+            self.kind,
+            self.tally,
+            &self.cookies,
+            lower.as_deref(),
+            text,
+            access,
+            list,
+            now,
+        )
+    }
+}
+
+fn planned_with(
+    alloc: Global,
+    kind: CellKind,
+    tally: Tally,
+    cookies: &[Cookie],
+    lower: Option<&str>,
+    text: &CookieText<'_>,
+    access: &Access<'_>,
+    list: &SuffixList,
+    now: i64,
+) -> Result<Plan, CookieDrop>
+    requires cell { IsCell kind tally (map plain_cookie cookies.now) }
+    requires pair { length text.now.name.now + length text.now.value.now ≤ 4096 }
+    ensures answer { Decides (λ p. p) CookieDrop.NoMemory (spec.planned_with list.now.rules
+        (option_copied lower.entry) (cookie_view text.now) (plain_access access.now) kind now
+        (map plain_cookie cookies.now)) result }
+{
+    let own = own_domain(lower, access, list);
+    let new = made(own, text, access, now);
+    match later_drop(lower, own, &new, text, access, list, now, cookies) {
+        Some(why) => Err(why),
+        None => plan_unless_memory(alloc, kind, tally, cookies, &new, now),
+    }
+}
+
+fn plan_unless_memory(
+    alloc: Global,
+    kind: CellKind,
+    tally: Tally,
+    cookies: &[Cookie],
+    new: &Draft<'_>,
+    now: i64,
+) -> Result<Plan, CookieDrop>
+    requires cell { IsCell kind tally (map plain_cookie cookies.now) }
+    requires pair { pair_bytes (plain_draft new.now) ≤ 4096 }
+    ensures { MatchResult result (λ p. p
+        ≡ spec.plan_of kind now (plain_draft new.now) (map plain_cookie cookies.now))
+        (λ why. why ≡ CookieDrop.NoMemory) }
+{
+    Ok(plan_of(alloc, kind, tally, cookies, new, now)?)
+}
+
+fn plan_of(
+    alloc: Global,
+    kind: CellKind,
+    tally: Tally,
+    cookies: &[Cookie],
+    new: &Draft<'_>,
+    now: i64,
+) -> Result<Plan, NoMemory>
+    requires cell { IsCell kind tally (map plain_cookie cookies.now) }
+    requires pair { pair_bytes (plain_draft new.now) ≤ 4096 }
+    ensures { IfOk result (λ p. p
+        ≡ spec.plan_of kind now (plain_draft new.now) (map plain_cookie cookies.now)) }
+{
+    let place = place_of(cookies, new);
+    let old = replaced_creation(cookies, new, place, now);
+    let fresh = Draft {
+        creation: old.unwrap_or(new.creation),
+        ..*new
+    };
+    Ok(Plan {
+        kind: stored_kind(new, old, now),
+        steps: steps(alloc, kind, tally, cookies, &fresh, place, now)?,
+        fresh: fresh.to_cookie(alloc)?,
+    })
+}
+
+fn stored_kind(new: &Draft<'_>, old: Option<i64>, now: i64) -> StoredKind
+    ensures { result ≡ kind_with now (plain_draft new.now) (is_some old) }
+{
+    if is_expired(new.expiry, now) {
+        StoredKind::Removed
+    } else if old.is_some() {
+        StoredKind::Replaced
+    } else {
+        StoredKind::Added
+    }
+}

@@ -1,0 +1,9 @@
+//! Tests of the cookie jars, by calls of their libraries.
+//!
+//! They stand apart from `partition_limits` and `cookie_jar`, so that each of these is proved once.
+#![tactic(auto)]
+
+#[cfg(test)]
+mod jars;
+#[cfg(test)]
+mod limits;

@@ -1,0 +1,4 @@
+mod StandardFacts
+pub mod RowsLemmas
+pub mod GrantLemmas
+pub mod PartLemmas

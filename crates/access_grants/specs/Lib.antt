@@ -1,0 +1,4 @@
+pub mod Grant
+pub mod Part
+pub mod Request
+pub mod Plain

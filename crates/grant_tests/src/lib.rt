@@ -1,0 +1,7 @@
+//! Tests of permissions of storage access, by the public calls of `access_grants`.
+//!
+//! They stand apart from that library, so that it is proved once.
+#![tactic(auto)]
+
+#[cfg(test)]
+mod permissions;

@@ -3,11 +3,13 @@ use Rattle.std.proofs.Common.{◌≡◌, ◌≢◌, ℕ, zero, suc, ◌<◌, Boo
 use Rattle.std.specs.Prelude.{◌||◌, ◌==◌, ◌⊎◌, if◌then◌else◌, Some, option_map, slice_get, unwrap_or}
 use Rattle.std.proofs.lemmas.List.{get_or-map, length-map, map-set, reverse-reverse}
 use Rattle.std.proofs.lemmas.Option.{slice_get-get_or}
+use Rattle.frame_tree.specs.Kept.{KeptDocument, KeptFrame, kept_frame, kept_instead}
 use Rattle.frame_tree.specs.Plain.{plain_frame}
 use Rattle.frame_tree.specs.declared.frames.Frame.{Frame}
 use Rattle.std.proofs.Math.Bool.{or-false}
 use Rattle.std.proofs.lemmas.Bool.{eq-eqb, both_ways}
 use Rattle.std.proofs.lemmas.Bool.Decides.{eqb_tells}
+use Rattle.std.specs.List.{list_any}
 use Rattle.std.proofs.lemmas.List.Folds.{list_any-append}
 use Rattle.frame_tree.specs.Calls.{is_activated, origin_of}
 use Rattle.frame_tree.specs.Document.{PlainDocument}
@@ -47,38 +49,88 @@ has_at n (f ∷ fs) zero d low is = ap (λ b. b || has_frame n fs) (eq-eqb f.fra
 has_at n (f ∷ fs) (suc i) d low is =
     ap (λ b. (f.frame == n) || b) (has_at n fs i d (omega (arith, low)) is) ∙ or_true (f.frame == n)
 
+-- a change of what has this number
+abbrev pub change_at : {X : Type 0} → (X → ℕ) → ℕ → (X → X) → X → X
+change_at number n change x = if number x == n then change x else x
+
+-- no two have one number
+abbrev pub ApartBy : {X : Type 0} → (X → ℕ) → List X → Type 0
+ApartBy number [] = Unit {0}
+ApartBy number (x ∷ xs) = (list_any (λ y. number y == number x) xs ≡ false) × ApartBy number xs
+
+change_nowhere : {X : Type 0} (number : X → ℕ) (n : ℕ) (change : X → X) (xs : List X) → list_any (λ x. number x == n) xs ≡ false
+    → xs ≡ map (change_at number n change) xs
+change_nowhere number n change [] fresh = refl
+change_nowhere number n change (x ∷ xs) fresh =
+    let parts = or_none (number x == n) (list_any (λ x. number x == n) xs) fresh in
+    ap (λ l. x ∷ l) (change_nowhere number n change xs parts.1)
+    ∙ ap (λ b. cond b (change x) x ∷ map (change_at number n change) xs) (sym parts.0)
+
 -- another document in the frame of this number
 abbrev pub put_at : ℕ → (PlainDocument → PlainDocument) → PlainFrame → PlainFrame
 put_at frame next f = if f.frame == frame then with_next next f else f
 
-put_nowhere : (frame : ℕ) (next : PlainDocument → PlainDocument) (fs : List PlainFrame) → has_frame frame fs ≡ false
+pub put_nowhere : (frame : ℕ) (next : PlainDocument → PlainDocument) (fs : List PlainFrame) → has_frame frame fs ≡ false
     → fs ≡ map (put_at frame next) fs
-put_nowhere frame next [] fresh = refl
-put_nowhere frame next (f ∷ fs) fresh =
-    let parts = or_none (f.frame == frame) (has_frame frame fs) fresh in
-    ap (λ l. f ∷ l) (put_nowhere frame next fs parts.1)
-    ∙ ap (λ b. cond b (with_next next f) f ∷ map (put_at frame next) fs) (sym parts.0)
+put_nowhere frame next fs fresh = change_nowhere (λ (f : PlainFrame). f.frame) frame (with_next next) fs fresh
 
-elsewhere : (f : PlainFrame) (frame : ℕ) (fs : List PlainFrame) → has_frame f.frame fs ≡ false → has_frame frame fs ≡ true
-    → (((f.frame == frame) ≡ true) × (f.frame ≡ frame)) ⊎ (((f.frame == frame) ≡ false) × (f.frame ≢ frame))
-    → (f.frame == frame) ≡ false
-elsewhere f frame fs fresh there (inl is) =
-    absurd (both_ways (has_frame frame fs) (ap (λ n. has_frame n fs) (sym is.1) ∙ fresh) there)
-elsewhere f frame fs fresh there (inr is) = is.0
+any_at : {X : Type 0} (number : X → ℕ) (n : ℕ) (xs : List X) (i : ℕ) (d : X) → i < length xs → number (get_or xs i d) ≡ n
+    → list_any (λ x. number x == n) xs ≡ true
+any_at number n [] i d low is = absurd (omega (arith, low))
+any_at number n (x ∷ xs) zero d low is = ap (λ b. b || list_any (λ x. number x == n) xs) (eq-eqb (number x) n is)
+any_at number n (x ∷ xs) (suc i) d low is =
+    ap (λ b. (number x == n) || b) (any_at number n xs i d (omega (arith, low)) is) ∙ or_true (number x == n)
 
--- a write at the place of a frame is one at its number
-pub put-place : (frame : ℕ) (next : PlainDocument → PlainDocument) (fs : List PlainFrame) (i : ℕ) (d : PlainFrame)
-    → i < length fs → Apart fs → (get_or fs i d).frame ≡ frame
-    → set fs i (with_next next (get_or fs i d)) ≡ map (put_at frame next) fs
-put-place frame next [] i d low apart is = absurd (omega (arith, low))
-put-place frame next (f ∷ fs) zero d low apart is =
-    ap (λ l. with_next next f ∷ l) (put_nowhere frame next fs (ap (λ n. has_frame n fs) (sym is) ∙ apart.0))
-    ∙ ap (λ b. cond b (with_next next f) f ∷ map (put_at frame next) fs) (sym (eq-eqb f.frame frame is))
-put-place frame next (f ∷ fs) (suc i) d low apart is =
-    let less : i < length fs = omega (arith, low) in
-    ap (λ l. f ∷ l) (put-place frame next fs i d less apart.1 is)
-    ∙ ap (λ b. cond b (with_next next f) f ∷ map (put_at frame next) fs)
-    (sym (elsewhere f frame fs apart.0 (has_at frame fs i d less is) (eqb_tells f.frame frame)))
+elsewhere : {X : Type 0} (number : X → ℕ) (x : X) (n : ℕ) (xs : List X) → list_any (λ y. number y == number x) xs ≡ false
+    → list_any (λ y. number y == n) xs ≡ true
+    → (((number x == n) ≡ true) × (number x ≡ n)) ⊎ (((number x == n) ≡ false) × (number x ≢ n)) → (number x == n) ≡ false
+elsewhere number x n xs fresh there (inl is) =
+    absurd (both_ways (list_any (λ y. number y == n) xs) (ap (λ m. list_any (λ y. number y == m) xs) (sym is.1) ∙ fresh) there)
+elsewhere number x n xs fresh there (inr is) = is.0
+
+-- a write at a place is one at its number
+pub change-place : {X : Type 0} (number : X → ℕ) (n : ℕ) (change : X → X) (xs : List X) (i : ℕ) (d : X)
+    → i < length xs → ApartBy number xs → number (get_or xs i d) ≡ n
+    → set xs i (change (get_or xs i d)) ≡ map (change_at number n change) xs
+change-place number n change [] i d low apart is = absurd (omega (arith, low))
+change-place number n change (x ∷ xs) zero d low apart is =
+    ap (λ l. change x ∷ l)
+    (change_nowhere number n change xs (ap (λ m. list_any (λ y. number y == m) xs) (sym is) ∙ apart.0))
+    ∙ ap (λ b. cond b (change x) x ∷ map (change_at number n change) xs) (sym (eq-eqb (number x) n is))
+change-place number n change (x ∷ xs) (suc i) d low apart is =
+    let less : i < length xs = omega (arith, low) in
+    ap (λ l. x ∷ l) (change-place number n change xs i d less apart.1 is)
+    ∙ ap (λ b. cond b (change x) x ∷ map (change_at number n change) xs)
+    (sym (elsewhere number x n xs apart.0 (any_at number n xs i d less is) (eqb_tells (number x) n)))
+
+any_kept : (n : ℕ) (fs : List Frame) → list_any (λ k. k.plain.frame == n) (map kept_frame fs) ≡ has_frame n (map plain_frame fs)
+any_kept n [] = refl
+any_kept n (f ∷ fs) = ap (λ b. (f.frame == n) || b) (any_kept n fs)
+
+apart_kept : (fs : List Frame) → Apart (map plain_frame fs) → ApartBy (λ k. k.plain.frame) (map kept_frame fs)
+apart_kept [] apart = tt
+apart_kept (f ∷ fs) apart = (any_kept f.frame fs ∙ apart.0, apart_kept fs apart.1)
+
+got : (fs : List Frame) (i n : ℕ) (d : Frame) → option_map (λ f. f.frame) (slice_get fs i) ≡ Some n → i < length fs
+    → (get_or fs i d).frame ≡ n
+got fs i n d is low =
+    ap (λ o. unwrap_or o 0) (ap (option_map (λ f. f.frame)) (sym (slice_get-get_or fs i d low)) ∙ is)
+
+-- a write of a document at the place of a frame
+pub put-frame : (frame : ℕ) (made : KeptDocument) (fs : List Frame) (i : ℕ) (v d : Frame)
+    → IsTree (map plain_frame fs) → i < length fs → option_map (λ f. f.frame) (slice_get fs i) ≡ Some frame
+    → kept_frame v ≡ kept_instead made (kept_frame (get_or fs i d))
+    → map kept_frame (set fs i v) ≡ map (λ k. if k.plain.frame == frame then kept_instead made k else k) (map kept_frame fs)
+put-frame frame made fs i v d tree low at is =
+    let fs' : List PlainFrame = map plain_frame fs in
+    let ks : List KeptFrame = map kept_frame fs in
+    let read : get_or ks i (kept_frame d) ≡ kept_frame (get_or fs i d) = get_or-map kept_frame fs i d (kept_frame d) low in
+    let apart : Apart fs' = subst Apart (reverse-reverse fs') (apart-reversed (reverse fs') (apart-grown (reverse fs') tree)) in
+    map-set kept_frame fs i v
+    ∙ ap (set ks i) (is ∙ ap (kept_instead made) (sym read))
+    ∙ change-place (λ (k : KeptFrame). k.plain.frame) frame (kept_instead made) ks i (kept_frame d)
+    (subst (λ n. i < n) (sym (length-map fs kept_frame)) low) (apart_kept fs apart)
+    (ap (λ (k : KeptFrame). k.plain.frame) read ∙ got fs i frame d at low)
 
 found_newer : (passes : PlainFrame → Bool) (next : PlainDocument → PlainDocument) (e : PlainFrame) (older fs : List PlainFrame)
     → has_frame e.frame fs ≡ false
@@ -99,25 +151,6 @@ found-map passes next (f ∷ fs) apart =
     ap (λ b. cond (cond b (passes f) (found passes f.frame fs)) (with_next next f) f
     ∷ map (λ g. if found passes g.frame (f ∷ fs) then with_next next g else g) fs) (eq-eqb f.frame f.frame refl)
     ∙ ap (λ l. cond (passes f) (with_next next f) f ∷ l) (found_newer passes next f fs fs apart.0 ∙ found-map passes next fs apart.1)
-
-got : (fs : List Frame) (i n : ℕ) (d : Frame) → option_map (λ f. f.frame) (slice_get fs i) ≡ Some n → i < length fs
-    → (get_or fs i d).frame ≡ n
-got fs i n d is low =
-    ap (λ o. unwrap_or o 0) (ap (option_map (λ f. f.frame)) (sym (slice_get-get_or fs i d low)) ∙ is)
-
--- a write of a document at the place of a frame
-pub put-frame : (frame : ℕ) (next : PlainDocument → PlainDocument) (fs : List Frame) (i : ℕ) (v d : Frame)
-    → IsTree (map plain_frame fs) → i < length fs → option_map (λ f. f.frame) (slice_get fs i) ≡ Some frame
-    → plain_frame v ≡ with_next next (plain_frame (get_or fs i d))
-    → map plain_frame (set fs i v) ≡ map (put_at frame next) (map plain_frame fs)
-put-frame frame next fs i v d tree low at is =
-    let fs' : List PlainFrame = map plain_frame fs in
-    let read : get_or fs' i (plain_frame d) ≡ plain_frame (get_or fs i d) = get_or-map plain_frame fs i d (plain_frame d) low in
-    let apart : Apart fs' = subst Apart (reverse-reverse fs') (apart-reversed (reverse fs') (apart-grown (reverse fs') tree)) in
-    map-set plain_frame fs i v
-    ∙ ap (set fs' i) (is ∙ ap (with_next next) (sym read))
-    ∙ put-place frame next fs' i (plain_frame d) (subst (λ n. i < n) (sym (length-map fs plain_frame)) low) apart
-    (ap (λ f. f.frame) read ∙ got fs i frame d at low)
 
 -- the marks of a set are those of the test by which it was made, whatever stands first
 pub found-tree : (passes : PlainFrame → Bool) (next : PlainDocument → PlainDocument) (fs : List PlainFrame) → IsTree fs

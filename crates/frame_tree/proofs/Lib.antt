@@ -1,6 +1,11 @@
 mod StandardFacts
 pub mod ShapeLemmas
 pub mod TopLemmas
+pub mod ChainLemmas
 pub mod ApartLemmas
 pub mod SetLemmas
 pub mod LastLemmas
+pub mod KeptLemmas
+pub mod KeyLemmas
+pub mod SoundLemmas
+pub mod LawLemmas

@@ -74,7 +74,7 @@ on_back-newer a n e older apart =
     ∙ ap (λ b. cond b (on_back a e.parent older || (e.frame == a)) (on_back a n older)) apart
 
 -- what is not there is on no chain
-on_back-absent : (a n : ℕ) (fs : List PlainFrame) → has_frame a fs ≡ false → on_back a n fs ≡ false
+pub on_back-absent : (a n : ℕ) (fs : List PlainFrame) → has_frame a fs ≡ false → on_back a n fs ≡ false
 on_back-absent a n [] none = refl
 on_back-absent a n (e ∷ older) none =
     let parts = or_none (e.frame == a) (has_frame a older) none in
@@ -181,7 +181,7 @@ has_kept_by n f b fs left kept rest (inl is) there =
 has_kept_by n f b fs left kept rest (inr is) there =
     has_rest n b f left (rest (sym (ap (λ t. t || has_frame n fs) is.0) ∙ there))
 
-has_kept_in : (n : ℕ) (p : PlainFrame → Bool) → ((f : PlainFrame) → f.frame ≡ n → p f ≡ true) → (fs : List PlainFrame)
+pub has_kept_in : (n : ℕ) (p : PlainFrame → Bool) → ((f : PlainFrame) → f.frame ≡ n → p f ≡ true) → (fs : List PlainFrame)
     → has_frame n fs ≡ true → has_frame n (filter p fs) ≡ true
 has_kept_in n p kept [] there = there
 has_kept_in n p kept (f ∷ fs) there =

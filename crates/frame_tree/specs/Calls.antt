@@ -1,8 +1,11 @@
 -- What each call leaves of the frames of a tab.
--- Source: HTML, "Navigables" and "Navigation" (a document that is replaced goes with the frames below
--- it), "Tracking user activation" (the activation notification steps, consume user activation).
+-- Source: HTML, "Navigables" and "Navigation" (a document that is replaced goes with the frames
+-- below it), "Tracking user activation" (the activation notification steps, consume user
+-- activation).
 -- Our own choice: consuming clears the activation of every document of the tab.
-use Rattle.std.specs.Prelude.{◌≡◌, MatchResult, ℕ, Bool, true, false, not, is_some, ◌&&◌, ◌||◌, ◌==◌, ℤ, List, [], ◌∷◌, ◌++◌, map, filter, Option, Some, None, option_and_then, Result, Ok, Err, if◌then◌else◌}
+use Rattle.std.specs.Prelude.{◌≡◌, MatchResult, ℕ, Bool, true, false, not, is_some, ◌&&◌, ◌||◌}
+use Rattle.std.specs.Prelude.{◌==◌, ℤ, List, [], ◌∷◌, ◌++◌, map, filter, Option, Some, None}
+use Rattle.std.specs.Prelude.{option_and_then, Result, Ok, Err, if◌then◌else◌}
 use Rattle.std.specs.List.{list_all}
 use Rattle.suffix_list.specs.Suffix.{Rule}
 use Rattle.origin_site.specs.Address.{PlainAddress}
@@ -11,8 +14,10 @@ use Rattle.origin_site.specs.Site.{PlainSite}
 use Rattle.frame_tree.specs.declared.tab.TreeFault.{TreeFault}
 use Rattle.frame_tree.specs.declared.tab.TreeFault.TheVariants.{NoFrame, FrameExists}
 use Rattle.frame_tree.specs.Sandbox.{PlainSandbox, unrestricted}
-use Rattle.frame_tree.specs.Document.{PlainDocument, is_active_by, loaded, loaded_below, loaded_instead, same_document_origin}
-use Rattle.frame_tree.specs.Tree.{PlainFrame, chain_of, document_of, has_frame, is_on_chain, with_next}
+use Rattle.frame_tree.specs.Document.{PlainDocument, is_active_by, loaded, loaded_below}
+use Rattle.frame_tree.specs.Document.{loaded_instead, same_document_origin}
+use Rattle.frame_tree.specs.Tree.{PlainFrame, chain_of, document_of, has_frame, is_on_chain}
+use Rattle.frame_tree.specs.Tree.{with_next}
 
 -- the frames of a tab that was just opened: the top alone, which is not sandboxed
 abbrev pub opened : List Rule → PlainAddress → List PlainFrame
@@ -20,8 +25,8 @@ opened rules address =
     record { frame = 0; parent = 0; document = loaded rules unrestricted false address } ∷ []
 
 -- the frames with a fresh one below this document, or the fault
-abbrev pub added_below : Option PlainDocument → List Rule → ℕ → ℕ → PlainAddress → PlainSandbox → Bool
-    → List PlainFrame → Result (List PlainFrame) TreeFault
+abbrev pub added_below : Option PlainDocument → List Rule → ℕ → ℕ → PlainAddress → PlainSandbox
+    → Bool → List PlainFrame → Result (List PlainFrame) TreeFault
 added_below None rules parent frame address sandbox deny frames = Err NoFrame
 added_below (Some above) rules parent frame address sandbox deny frames =
     if has_frame frame frames then Err FrameExists
@@ -56,7 +61,8 @@ abbrev pub navigated_from : Option PlainDocument → List Rule → ℕ → Plain
     → List PlainFrame → Result (List PlainFrame) TreeFault
 navigated_from None rules frame address keep_flag frames = Err NoFrame
 navigated_from (Some before) rules frame address keep_flag frames =
-    Ok (with_document frame (λ _. loaded_instead rules keep_flag before address) (without_below frame frames))
+    Ok (with_document frame (λ _. loaded_instead rules keep_flag before address)
+    (without_below frame frames))
 
 -- the frames after a navigation: those below go, and the frame has a document in the place of its
 -- present one
@@ -83,7 +89,8 @@ with_mark moment document = record document { mark = moment }
 -- the frames after an activation: the document, its ancestors, and its descendants of its origin
 abbrev pub activated : ℕ → ℤ → List PlainFrame → List PlainFrame
 activated frame now frames =
-    map (λ f. if is_activated frame (origin_of frame frames) frames f then with_next (with_mark (Some now)) f else f) frames
+    map (λ f. if is_activated frame (origin_of frame frames) frames f
+    then with_next (with_mark (Some now)) f else f) frames
 
 -- a document with storage access
 abbrev pub flagged : PlainDocument → PlainDocument
@@ -96,7 +103,8 @@ consumed frames = map (with_next (with_mark None)) frames
 -- the sites of a frame's chain, from the top, or the fault
 abbrev pub sites_of : ℕ → List PlainFrame → Result (List (Option PlainSite)) TreeFault
 sites_of frame frames =
-    if has_frame frame frames then Ok (map (λ f. f.document.site) (chain_of frame frames)) else Err NoFrame
+    if has_frame frame frames then Ok (map (λ f. f.document.site) (chain_of frame frames))
+    else Err NoFrame
 
 -- a list of sites begins with a document that has one
 abbrev pub begins_with_site : List (Option PlainSite) → Bool
@@ -118,6 +126,8 @@ abbrev pub is_active : ℕ → ℤ → List PlainFrame → Bool
 is_active frame now frames = is_active_document now (document_of frame frames)
 
 -- a call that can only lack its frame has done what it is for, or answered that and done nothing
-abbrev pub IsDoneAt : {E : Type 0} → ℕ → (old new done : List PlainFrame) → Result (Unit {0}) E → Type 0
+abbrev pub IsDoneAt : {E : Type 0} → ℕ → (old new done : List PlainFrame) → Result (Unit {0}) E
+    → Type 0
 IsDoneAt frame old new done result =
-    MatchResult result (λ _. (has_frame frame old ≡ true) × (new ≡ done)) (λ _. (has_frame frame old ≡ false) × (new ≡ old))
+    MatchResult result (λ _. (has_frame frame old ≡ true) × (new ≡ done))
+    (λ _. (has_frame frame old ≡ false) × (new ≡ old))

@@ -3,7 +3,8 @@
 -- origin; a document has the flags of its container's document), "Tracking user activation", and
 -- Permissions Policy, "Inherited policy"; Storage Access API, the flag of a document.
 -- Our own choice: an activation lasts five seconds, where HTML leaves the time to the browser.
-use Rattle.std.specs.Prelude.{Bool, false, ◌&&◌, ◌||◌, ℤ, pos, ◌+ℤ◌, int_lt, List, Option, Some, None, option_map, if◌then◌else◌}
+use Rattle.std.specs.Prelude.{Bool, false, ◌&&◌, ◌||◌, ℤ, pos, ◌+ℤ◌, int_lt, List, Option, Some}
+use Rattle.std.specs.Prelude.{None, option_map, if◌then◌else◌}
 use Rattle.suffix_list.specs.Suffix.{Rule}
 use Rattle.origin_site.specs.Address.{PlainAddress}
 use Rattle.origin_site.specs.Origin.{PlainOrigin, origin_of_address, same_plain_origin}
@@ -39,7 +40,8 @@ loaded rules sandbox deny address = record {
 
 -- the document of a frame with its own sandbox and policy, below another document: it has each
 -- restriction of both
-abbrev pub loaded_below : List Rule → PlainDocument → PlainSandbox → Bool → PlainAddress → PlainDocument
+abbrev pub loaded_below : List Rule → PlainDocument → PlainSandbox → Bool → PlainAddress
+    → PlainDocument
 loaded_below rules above sandbox deny address =
     loaded rules (both above.sandbox sandbox) (above.deny || deny) address
 

@@ -2,7 +2,9 @@
 pub mod Sandbox
 pub mod Document
 pub mod Tree
+pub mod Keys
 pub mod Calls
 pub mod Plain
 -- What private functions compute. No public clause rests on it.
+pub mod Kept
 pub mod Sets

@@ -32,4 +32,5 @@ plain_document d = record {
 
 -- a frame of the list
 abbrev pub plain_frame : Frame → PlainFrame
-plain_frame f = record { frame = f.frame; parent = f.parent; document = plain_document f.document }
+plain_frame f =
+    record { frame = f.frame; parent = f.parent; document = plain_document f.loaded.document }

@@ -1,6 +1,6 @@
 -- What a sandbox allows, and which text of a `sandbox` attribute allows it.
--- Source: HTML, "Sandboxing", the rules for parsing a sandboxing directive: the text is split at ASCII
--- white space, and a token counts without regard to ASCII case.
+-- Source: HTML, "Sandboxing", the rules for parsing a sandboxing directive: the text is split at
+-- ASCII white space, and a token counts without regard to ASCII case.
 -- Our own choice: the tokens `allow-same-origin` and `allow-storage-access-by-user-activation` have
 -- effect, and others have none, since nothing else of a page is kept here.
 use Rattle.std.specs.Prelude.{ℕ, Bool, true, ◌&&◌, List, codes, Option, Some, None}

@@ -2,8 +2,9 @@
 -- Source: HTML, "Navigables", parent, ancestor and descendant navigables.
 -- Our own choice: frames have numbers, and the top is frame 0. A frame is added behind its parent,
 -- and the list keeps that order.
-use Rattle.std.specs.Prelude.{◌≡◌, ◌≤◌, ℕ, Bool, true, false, ◌==◌, List, [], ◌∷◌, ◌++◌, reverse, find, Option, None, is_some, option_map, if◌then◌else◌}
-use Rattle.std.specs.List.{list_any}
+use Rattle.std.specs.Prelude.{◌≡◌, ◌≤◌, ℕ, Bool, true, false, ◌==◌, List, [], ◌∷◌, ◌++◌, reverse}
+use Rattle.std.specs.Prelude.{find, Option, None, Some, is_some, option_map, if◌then◌else◌}
+use Rattle.std.specs.List.{All, Contains, list_any}
 use Rattle.origin_site.specs.Site.{PlainSite}
 use Rattle.frame_tree.specs.Document.{PlainDocument}
 
@@ -63,3 +64,26 @@ IsGrown (f ∷ next ∷ older) =
 -- and a parent that stands before it
 abbrev pub IsTree : List PlainFrame → Type 0
 IsTree frames = IsGrown (reverse frames)
+
+-- each frame of a list has the one before it as its parent
+abbrev pub IsLine : List PlainFrame → Type 0
+IsLine [] = Unit {0}
+IsLine (f ∷ []) = Unit {0}
+IsLine (f ∷ below ∷ rest) = (below.parent ≡ f.frame) × IsLine (below ∷ rest)
+
+-- the number of the first frame of a list, and of the last
+abbrev pub first_number : List PlainFrame → Option ℕ
+first_number [] = None
+first_number (f ∷ rest) = Some f.frame
+
+abbrev pub last_number : List PlainFrame → Option ℕ
+last_number [] = None
+last_number (f ∷ []) = Some f.frame
+last_number (f ∷ below ∷ rest) = last_number (below ∷ rest)
+
+-- what a chain is: frames of the tab, from the top to this one, each the parent of the next
+pub record IsChain (frame : ℕ) (frames chain : List PlainFrame) : Type 0 where
+  pub first : first_number chain ≡ Some 0
+  pub last : last_number chain ≡ Some frame
+  pub line : IsLine chain
+  pub members : All (Contains frames) chain

@@ -3,7 +3,8 @@ ghost use Rattle.std.specs.Prelude.{◌≡◌, IfOk, option_map, option_copied};
 ghost use Rattle.origin_site.specs.Plain.{plain_address, plain_origin};
 ghost use Rattle.origin_site.specs.Site.{site_of_origin};
 ghost use Rattle.frame_tree.specs.Plain.{plain_document, plain_sandbox, plain_chain_site};
-ghost use Rattle.frame_tree.specs.Document.{is_active_by, loaded, loaded_below, loaded_instead, origin_under, same_document_origin};
+ghost use Rattle.frame_tree.specs.Document.{is_active_by, loaded, loaded_below, loaded_instead};
+ghost use Rattle.frame_tree.specs.Document.{origin_under, same_document_origin};
 
 use crate::Sandbox;
 use agent_base::NoMemory;
@@ -70,7 +71,8 @@ impl Document {
         list: &SuffixList,
     ) -> Result<Document, NoMemory>
         ensures { IfOk result (λ document. plain_document document
-            ≡ loaded_instead list.now.rules keep_flag (plain_document self.now) (plain_address address)) }
+            ≡ loaded_instead list.now.rules keep_flag (plain_document self.now)
+            (plain_address address)) }
     {
         let mut document = Document::load(alloc, address, self.sandbox, self.deny, list)?;
         document.flag = keep_flag && self.flag;
@@ -132,7 +134,8 @@ fn site_under(
 }
 
 fn copy_of_origin(alloc: Global, origin: &Option<Origin>) -> Result<Option<Origin>, NoMemory>
-    ensures { IfOk result (λ copy. option_map plain_origin copy ≡ option_map plain_origin origin.now) }
+    ensures { IfOk result (λ copy. option_map plain_origin copy
+        ≡ option_map plain_origin origin.now) }
 {
     match origin {
         Some(origin) => Ok(Some(origin.copy(alloc)?)),
@@ -152,7 +155,8 @@ pub fn copy_of_site(alloc: Global, site: &Option<Site>) -> Result<Option<Site>, 
 
 // Whether two documents have the same origin. An opaque one is the same as no other.
 pub fn same_document_origin(a: Option<&Origin>, b: &Option<Origin>) -> bool
-    ensures { result ≡ same_document_origin (option_map plain_origin (option_copied a.entry)) (option_map plain_origin b.now) }
+    ensures { result ≡ same_document_origin (option_map plain_origin (option_copied a.entry))
+        (option_map plain_origin b.now) }
 {
     match (a, b) {
         (Some(a), Some(b)) => same_origin(a, b),

@@ -1,13 +1,17 @@
 //! The list of frames of a tab.
-ghost use Rattle.std.specs.Prelude.{◌≡◌, ◌<◌, ◌+◌, ◌&&◌, ◌==◌, IfOk, MatchOption, map, reverse, vec_len, true, false, length, option_map, option_copied, slice_get};
-ghost use Rattle.std.specs.List.{list_all, list_any};
+ghost use Rattle.std.specs.Prelude.{◌≡◌, ◌<◌, ◌==◌, IfOk, MatchOption, map, reverse, true, false};
+ghost use Rattle.std.specs.Prelude.{Some, length, find, option_map, option_copied, slice_get};
+ghost use Rattle.std.specs.Prelude.{unwrap_or};
+ghost use Rattle.std.specs.List.{list_all};
 ghost use Rattle.origin_site.specs.Plain.{plain_origin};
 ghost use Rattle.frame_tree.specs.Calls.{origin_of};
+ghost use Rattle.frame_tree.specs.Kept.{kept_frame};
 ghost use Rattle.frame_tree.specs.Plain.{plain_chain_site, plain_document, plain_frame};
 ghost use Rattle.frame_tree.specs.Tree.{IsLastFrame, chain_back, document_of, has_frame};
 
 use crate::Document;
 use crate::document::copy_of_site;
+use crate::keys::Loaded;
 use agent_base::NoMemory;
 use origin_site::{Origin, Site};
 use std::alloc::Global;
@@ -17,18 +21,18 @@ use std::alloc::Global;
 pub struct Frame {
     pub frame: u8,
     pub parent: u8,
-    pub document: Document,
+    pub loaded: Loaded,
 }
 
 impl Frame {
     /// The same frame, over memory of its own.
     pub fn copy(&self, alloc: Global) -> Result<Frame, NoMemory>
-        ensures { IfOk result (λ frame. plain_frame frame ≡ plain_frame self.now) }
+        ensures { IfOk result (λ frame. kept_frame frame ≡ kept_frame self.now) }
     {
         Ok(Frame {
             frame: self.frame,
             parent: self.parent,
-            document: self.document.copy(alloc)?,
+            loaded: self.loaded.copy(alloc)?,
         })
     }
 }
@@ -36,7 +40,8 @@ impl Frame {
 /// The place of a frame in the list.
 pub fn place_of(frames: &[Frame], frame: u8) -> Option<usize>
     ensures place { MatchOption result (has_frame frame (map plain_frame frames.now) ≡ false)
-        (λ place. (place < length frames.now) × (option_map (λ f. f.frame) (slice_get frames.now place) ≡ Some frame)) }
+        (λ place. (place < length frames.now)
+        × (option_map (λ f. f.frame) (slice_get frames.now place) ≡ Some frame)) }
 {
     for (place, f) in frames.iter().enumerate() {
         if f.frame == frame {
@@ -46,16 +51,50 @@ pub fn place_of(frames: &[Frame], frame: u8) -> Option<usize>
     None
 }
 
+/// A frame by its number.
+pub fn frame_of(frames: &[Frame], frame: u8) -> Option<&Frame>
+    ensures found { option_copied result ≡ find (λ f. f.frame == frame) frames.now }
+    ensures document { option_map (λ f. plain_document f.loaded.document) (option_copied result)
+        ≡ document_of frame (map plain_frame frames.now) }
+{
+    first_of(frames, frame)
+}
+
+// The first frame of a number.
+fn first_of(frames: &[Frame], frame: u8) -> Option<&Frame>
+    ensures found { option_copied result ≡ find (λ f. f.frame == frame) frames.now }
+{
+    frames.iter().find(|f| f.frame == frame)
+}
+
+/// The ancestor bit that is kept with a frame, set where there is none.
+pub fn bit_of(frames: &[Frame], frame: u8) -> bool
+    ensures bit { result
+        ≡ unwrap_or
+        (option_map (λ f. f.loaded.bit) (find (λ f. f.frame == frame) frames.now)) true }
+{
+    match frame_of(frames, frame) {
+        Some(f) => f.loaded.bit,
+        None => true,
+    }
+}
+
 /// Whether there is a frame of this number.
 pub fn has_frame(frames: &[Frame], frame: u8) -> bool
     ensures has { result ≡ has_frame frame (map plain_frame frames.now) }
 {
-    for f in frames {
-        if f.frame == frame {
-            return true;
-        }
+    frame_of(frames, frame).is_some()
+}
+
+/// The document of a frame.
+pub fn document_of(frames: &[Frame], frame: u8) -> Option<&Document>
+    ensures document { option_map plain_document (option_copied result)
+        ≡ document_of frame (map plain_frame frames.now) }
+{
+    match frame_of(frames, frame) {
+        Some(f) => Some(&f.loaded.document),
+        None => None,
     }
-    false
 }
 
 /// The highest number of a frame.
@@ -70,19 +109,6 @@ pub fn last_frame(frames: &[Frame]) -> u8
     last
 }
 
-/// The document of a frame.
-pub fn document_of(frames: &[Frame], frame: u8) -> Option<&Document>
-    ensures document { option_map plain_document (option_copied result)
-        ≡ document_of frame (map plain_frame frames.now) }
-{
-    for f in frames {
-        if f.frame == frame {
-            return Some(&f.document);
-        }
-    }
-    None
-}
-
 /// Copies of the sites of a frame's chain, from the top.
 pub fn sites_of(alloc: Global, frames: &[Frame], frame: u8) -> Result<Vec<Option<Site>>, NoMemory>
     ensures sites { IfOk result (λ sites. map plain_chain_site sites.items
@@ -91,7 +117,7 @@ pub fn sites_of(alloc: Global, frames: &[Frame], frame: u8) -> Result<Vec<Option
     match frames.split_last() {
         Some((newest, older)) if newest.frame == frame => {
             let mut sites = sites_of(alloc, older, newest.parent)?;
-            let site = copy_of_site(alloc, &newest.document.site)?;
+            let site = copy_of_site(alloc, &newest.loaded.document.site)?;
             let Ok(()) = sites.push(site) else {
                 return Err(NoMemory);
             };
@@ -109,30 +135,17 @@ pub fn is_https_chain(frames: &[Frame], frame: u8) -> bool
 {
     match frames.split_last() {
         Some((newest, older)) if newest.frame == frame => {
-            newest.document.address.https && is_https_chain(older, newest.parent)
+            newest.loaded.document.address.https && is_https_chain(older, newest.parent)
         }
         Some((_, older)) => is_https_chain(older, frame),
         None => true,
     }
 }
 
-/// Whether a frame is on the chain of another.
-pub fn is_on_chain(frames: &[Frame], ancestor: u8, frame: u8) -> bool
-    ensures on { result ≡ list_any (λ f. f.frame == ancestor)
-        (chain_back frame (reverse (map plain_frame frames.now))) }
-{
-    match frames.split_last() {
-        Some((newest, older)) if newest.frame == frame => {
-            frame == ancestor || is_on_chain(older, ancestor, newest.parent)
-        }
-        Some((_, older)) => is_on_chain(older, ancestor, frame),
-        None => false,
-    }
-}
-
 /// The origin of a frame's document.
 pub fn origin_of(frames: &[Frame], frame: u8) -> Option<&Origin>
-    ensures origin { option_map plain_origin (option_copied result) ≡ origin_of frame (map plain_frame frames.now) }
+    ensures origin { option_map plain_origin (option_copied result)
+        ≡ origin_of frame (map plain_frame frames.now) }
 {
     match document_of(frames, frame) {
         Some(document) => document.origin.as_ref(),
@@ -142,7 +155,8 @@ pub fn origin_of(frames: &[Frame], frame: u8) -> Option<&Origin>
 
 /// Copies of frames, in their order.
 pub fn copies_of(alloc: Global, frames: &[Frame]) -> Result<Vec<Frame>, NoMemory>
-    ensures copies { IfOk result (λ copies. map plain_frame copies.items ≡ map plain_frame frames.now) }
+    ensures copies { IfOk result (λ copies. map kept_frame copies.items
+        ≡ map kept_frame frames.now) }
 {
     let mut copies = Vec::new(alloc);
     for f in frames {

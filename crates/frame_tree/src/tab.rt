@@ -1,22 +1,31 @@
 //! Tabs.
-ghost use Rattle.std.specs.Prelude.{◌≡◌, ◌≢◌, ◌++◌, ◌∷◌, [], map, IfOk, OnErr, true, false, option_map, option_copied};
+ghost use Rattle.std.specs.Prelude.{◌≡◌, ◌≢◌, ◌==◌, ◌++◌, ◌∷◌, [], map, IfOk, OnErr, Err, Some};
+ghost use Rattle.std.specs.Prelude.{true};
+ghost use Rattle.std.specs.Prelude.{option_copied, option_map, if◌then◌else◌};
 ghost use Rattle.agent_base.specs.Answers.{Answers};
-ghost use Rattle.origin_site.specs.Plain.{plain_address};
-ghost use Rattle.frame_tree.specs.Calls.{IsDoneAt, activated, added, begins_with_site, consumed, flagged, is_active, is_https_chain, navigated, opened, sites_of, with_document, without, without_below};
-ghost use Rattle.frame_tree.specs.Plain.{plain_chain_site, plain_document, plain_frame, plain_sandbox};
-ghost use Rattle.frame_tree.specs.Tree.{IsLastFrame, IsTree, chain_of, document_of, has_frame, top_site};
+ghost use Rattle.origin_site.specs.Plain.{plain_address, plain_site};
+ghost use Rattle.storage_key.specs.Plain.{plain_key};
+ghost use Rattle.frame_tree.specs.Calls.{IsDoneAt, activated, added, begins_with_site, consumed};
+ghost use Rattle.frame_tree.specs.Calls.{flagged, is_active, is_https_chain, navigated, opened};
+ghost use Rattle.frame_tree.specs.Calls.{sites_of, with_document, without};
+ghost use Rattle.frame_tree.specs.Keys.{is_first_at, key_of_frame};
+ghost use Rattle.frame_tree.specs.Plain.{plain_chain_site, plain_document, plain_sandbox};
+ghost use Rattle.frame_tree.specs.Tree.{IsChain, IsLastFrame, IsTree, chain_of, document_of};
+ghost use Rattle.frame_tree.specs.Tree.{top_site};
 
 use crate::document::is_active_by;
 use crate::frames::{
-    Frame, copies_of, document_of, has_frame, is_https_chain, last_frame, sites_of,
+    Frame, copies_of, document_of, frame_of, has_frame, is_https_chain, last_frame, sites_of,
 };
-use crate::marks::{activate, drop_frames, flag, put_document, unmark};
-use crate::sets::{frames_below, frames_from};
+use crate::keys::Loaded;
+use crate::marks::{drop_frames, flag, mark, put_document, unmark};
+use crate::sets::{activated_with, frames_below, frames_from};
 use crate::{Document, Sandbox};
 use agent_base::NoMemory;
 use origin_site::{Address, Site};
 use std::alloc::Global;
 use std::marker::Model;
+use storage_key::StorageKey;
 use suffix_list::SuffixList;
 
 /// There is no frame of this number.
@@ -48,20 +57,25 @@ impl From<NoMemory> for TreeFault {
 /// The documents of a tab: the top, which is frame 0, and frames 1 to 255 below it.
 #[derive(Debug, Drop)]
 pub struct Tab {
-    frames: Vec<Frame>,
-    alloc: Global,
+    /// The site of the top document.
+    pub(crate) top: Site,
+    pub(crate) frames: Vec<Frame>,
+    pub(crate) alloc: Global,
 }
 
 impl Model for Tab {
     ghost use Rattle.std.specs.Prelude.{List, map};
+    ghost use Rattle.origin_site.specs.Plain.{plain_site};
+    ghost use Rattle.frame_tree.specs.Kept.{IsSound, kept_frame};
     ghost use Rattle.frame_tree.specs.Plain.{plain_frame};
-    ghost use Rattle.frame_tree.specs.Tree.{IsTree, PlainFrame};
+    ghost use Rattle.frame_tree.specs.Tree.{PlainFrame};
 
     ghost Value = { List PlainFrame };
 
     ghost view = { λ t. map plain_frame t.frames.items };
 
-    ghost invariant = { λ t. IsTree (map plain_frame t.frames.items) };
+    ghost invariant = { λ t. IsSound (plain_site t.top) (map plain_frame t.frames.items)
+        (map kept_frame t.frames.items) };
 }
 
 impl Tab {
@@ -70,21 +84,27 @@ impl Tab {
         ensures opened { IfOk result (λ tab. tab ≡ opened list.now.rules (plain_address address)) }
     {
         let document = Document::load(alloc, address, Sandbox::unrestricted(), false, list)?;
-        let top = Frame {
+        let Some(site) = &document.site else {
+            unreachable!()
+        };
+        let top = site.copy(alloc)?;
+        let loaded = Loaded::below(alloc, &top, false, document)?;
+        let mut frames = Vec::new(alloc);
+        let first = Frame {
             frame: 0,
             parent: 0,
-            document,
+            loaded,
         };
-        let mut frames = Vec::new(alloc);
-        match frames.push(top) {
-            Ok(()) => Ok(Tab { frames, alloc }),
+        match frames.push(first) {
+            Ok(()) => Ok(Tab { top, frames, alloc }),
             Err(_) => Err(NoMemory),
         }
     }
 
     /// The document of a frame.
     pub fn document(&self, frame: u8) -> Option<&Document>
-        ensures document { option_map plain_document (option_copied result) ≡ document_of frame self.now }
+        ensures document { option_map plain_document (option_copied result)
+            ≡ document_of frame self.now }
         ensures tree { IsTree self.now }
     {
         document_of(self.frames.as_slice(), frame)
@@ -97,11 +117,43 @@ impl Tab {
         last_frame(self.frames.as_slice())
     }
 
+    /// The site of the top document.
+    pub fn top_site(&self) -> &Site
+        ensures site { top_site self.now ≡ Some (plain_site result.now) }
+        ensures tree { IsTree self.now }
+    {
+        &self.top
+    }
+
+    /// The storage key of a frame's document. None where the frame is not there or its document is
+    /// opaque.
+    pub fn key(&self, frame: u8) -> Option<&StorageKey>
+        ensures key { option_map plain_key (option_copied result) ≡ key_of_frame frame self.now }
+    {
+        match frame_of(self.frames.as_slice(), frame) {
+            Some(f) => f.loaded.key.as_ref(),
+            None => None,
+        }
+    }
+
+    /// Whether a frame is there and what is at the URL's site is first party below its chain.
+    pub fn first_party(&self, frame: u8, url: &Site) -> bool
+        ensures first { result ≡ is_first_at frame self.now (plain_site url.now) }
+    {
+        match frame_of(self.frames.as_slice(), frame) {
+            Some(f) => f.loaded.is_first(&self.top, url),
+            None => false,
+        }
+    }
+
     /// The sites of the documents from the top to a frame's.
     pub fn chain(&self, frame: u8) -> Result<Vec<Option<Site>>, TreeFault>
         ensures chain { Answers (λ sites. map plain_chain_site sites.items) TreeFault.NoMemory
             (sites_of frame self.now) result }
-        ensures top { IfOk result (λ sites. begins_with_site (map plain_chain_site sites.items) ≡ true) }
+        ensures decided { (why : TreeFault) → sites_of frame self.now ≡ Err why → result ≡ Err why }
+        ensures law { IfOk result (λ _. IsChain frame self.now (chain_of frame self.now)) }
+        ensures top { IfOk result (λ sites.
+            begins_with_site (map plain_chain_site sites.items) ≡ true) }
         ensures site { IfOk result (λ _. top_site (chain_of frame self.now) ≡ top_site self.now) }
     {
         if !has_frame(self.frames.as_slice(), frame) {
@@ -139,8 +191,13 @@ impl Tab {
         list: &SuffixList,
     ) -> Result<(), TreeFault>
         ensures answer { Answers (λ _. self.new) TreeFault.NoMemory
-            (added list.now.rules parent frame (plain_address address) (plain_sandbox sandbox) deny self.old) result }
+            (added list.now.rules parent frame (plain_address address) (plain_sandbox sandbox) deny
+            self.old) result }
+        ensures decided { (why : TreeFault) → added list.now.rules parent frame
+            (plain_address address) (plain_sandbox sandbox) deny self.old ≡ Err why
+            → result ≡ Err why }
         ensures site { top_site self.new ≡ top_site self.old }
+        ensures tree { IsTree self.new }
         ensures unchanged { OnErr result (self.new ≡ self.old) }
     {
         let fresh = self.below(parent, frame, address, sandbox, deny, list)?;
@@ -162,13 +219,16 @@ impl Tab {
         requires { frame ≢ 0 }
         ensures answer { Answers (λ _. self.new) TreeFault.NoMemory
             (navigated list.now.rules frame (plain_address address) keep_flag self.old) result }
+        ensures decided { (why : TreeFault) → navigated list.now.rules frame
+            (plain_address address) keep_flag self.old ≡ Err why → result ≡ Err why }
         ensures site { top_site self.new ≡ top_site self.old }
+        ensures tree { IsTree self.new }
         ensures unchanged { OnErr result (self.new ≡ self.old) }
     {
-        let document = self.document_instead(frame, address, keep_flag, list)?;
+        let made = self.loaded_instead(frame, address, keep_flag, list)?;
         let below = frames_below(self.frames.as_slice(), frame);
-        put_document(&mut self.frames, frame, document);
         drop_frames(&mut self.frames, &below);
+        put_document(&mut self.frames, frame, made);
         Ok(())
     }
 
@@ -177,6 +237,7 @@ impl Tab {
         requires { frame ≢ 0 }
         ensures removed { IsDoneAt frame self.old self.new (without frame self.old) result }
         ensures site { top_site self.new ≡ top_site self.old }
+        ensures tree { IsTree self.new }
     {
         if !has_frame(self.frames.as_slice(), frame) {
             return Err(NoFrame);
@@ -191,17 +252,20 @@ impl Tab {
     pub fn activate(&mut self, frame: u8, now: i64) -> Result<(), NoFrame>
         ensures activated { IsDoneAt frame self.old self.new (activated frame now self.old) result }
         ensures site { top_site self.new ≡ top_site self.old }
+        ensures tree { IsTree self.new }
     {
         if !has_frame(self.frames.as_slice(), frame) {
             return Err(NoFrame);
         }
-        activate(&mut self.frames, frame, now);
+        let reached = activated_with(self.frames.as_slice(), frame);
+        mark(&mut self.frames, &reached, Some(now));
         Ok(())
     }
 
     /// Gives the document of a frame storage access.
     pub fn set_flag(&mut self, frame: u8) -> Result<(), NoFrame>
-        ensures flagged { IsDoneAt frame self.old self.new (with_document frame flagged self.old) result }
+        ensures flagged { IsDoneAt frame self.old self.new
+            (with_document frame flagged self.old) result }
         ensures site { top_site self.new ≡ top_site self.old }
     {
         if !has_frame(self.frames.as_slice(), frame) {
@@ -224,54 +288,9 @@ impl Tab {
         ensures same { IfOk result (λ tab. tab ≡ self.now) }
     {
         Ok(Tab {
+            top: self.top.copy(self.alloc)?,
             frames: copies_of(self.alloc, self.frames.as_slice())?,
             alloc: self.alloc,
         })
-    }
-
-    // A frame that may be added below a parent.
-    fn below(
-        &self,
-        parent: u8,
-        frame: u8,
-        address: Address,
-        sandbox: Sandbox,
-        deny: bool,
-        list: &SuffixList,
-    ) -> Result<Frame, TreeFault>
-        ensures answer { Answers (λ fresh. self.now ++ plain_frame fresh ∷ []) TreeFault.NoMemory
-            (added list.now.rules parent frame (plain_address address) (plain_sandbox sandbox) deny self.now) result }
-        ensures fresh { IfOk result (λ fresh. has_frame fresh.frame self.now ≡ false) }
-        ensures parent { IfOk result (λ fresh. has_frame fresh.parent self.now ≡ true) }
-    {
-        let Some(above) = document_of(self.frames.as_slice(), parent) else {
-            return Err(TreeFault::NoFrame);
-        };
-        if has_frame(self.frames.as_slice(), frame) {
-            return Err(TreeFault::FrameExists);
-        }
-        Ok(Frame {
-            frame,
-            parent,
-            document: above.load_below(self.alloc, address, sandbox, deny, list)?,
-        })
-    }
-
-    // The document that a navigation of a frame puts in the place of its present one.
-    fn document_instead(
-        &self,
-        frame: u8,
-        address: Address,
-        keep_flag: bool,
-        list: &SuffixList,
-    ) -> Result<Document, TreeFault>
-        ensures answer { Answers (λ d. with_document frame (λ _. plain_document d) (without_below frame self.now)) TreeFault.NoMemory
-            (navigated list.now.rules frame (plain_address address) keep_flag self.now) result }
-        ensures there { IfOk result (λ d. has_frame frame self.now ≡ true) }
-    {
-        let Some(before) = document_of(self.frames.as_slice(), frame) else {
-            return Err(TreeFault::NoFrame);
-        };
-        Ok(before.load_instead(self.alloc, address, keep_flag, list)?)
     }
 }

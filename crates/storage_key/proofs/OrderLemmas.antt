@@ -1,5 +1,5 @@
 -- Storage keys tie in their order exactly where they are equal.
-use Rattle.std.proofs.Common.{◌≡◌, Bool, true, false, refl, ap, subst}
+use Rattle.std.proofs.Common.{◌≡◌, true, false, refl}
 use Rattle.std.specs.declared.cmp.Ordering.{Ordering}
 use Rattle.std.specs.declared.cmp.Ordering.TheVariants.{Less, Equal, Greater}
 use Rattle.std.specs.Cmp.{IsTotalOrder, then_total, on_total, bool_cmp_total, nat_cmp_total}
@@ -48,14 +48,14 @@ site_order_same a b e =
 
 pub key_order_total : IsTotalOrder key_order
 key_order_total =
-    then_total (on_total (λ k. k.origin) origin_order_total)
-    (then_total (on_total (λ k. k.top) site_order_total) (on_total (λ k. k.bit) bool_cmp_total))
+    then_total (on_total (λ k. k.top) site_order_total)
+    (then_total (on_total (λ k. k.origin) origin_order_total) (on_total (λ k. k.bit) bool_cmp_total))
 
 pub key_order_same : IsAntisymmetric key_order
 key_order_same a b e =
-    let one = both_equal (origin_order a.origin b.origin) _ e in
-    let two = both_equal (site_order a.top b.top) (bool_cmp a.bit b.bit) one.1 in
-    let origin = origin_order_same a.origin b.origin one.0 in
-    let top = site_order_same a.top b.top two.0 in
+    let one = both_equal (site_order a.top b.top) _ e in
+    let two = both_equal (origin_order a.origin b.origin) (bool_cmp a.bit b.bit) one.1 in
+    let top = site_order_same a.top b.top one.0 in
+    let origin = origin_order_same a.origin b.origin two.0 in
     let bit = bool_same a.bit b.bit two.1 in
-    λ i. record { origin = origin i; top = top i; bit = bit i }
+    λ i. record { top = top i; origin = origin i; bit = bit i }

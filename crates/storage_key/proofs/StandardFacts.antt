@@ -4,7 +4,8 @@ use Rattle.std.specs.Prelude.{codes}
 use Rattle.origin_site.specs.Origin.{PlainOrigin}
 use Rattle.origin_site.specs.Site.{PlainSite}
 use Rattle.storage_key.specs.Context.{context_of, is_first_party}
-use Rattle.storage_key.specs.Key.{own_bit, storage_key}
+use Rattle.std.specs.declared.cmp.Ordering.TheVariants.{Less, Greater}
+use Rattle.storage_key.specs.Key.{key_order, own_bit, storage_key}
 
 abbrev a : PlainSite
 a = record { https = true; host = codes "a.test" }
@@ -63,3 +64,12 @@ key_of_the_top = refl
 
 opaque_has_no_key : storage_key (Some a ∷ None ∷ []) None ≡ None
 opaque_has_no_key = refl
+
+-- the top-level site comes before the origin, and the origin before the bit
+top_comes_first : key_order (record { top = a; origin = deep; bit = true })
+    (record { top = b; origin = record deep { host = codes "a.test" }; bit = false }) ≡ Less
+top_comes_first = refl
+
+origin_comes_second : key_order (record { top = a; origin = deep; bit = false })
+    (record { top = a; origin = record deep { host = codes "a.test" }; bit = true }) ≡ Greater
+origin_comes_second = refl

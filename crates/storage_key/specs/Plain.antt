@@ -18,4 +18,4 @@ plain_chain_site site = option_map plain_site site
 
 -- a storage key
 abbrev pub plain_key : StorageKey → PlainKey
-plain_key k = record { origin = plain_origin k.origin; top = plain_site k.top; bit = k.bit }
+plain_key k = record { top = plain_site k.top; origin = plain_origin k.origin; bit = k.bit }

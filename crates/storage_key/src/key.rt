@@ -1,5 +1,6 @@
 //! Storage keys.
-ghost use Rattle.std.specs.Prelude.{◌≡◌, ◌↔◌, IfOk, IsNone, IsTrue, is_some, map, true, option_copied, option_map};
+ghost use Rattle.std.specs.Prelude.{◌≡◌, ◌↔◌, IfOk, IsNone, IsTrue, None, Ok, is_some, map, true};
+ghost use Rattle.std.specs.Prelude.{option_copied, option_map};
 ghost use Rattle.origin_site.specs.Plain.{plain_origin};
 ghost use Rattle.storage_key.specs.Context.{top_of};
 ghost use Rattle.storage_key.specs.Key.{key_order, own_bit, storage_key};
@@ -11,12 +12,12 @@ use origin_site::{Origin, Site, same_origin, same_site};
 use std::alloc::{AllocError, Global};
 use std::cmp::Ordering;
 
-/// What storage is kept under: the origin of a document, the top-level site above it, and the
-/// ancestor bit of the document's own context.
+/// What storage is kept under: the top-level site above a document, its origin, and the ancestor
+/// bit of its own context. Keys are ordered in this order, so those under a site are a range.
 #[derive(Debug, Drop, PartialEq, Eq, PartialOrd, Ord, Hash)]
 pub struct StorageKey {
-    pub origin: Origin,
     pub top: Site,
+    pub origin: Origin,
     pub bit: bool,
 }
 
@@ -26,8 +27,8 @@ impl StorageKey {
         ensures same { IfOk result (λ key. plain_key key ≡ plain_key self.now) }
     {
         Ok(StorageKey {
-            origin: self.origin.copy(alloc)?,
             top: self.top.copy(alloc)?,
+            origin: self.origin.copy(alloc)?,
             bit: self.bit,
         })
     }
@@ -41,15 +42,15 @@ impl Clone for StorageKey {
 
     fn clone(&self) -> Result<StorageKey, AllocError> {
         Ok(StorageKey {
+            top: Site {
+                https: self.top.https,
+                host: self.top.host.clone()?,
+            },
             origin: Origin {
                 https: self.origin.https,
                 ip: self.origin.ip,
                 host: self.origin.host.clone()?,
                 port: self.origin.port,
-            },
-            top: Site {
-                https: self.top.https,
-                host: self.top.host.clone()?,
             },
             bit: self.bit,
         })
@@ -67,16 +68,18 @@ pub fn key_of(
 ) -> Result<Option<StorageKey>, NoMemory>
     requires { is_some (top_of (map plain_chain_site chain.now)) ≡ true }
     ensures key { IfOk result (λ key. option_map plain_key key
-        ≡ storage_key (map plain_chain_site chain.now) (option_map plain_origin (option_copied origin.entry))) }
+        ≡ storage_key (map plain_chain_site chain.now)
+        (option_map plain_origin (option_copied origin.entry))) }
     ensures none { IfOk result (λ key. IsNone key ↔ IsNone origin.entry) }
+    ensures opaque { origin.entry ≡ None → result ≡ Ok None }
 {
     let Some(origin) = origin else {
         return Ok(None);
     };
     match chain {
         [Some(top), ..] => Ok(Some(StorageKey {
-            origin: origin.copy(alloc)?,
             top: top.copy(alloc)?,
+            origin: origin.copy(alloc)?,
             bit: own_bit(chain),
         })),
         _ => Ok(None),
@@ -97,7 +100,7 @@ fn own_bit(chain: &[Option<Site>]) -> bool
 pub fn same_key(a: &StorageKey, b: &StorageKey) -> bool
     ensures same { IsTrue result ↔ (plain_key a.now ≡ plain_key b.now) }
 {
-    same_origin(&a.origin, &b.origin) && same_site(&a.top, &b.top) && a.bit == b.bit
+    same_site(&a.top, &b.top) && same_origin(&a.origin, &b.origin) && a.bit == b.bit
 }
 
 /// The order of two keys in a map.

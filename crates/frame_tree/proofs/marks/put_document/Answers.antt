@@ -1,7 +1,7 @@
+-- The write at the place of a frame is one at its number.
 use Rattle.std.proofs.Common.{rules, ◌≡◌, ◌<◌, List, length, get_or, ap, subst}
 use Rattle.std.specs.Prelude.{Some, option_map, slice_get}
-use Rattle.frame_tree.specs.Plain.{plain_document, plain_frame}
-use Rattle.frame_tree.specs.Tree.{with_next}
+use Rattle.frame_tree.specs.Kept.{kept_document, kept_frame, kept_instead}
 use Rattle.frame_tree.specs.declared.frames.Frame.{Frame}
 use Rattle.frame_tree.proofs.ApartLemmas.{put-frame}
 use Rattle.frame_tree.proofs.marks.put_document.Goals as goal
@@ -15,6 +15,6 @@ returns-in-Some c =
     let at : option_map (λ f. f.frame) (slice_get items c.in-Some.place) ≡ Some c.args.frame =
     subst (λ (xs : List Frame). option_map (λ f. f.frame) (slice_get xs c.in-Some.place) ≡ Some c.args.frame) c.as_slice.ensures.value c.in-Some.ensures.place.1 in
     record {
-      put = put-frame c.args.frame (λ _. plain_document c.args.document) items c.in-Some.place _ c.index_mut.result.now
-          c.requires.tree low at (ap (λ (r : Frame). with_next (λ _. plain_document c.args.document) (plain_frame r)) value);
+      put = put-frame c.args.frame (kept_document c.args.made) items c.in-Some.place _ c.index_mut.result.now
+          c.requires.tree low at (ap (λ (r : Frame). kept_instead (kept_document c.args.made) (kept_frame r)) value);
     }

@@ -1,19 +1,27 @@
-use Rattle.std.proofs.Common.{◌∙◌, true, map, refl, sym, ap, subst}
+-- A tab without activations is sound, and at its site.
+use Rattle.std.proofs.Common.{◌∙◌, true, map, refl, ap}
 use Rattle.std.specs.Prelude.{None}
+use Rattle.origin_site.specs.Plain.{plain_site}
 use Rattle.frame_tree.specs.Calls.{with_mark}
-use Rattle.frame_tree.specs.Plain.{plain_frame}
-use Rattle.frame_tree.specs.Tree.{IsTree, top_site, with_next}
-use Rattle.frame_tree.proofs.ShapeLemmas.{tree-map}
-use Rattle.frame_tree.proofs.TopLemmas.{top-marked}
+use Rattle.frame_tree.specs.Tree.{top_site, with_next}
+use Rattle.frame_tree.proofs.KeptLemmas.{KeepsOrigin}
+use Rattle.frame_tree.proofs.SoundLemmas.{plain-marked, sound-marked, top-kept}
 use Rattle.frame_tree.proofs.tab.Tab.consume.Goals as goal
+
+same : KeepsOrigin (with_mark None)
+same = record { site = λ d. refl; origin = λ d. refl }
 
 pub invariant_of-self : goal.invariant_of-self
 invariant_of-self c =
-    subst IsTree (sym c.unmark.ensures.unmarked)
-    (tree-map (with_next (with_mark None)) (λ f. (refl, refl)) (λ f top site. site) (map plain_frame c.self.inside.frames.items) c.self.invariant)
+    sound-marked (λ _. true) (with_mark None) same c.self.inside.frames.items c.unmark.new.frames.items c.unmark.ensures.unmarked
+    (plain_site c.self.inside.top) c.self.invariant
 
-pub returns-clause-site : goal.returns-clause-site
-returns-clause-site c =
-    ap top_site c.unmark.ensures.unmarked
-    ∙ top-marked (λ _. true) (with_mark None) (λ f top is. refl) (map plain_frame c.self.inside.frames.items) c.self.invariant
-    ∙ ap top_site c.self.view_is
+pub returns : goal.returns
+returns c = record {
+  consumed =
+      plain-marked (λ _. true) (with_mark None) same c.self.inside.frames.items c.unmark.new.frames.items c.unmark.ensures.unmarked
+      ∙ ap (map (with_next (with_mark None))) c.self.view_is;
+  site =
+      top-kept (λ _. true) (with_mark None) same c.self.inside.frames.items c.unmark.new.frames.items c.unmark.ensures.unmarked
+      c.self.invariant.tree ∙ ap top_site c.self.view_is;
+}

@@ -12,5 +12,5 @@ last_frame-requires c = record {
       let fs : List PlainFrame = map plain_frame c.self.inside.frames.items in
       ap (λ frames. has_frame 0 (map plain_frame frames)) c.as_slice.ensures.value
       ∙ sym (has-reversed 0 fs)
-      ∙ has_zero (reverse fs) c.self.invariant;
+      ∙ has_zero (reverse fs) c.self.invariant.tree;
 }

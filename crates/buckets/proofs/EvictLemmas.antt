@@ -1,9 +1,9 @@
 -- Evictions: one key after another, and the counts of what was lost.
 use Rattle.std.proofs.Common.{◌≡◌, ℕ, ◌+◌, Bool, true, false, cond, List, [], ◌∷◌, ◌++◌, Some, None, refl, ap, ◌∙◌, sym, arith}
-use Rattle.std.specs.Prelude.{◌&&◌, ◌||◌}
+use Rattle.std.specs.Prelude.{◌&&◌, ◌||◌, not, length, ◌==◌, unwrap_or}
 use Rattle.std.specs.List.{AllByRecursion}
 use Rattle.std.specs.List.Sorted.{IsStrictlySortedBy}
-use Rattle.std.specs.Cmp.{IsTotalOrder, Equal-is}
+use Rattle.std.specs.Cmp.{IsTotalOrder}
 use Rattle.std.specs.Map.{keys_of}
 use Rattle.std.specs.Ordering.{is_eq}
 use Rattle.std.specs.declared.cmp.Ordering.{Ordering}
@@ -11,32 +11,17 @@ use Rattle.std.specs.declared.cmp.Ordering.TheVariants.{Less}
 use Rattle.std.proofs.Math.Bool.{or-false}
 use Rattle.std.proofs.lemmas.List.Folds.{list_any-append}
 use Rattle.std.proofs.lemmas.List.Sums.{sum_by-cons}
-use Rattle.key_map.specs.Entries.{map_get, map_set, is_among}
+use Rattle.key_map.specs.Entries.{map_get, map_remove, is_among}
+use Rattle.key_map.proofs.EntriesLemmas.{apart-behind, map_remove-apart}
 use Rattle.buckets.specs.declared.shed.Bucket.{Bucket}
-use Rattle.buckets.specs.Shed.{is_best_effort, emptied_bucket, loses_pairs, evicted, count_evicted}
+use Rattle.buckets.specs.Shed.{is_best_effort, loses_pairs, fresh_bucket, bucket_at, evicted, count_evicted}
 use Rattle.buckets.specs.Evicting.{evicted_one, count_evicted_one}
 
 -- 1 for true, 0 for false
 abbrev pub as_number : Bool → ℕ
 as_number b = cond b 1 0
 
--- an emptied bucket has nothing more to lose
-empty_twice : (b : Bool) (bucket : Bucket) → is_best_effort bucket.mode ≡ b → emptied_bucket (emptied_bucket bucket) ≡ emptied_bucket bucket
-empty_twice true bucket is = rw (is, is) refl
-empty_twice false bucket is = rw (is, is) refl
-
-lose_once : (b : Bool) (bucket : Bucket) → is_best_effort bucket.mode ≡ b → loses_pairs (emptied_bucket bucket) ≡ false
-lose_once true bucket is = rw (is, is) refl
-lose_once false bucket is = rw (is, is) refl
-
 module _ {K : Type 0} (cmp : K → K → Ordering) where
-  -- no entry behind an equal key has an equal key
-  apart : IsTotalOrder cmp → (key first : K) (ks : List K) → is_eq (cmp key first) ≡ true → AllByRecursion (λ k. cmp first k ≡ Less) ks
-      → AllByRecursion (λ k. is_eq (cmp key k) ≡ false) ks
-  apart order key first [] same below = tt
-  apart order key first (k ∷ ks) same below =
-      (ap is_eq (order.congr key first k ((Equal-is (cmp key first)).0 same) ∙ below.0), apart order key first ks same below.1)
-
   pub none-evicted : (key : K) (shed : List (K × Bucket)) → AllByRecursion (λ k. is_eq (cmp key k) ≡ false) (keys_of shed) → evicted_one cmp key shed ≡ shed
   none-evicted key [] none = refl
   none-evicted key (e ∷ es) none = rw none.0 (ap (λ r. e ∷ r) (none-evicted key es none.1))
@@ -60,24 +45,39 @@ module _ {K : Type 0} (cmp : K → K → Ordering) where
       let none = missing_step key e es (is_eq (cmp key e.0)) missing in
       (none.0, apart-missing key es none.1)
 
-  evicted_step : IsTotalOrder cmp → (key : K) (bucket : Bucket) (e : K × Bucket) (es : List (K × Bucket)) (b : Bool) → is_eq (cmp key e.0) ≡ b
+  removed_step : IsTotalOrder cmp → (key : K) (e : K × Bucket) (es : List (K × Bucket)) (b : Bool) → is_eq (cmp key e.0) ≡ b
       → AllByRecursion (λ k. cmp e.0 k ≡ Less) (keys_of es)
-      → (map_get cmp key es ≡ Some bucket → map_set cmp key (emptied_bucket bucket) es ≡ evicted_one cmp key es)
-      → cond b (Some e.1) (map_get cmp key es) ≡ Some bucket
-      → cond b ((e.0, emptied_bucket bucket) ∷ es) (e ∷ map_set cmp key (emptied_bucket bucket) es)
-      ≡ cond b (e.0, emptied_bucket e.1) e ∷ evicted_one cmp key es
-  evicted_step order key bucket e es true same below rest found =
-      let here : e.1 ≡ bucket = cc found in
-      rw (← here) (ap (λ r. (e.0, emptied_bucket e.1) ∷ r) (sym (none-evicted key es (apart order key e.0 (keys_of es) same below))))
-  evicted_step order key bucket e es false same below rest found = ap (λ r. e ∷ r) (rest found)
+      → (is_best_effort (bucket_at cmp key es).mode ≡ true → map_remove cmp key es ≡ evicted_one cmp key es)
+      → is_best_effort (unwrap_or (cond b (Some e.1) (map_get cmp key es)) fresh_bucket).mode ≡ true
+      → cond (not b) (e ∷ map_remove cmp key es) (map_remove cmp key es) ≡ cond (not (b && is_best_effort e.1.mode)) (e ∷ evicted_one cmp key es) (evicted_one cmp key es)
+  removed_step order key e es true same below rest best =
+      let none : AllByRecursion (λ k. is_eq (cmp key k) ≡ false) (keys_of es) = apart-behind cmp order key e.0 (keys_of es) same below in
+      rw best (map_remove-apart cmp order key es none ∙ sym (none-evicted key es none))
+  removed_step order key e es false same below rest best = ap (λ r. e ∷ r) (rest best)
 
-  -- a write of the emptied bucket evicts the key
-  pub evicted-found : IsTotalOrder cmp → (key : K) (bucket : Bucket) (shed : List (K × Bucket)) → IsStrictlySortedBy cmp (keys_of shed)
-      → map_get cmp key shed ≡ Some bucket → map_set cmp key (emptied_bucket bucket) shed ≡ evicted_one cmp key shed
+  -- a best-effort bucket that is taken out is evicted
+  pub removed-evicted : IsTotalOrder cmp → (key : K) (shed : List (K × Bucket)) → IsStrictlySortedBy cmp (keys_of shed)
+      → is_best_effort (bucket_at cmp key shed).mode ≡ true → map_remove cmp key shed ≡ evicted_one cmp key shed
   unfolding IsStrictlySortedBy
-  evicted-found order key bucket [] sorted found = refl
-  evicted-found order key bucket (e ∷ es) sorted found =
-      evicted_step order key bucket e es (is_eq (cmp key e.0)) refl sorted.0 (evicted-found order key bucket es sorted.1) found
+  removed-evicted order key [] sorted best = refl
+  removed-evicted order key (e ∷ es) sorted best =
+      removed_step order key e es (is_eq (cmp key e.0)) refl sorted.0 (removed-evicted order key es sorted.1) best
+
+  kept_step : IsTotalOrder cmp → (key : K) (e : K × Bucket) (es : List (K × Bucket)) (b : Bool) → is_eq (cmp key e.0) ≡ b
+      → AllByRecursion (λ k. cmp e.0 k ≡ Less) (keys_of es)
+      → (is_best_effort (bucket_at cmp key es).mode ≡ false → evicted_one cmp key es ≡ es)
+      → is_best_effort (unwrap_or (cond b (Some e.1) (map_get cmp key es)) fresh_bucket).mode ≡ false
+      → cond (not (b && is_best_effort e.1.mode)) (e ∷ evicted_one cmp key es) (evicted_one cmp key es) ≡ e ∷ es
+  kept_step order key e es true same below rest best = rw best (ap (λ r. e ∷ r) (none-evicted key es (apart-behind cmp order key e.0 (keys_of es) same below)))
+  kept_step order key e es false same below rest best = ap (λ r. e ∷ r) (rest best)
+
+  -- a persistent bucket stays
+  pub persistent-kept : IsTotalOrder cmp → (key : K) (shed : List (K × Bucket)) → IsStrictlySortedBy cmp (keys_of shed)
+      → is_best_effort (bucket_at cmp key shed).mode ≡ false → evicted_one cmp key shed ≡ shed
+  unfolding IsStrictlySortedBy
+  persistent-kept order key [] sorted best = refl
+  persistent-kept order key (e ∷ es) sorted best =
+      kept_step order key e es (is_eq (cmp key e.0)) refl sorted.0 (persistent-kept order key es sorted.1) best
 
   counted_step : IsTotalOrder cmp → (key : K) (bucket : Bucket) (e : K × Bucket) (es : List (K × Bucket)) (b : Bool) → is_eq (cmp key e.0) ≡ b
       → AllByRecursion (λ k. cmp e.0 k ≡ Less) (keys_of es)
@@ -86,7 +86,7 @@ module _ {K : Type 0} (cmp : K → K → Ordering) where
       → as_number (b && loses_pairs e.1) + count_evicted_one cmp key es ≡ as_number (loses_pairs bucket)
   counted_step order key bucket e es true same below rest found =
       let here : e.1 ≡ bucket = cc found in
-      let none : count_evicted_one cmp key es ≡ 0 = none-counted key es (apart order key e.0 (keys_of es) same below) in
+      let none : count_evicted_one cmp key es ≡ 0 = none-counted key es (apart-behind cmp order key e.0 (keys_of es) same below) in
       rw (none, here) (omega arith)
   counted_step order key bucket e es false same below rest found = omega (arith, rest found)
 
@@ -99,47 +99,75 @@ module _ {K : Type 0} (cmp : K → K → Ordering) where
       sum_by-cons (λ (d : K × Bucket). as_number (is_eq (cmp key d.0) && loses_pairs d.1)) e es
       ∙ counted_step order key bucket e es (is_eq (cmp key e.0)) refl sorted.0 (counted-found order key bucket es sorted.1) found
 
-  -- an entry, and an entry after two evictions
-  entry_twice : (k : K) (e : K × Bucket) (a b : Bool) → is_eq (cmp k e.0) ≡ b
-      → cond (a || b) (e.0, emptied_bucket e.1) e
-      ≡ (let once = cond a (e.0, emptied_bucket e.1) e in cond (is_eq (cmp k once.0)) (once.0, emptied_bucket once.1) once)
-  entry_twice k e true true is = rw (is, empty_twice (is_best_effort e.1.mode) e.1 refl) refl
-  entry_twice k e true false is = rw is refl
-  entry_twice k e false true is = rw is refl
-  entry_twice k e false false is = rw is refl
+  -- a persistent bucket loses nothing
+  pub persistent-uncounted : IsTotalOrder cmp → (key : K) (bucket : Bucket) (shed : List (K × Bucket)) → IsStrictlySortedBy cmp (keys_of shed)
+      → map_get cmp key shed ≡ Some bucket → is_best_effort bucket.mode ≡ false → count_evicted_one cmp key shed ≡ 0
+  persistent-uncounted order key bucket shed sorted found best =
+      counted-found order key bucket shed sorted found ∙ ap (λ b. as_number (b && not (length bucket.area == 0))) best
+
+  -- a best-effort bucket loses its pairs
+  pub best_effort-counted : IsTotalOrder cmp → (key : K) (bucket : Bucket) (shed : List (K × Bucket)) → IsStrictlySortedBy cmp (keys_of shed)
+      → map_get cmp key shed ≡ Some bucket → is_best_effort bucket.mode ≡ true → count_evicted_one cmp key shed ≡ as_number (not (length bucket.area == 0))
+  best_effort-counted order key bucket shed sorted found best =
+      counted-found order key bucket shed sorted found ∙ ap (λ b. as_number (b && not (length bucket.area == 0))) best
+
+  push_step : (k : K) (e : K × Bucket) (one two : List (K × Bucket)) (a q b : Bool) → is_eq (cmp k e.0) ≡ q → is_best_effort e.1.mode ≡ b
+      → two ≡ evicted_one cmp k one
+      → cond (not ((a || q) && b)) (e ∷ two) two ≡ evicted_one cmp k (cond (not (a && b)) (e ∷ one) one)
+  push_step k e one two true q true is best later = later
+  push_step k e one two true q false is best later = rw (is, best) (and_step q later)
+    where
+      and_step : (q : Bool) → two ≡ evicted_one cmp k one → e ∷ two ≡ cond (not (q && false)) (e ∷ evicted_one cmp k one) (evicted_one cmp k one)
+      and_step true later = ap (λ r. e ∷ r) later
+      and_step false later = ap (λ r. e ∷ r) later
+  push_step k e one two false q b is best later = rw (is, best) (either (not (q && b)))
+    where
+      either : (c : Bool) → cond c (e ∷ two) two ≡ cond c (e ∷ evicted_one cmp k one) (evicted_one cmp k one)
+      either true = ap (λ r. e ∷ r) later
+      either false = later
 
   -- one key more
   pub evicted-push : (ks : List K) (k : K) (shed : List (K × Bucket)) → evicted cmp (ks ++ k ∷ []) shed ≡ evicted_one cmp k (evicted cmp ks shed)
   evicted-push ks k [] = refl
   evicted-push ks k (e ∷ es) =
       rw (list_any-append (λ q. is_eq (cmp q e.0)) ks (k ∷ []), or-false (is_eq (cmp k e.0)))
-      (cc (entry_twice k e (is_among cmp ks e.0) (is_eq (cmp k e.0)) refl, evicted-push ks k es))
+      (push_step k e (evicted cmp ks es) (evicted cmp (ks ++ k ∷ []) es) (is_among cmp ks e.0) (is_eq (cmp k e.0)) (is_best_effort e.1.mode) refl refl (evicted-push ks k es))
 
-  count_twice : (k : K) (e : K × Bucket) (a b : Bool) → is_eq (cmp k e.0) ≡ b
-      → as_number ((a || b) && loses_pairs e.1)
-      ≡ as_number (a && loses_pairs e.1)
-      + (let once = cond a (e.0, emptied_bucket e.1) e in as_number (is_eq (cmp k once.0) && loses_pairs once.1))
-  count_twice k e true true is = rw (is, lose_once (is_best_effort e.1.mode) e.1 refl) (omega arith)
-  count_twice k e true false is = rw is (omega arith)
-  count_twice k e false true is = rw is (omega arith)
-  count_twice k e false false is = rw is (omega arith)
+  count_step : (k : K) (e : K × Bucket) (one : List (K × Bucket)) (a q b l : Bool) → is_eq (cmp k e.0) ≡ q → is_best_effort e.1.mode ≡ b → not (length e.1.area == 0) ≡ l
+      → as_number ((a || q) && (b && l)) + count_evicted_one cmp k one
+      ≡ as_number (a && (b && l)) + count_evicted_one cmp k (cond (not (a && b)) (e ∷ one) one)
+  count_step k e one true q true l is best some = refl
+  count_step k e one true q false l is best some =
+      let more : count_evicted_one cmp k (e ∷ one) ≡ as_number (q && (false && l)) + count_evicted_one cmp k one =
+      sum_by-cons (λ (d : K × Bucket). as_number (is_eq (cmp k d.0) && loses_pairs d.1)) e one
+      ∙ (λ i. as_number (is i && (best i && some i)) + count_evicted_one cmp k one) in
+      let none = nothing q more in
+      omega (arith, none)
+    where
+      nothing : (q : Bool) → count_evicted_one cmp k (e ∷ one) ≡ as_number (q && false) + count_evicted_one cmp k one
+          → count_evicted_one cmp k one ≡ count_evicted_one cmp k (e ∷ one)
+      nothing true more = omega (arith, more)
+      nothing false more = omega (arith, more)
+  count_step k e one false q b l is best some =
+      let more : count_evicted_one cmp k (e ∷ one) ≡ as_number (q && (b && l)) + count_evicted_one cmp k one =
+      sum_by-cons (λ (d : K × Bucket). as_number (is_eq (cmp k d.0) && loses_pairs d.1)) e one
+      ∙ (λ i. as_number (is i && (best i && some i)) + count_evicted_one cmp k one) in
+      omega (arith, more)
 
   pub counted-push : (ks : List K) (k : K) (shed : List (K × Bucket))
       → count_evicted cmp (ks ++ k ∷ []) shed ≡ count_evicted cmp ks shed + count_evicted_one cmp k (evicted cmp ks shed)
   counted-push ks k [] = omega arith
   counted-push ks k (e ∷ es) =
-      let once : K × Bucket = cond (is_among cmp ks e.0) (e.0, emptied_bucket e.1) e in
-      let here : as_number (is_among cmp (ks ++ k ∷ []) e.0 && loses_pairs e.1)
-      ≡ as_number (is_among cmp ks e.0 && loses_pairs e.1) + as_number (is_eq (cmp k once.0) && loses_pairs once.1) =
+      let here : as_number (is_among cmp (ks ++ k ∷ []) e.0 && loses_pairs e.1) + count_evicted_one cmp k (evicted cmp ks es)
+      ≡ as_number (is_among cmp ks e.0 && loses_pairs e.1) + count_evicted_one cmp k (evicted cmp ks (e ∷ es)) =
       rw (list_any-append (λ q. is_eq (cmp q e.0)) ks (k ∷ []), or-false (is_eq (cmp k e.0)))
-      (count_twice k e (is_among cmp ks e.0) (is_eq (cmp k e.0)) refl) in
+      (count_step k e (evicted cmp ks es) (is_among cmp ks e.0) (is_eq (cmp k e.0)) (is_best_effort e.1.mode) (not (length e.1.area == 0)) refl refl refl) in
       omega (
         arith,
         here,
         counted-push ks k es,
         sum_by-cons (λ (d : K × Bucket). as_number (is_among cmp (ks ++ k ∷ []) d.0 && loses_pairs d.1)) e es,
         sum_by-cons (λ (d : K × Bucket). as_number (is_among cmp ks d.0 && loses_pairs d.1)) e es,
-        sum_by-cons (λ (d : K × Bucket). as_number (is_eq (cmp k d.0) && loses_pairs d.1)) once (evicted cmp ks es),
       )
 
   -- an eviction of no keys

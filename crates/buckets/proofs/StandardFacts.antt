@@ -5,7 +5,8 @@ use Rattle.std.specs.Ordering.{nat_cmp}
 use Rattle.local_area.specs.Area.{Pair}
 use Rattle.buckets.specs.declared.shed.Bucket.{Bucket}
 use Rattle.buckets.specs.declared.shed.Mode.TheVariants.{BestEffort, Persistent}
-use Rattle.buckets.specs.Shed.{area_at, held_area, mode_at, made, shed_put, evicted, count_evicted, fresh_bucket}
+use Rattle.std.specs.Prelude.{true, false}
+use Rattle.buckets.specs.Shed.{area_at, held_area, mode_at, made, persisted, has_best_effort, with_pairs, without_fresh, evicted, count_evicted, fresh_bucket}
 
 abbrev one : List Pair
 one = record { name = codes "k"; value = codes "v" } ∷ []
@@ -41,14 +42,32 @@ made_is_fresh = refl
 made_stays : made nat_cmp 5 three ≡ three
 made_stays = refl
 
-persisted_keeps_pairs : shed_put nat_cmp 3 Persistent one three ≡ (3, kept) ∷ (5, kept) ∷ (7, fresh_bucket) ∷ []
+persisted_keeps_pairs : persisted nat_cmp 3 three ≡ (3, kept) ∷ (5, kept) ∷ (7, fresh_bucket) ∷ []
 persisted_keeps_pairs = refl
 
-persistent_stays : evicted nat_cmp (3 ∷ 5 ∷ 9 ∷ []) three ≡ (3, fresh_bucket) ∷ (5, kept) ∷ (7, fresh_bucket) ∷ []
+persisted_makes_none : persisted nat_cmp 4 three ≡ three
+persisted_makes_none = refl
+
+changed_by_persist : has_best_effort nat_cmp 3 three ≡ true
+changed_by_persist = refl
+
+persistent_before : has_best_effort nat_cmp 5 three ≡ false
+persistent_before = refl
+
+pairs_in_place : with_pairs nat_cmp 5 [] three ≡ (3, held) ∷ (5, record { mode = Persistent; area = [] }) ∷ (7, fresh_bucket) ∷ []
+pairs_in_place = refl
+
+fresh_goes : without_fresh nat_cmp 7 three ≡ (3, held) ∷ (5, kept) ∷ []
+fresh_goes = refl
+
+pairs_stay : without_fresh nat_cmp 3 three ≡ three
+pairs_stay = refl
+
+persistent_stays : evicted nat_cmp (3 ∷ 5 ∷ 9 ∷ []) three ≡ (5, kept) ∷ (7, fresh_bucket) ∷ []
 persistent_stays = refl
 
 named_twice_counts_once : count_evicted nat_cmp (3 ∷ 5 ∷ 7 ∷ 3 ∷ []) three ≡ 1
 named_twice_counts_once = refl
 
-unnamed_stays : evicted nat_cmp (7 ∷ []) three ≡ three
+unnamed_stays : evicted nat_cmp (7 ∷ []) three ≡ (3, held) ∷ (5, kept) ∷ []
 unnamed_stays = refl

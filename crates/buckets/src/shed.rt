@@ -1,12 +1,13 @@
 //! The buckets of a shed, by storage key.
-ghost use Rattle.std.specs.Prelude.{◌≡◌, ◌↔◌, ◌-◌, ◌^◌, min, if◌then◌else◌, [], Some, None, IfOk, IsTrue, OnErr, OnOk, option_copied, unwrap_or};
+ghost use Rattle.std.specs.Prelude.{◌≡◌, ◌-◌, ◌^◌, min, if◌then◌else◌, [], Some, None, IfOk, OnErr, OnOk, is_some, option_copied};
 ghost use Rattle.std.specs.Borrow.{sem};
 ghost use Rattle.std.specs.List.{AllZip};
 ghost use Rattle.std.specs.List.Sorted.{IsStrictlySortedBy};
 ghost use Rattle.std.specs.Map.{keys_of};
+ghost use Rattle.std.specs.Option.{option_copied_mut};
 ghost use Rattle.local_area.specs.Area.{area_weight};
-ghost use Rattle.key_map.specs.Entries.{map_get, next_key, IsCopy};
-ghost use Rattle.buckets.specs.Shed.{area_at, mode_at, held_area, fresh_bucket, shed_put, made, evicted, count_evicted, emptied_bucket, loses_pairs};
+ghost use Rattle.key_map.specs.Entries.{map_get, next_key, entries_from, IsCopy, HasSameValues, ClonesCompareEqual};
+ghost use Rattle.buckets.specs.Shed.{area_at, mode_at, held_area, fresh_bucket, made, persisted, has_best_effort, has_fresh, persistent_bucket, without_fresh, evicted, count_evicted, is_best_effort, is_fresh};
 ghost use Rattle.buckets.specs.Evicting.{evicted_one, count_evicted_one};
 ghost use Rattle.buckets.specs.Lends.{LendsArea};
 
@@ -14,15 +15,28 @@ use agent_base::NoMemory;
 use key_map::KeyMap;
 use local_area::Area;
 use std::alloc::{AllocError, Global};
+use std::collections::btree_map::Range;
 use std::marker::Model;
 
-/// Whether a bucket may be emptied when storage is short.
+/// Whether a bucket may be taken when storage is short.
 #[derive(Clone, Copy, Debug, PartialEq, Eq)]
 pub enum Mode {
-    /// It may be emptied. Each bucket begins so.
+    /// It may be taken. Each bucket begins so.
     BestEffort,
     /// It is kept.
     Persistent,
+}
+
+impl Mode {
+    // Whether it is best-effort.
+    fn is_best_effort(self) -> bool
+        ensures { result ≡ is_best_effort self }
+    {
+        match self {
+            Mode::BestEffort => true,
+            Mode::Persistent => false,
+        }
+    }
 }
 
 /// One bucket: its mode and its local area.
@@ -32,14 +46,33 @@ pub struct Bucket {
     pub area: Area,
 }
 
+impl Bucket {
+    /// A bucket of the same mode with the same pairs.
+    pub fn copy(&self) -> Result<Bucket, NoMemory>
+        ensures same { IfOk result (λ bucket. bucket ≡ self.now) }
+    {
+        Ok(Bucket {
+            mode: self.mode,
+            area: self.area.copy()?,
+        })
+    }
+
+    // Whether it is best-effort and has no pairs.
+    fn is_fresh(&self) -> bool
+        ensures fresh { result ≡ is_fresh self.now }
+    {
+        self.mode.is_best_effort() && self.area.is_empty()
+    }
+}
+
 impl Clone for Bucket {
     ghost is_clone = { λ bucket clone. clone ≡ bucket };
 
     fn clone(&self) -> Result<Bucket, AllocError> {
-        Ok(Bucket {
-            mode: self.mode,
-            area: self.area.clone()?,
-        })
+        match self.copy() {
+            Ok(bucket) => Ok(bucket),
+            Err(NoMemory) => Err(AllocError),
+        }
     }
 }
 
@@ -71,6 +104,13 @@ impl<K: Ord + Drop> Shed<K> {
             buckets: KeyMap::new(alloc),
             alloc,
         }
+    }
+
+    /// Whether a key has a bucket.
+    pub fn contains(&self, key: &K) -> bool
+        ensures contains { result ≡ is_some (map_get K.cmp key.now self.now) }
+    {
+        self.buckets.contains(key)
     }
 
     /// The area of a key, if there is a bucket.
@@ -111,68 +151,96 @@ impl<K: Ord + Drop> Shed<K> {
         self.buckets.next_key(after)
     }
 
-    /// The area of a key, to be changed. An absent one begins empty and best-effort.
-    ///
-    /// Want of memory leaves the shed as it was, and never comes where the key has a bucket.
-    pub fn area_mut(&mut self, key: K) -> Result<&mut Area, NoMemory>
-        ensures* writes_back { sem 𝓛 (LendsArea K.row K.Ord self.entry key result) }
-        ensures area { IfOk result (λ a. a.now ≡ held_area K.cmp key self.old) }
-        ensures memory { OnErr result (map_get K.cmp key self.old ≡ None) }
+    /// The entries whose keys are not less than `from`, in their order.
+    pub fn range_from(&self, from: &K) -> Range<'_, K, Bucket>
+        ensures entries { result ≡ entries_from K.cmp from.now self.now }
+        ensures ordered { IsStrictlySortedBy K.cmp (keys_of self.now) }
     {
-        let fresh = fresh_bucket(self.alloc);
-        match self.buckets.get_or_insert(key, fresh) {
-            Ok(bucket) => Ok(&mut bucket.area),
-            Err(refused) => Err(refused),
+        self.buckets.range_from(from)
+    }
+
+    /// The area of a key that has a bucket, to be changed.
+    pub fn area_mut(&mut self, key: &K) -> Option<&mut Area>
+        ensures* writes_back { sem 𝓛 (LendsArea K.row K.Ord self.entry key.now result) }
+        ensures area { option_copied_mut result ≡ area_at K.cmp key.now self.old }
+    {
+        match self.buckets.get_mut(key) {
+            Some(bucket) => Some(&mut bucket.area),
+            None => None,
         }
     }
 
     /// Makes room for a key: its bucket is there afterwards, empty and best-effort if it is new.
-    ///
-    /// `area_mut` and `persist` of the key then take no memory.
     pub fn reserve(&mut self, key: K) -> Result<(), NoMemory>
         ensures made { OnOk result (self.new ≡ made K.cmp key self.old) }
         ensures memory { OnErr result (map_get K.cmp key self.old ≡ None) }
         ensures unchanged { OnErr result (self.new ≡ self.old) }
     {
+        if self.buckets.contains(&key) {
+            return Ok(());
+        }
         let fresh = fresh_bucket(self.alloc);
-        match self.buckets.get_or_insert(key, fresh) {
-            Ok(_) => Ok(()),
-            Err(refused) => Err(refused),
+        self.buckets.insert(key, fresh)
+    }
+
+    /// Makes the bucket of a key persistent, where it has one, and tells whether that changed it.
+    pub fn persist(&mut self, key: &K) -> bool
+        ensures persisted { self.new ≡ persisted K.cmp key.now self.old }
+        ensures changed { result ≡ has_best_effort K.cmp key.now self.old }
+    {
+        match self.buckets.get_mut(key) {
+            Some(bucket) => persist_bucket(bucket),
+            None => false,
         }
     }
 
-    /// Empties the best-effort areas of these keys, and counts those that were not empty.
+    /// Drops the bucket of a key where it is best-effort and has no pairs.
+    pub fn drop_fresh(&mut self, key: &K)
+        ensures dropped { self.new ≡ without_fresh K.cmp key.now self.old }
+    {
+        if self.has_fresh(key) {
+            let _ = self.buckets.remove(key);
+        }
+    }
+
+    /// Takes out the best-effort buckets of these keys, and counts those that had pairs.
     pub fn evict(&mut self, keys: &[K]) -> u32
         ensures evicted { self.new ≡ evicted K.cmp keys.now self.old }
         ensures count { result ≡ min (count_evicted K.cmp keys.now self.old) (2 ^ 32 - 1) }
     {
         let mut count = 0u32;
         for key in keys {
-            if self.empty(key) {
+            if self.evict_one(key) {
                 count = count.saturating_add(1);
             }
         }
         count
     }
 
-    /// Makes the bucket of a key persistent, and tells whether that changed its mode.
-    ///
-    /// Want of memory leaves the shed as it was, and never comes where the key has a bucket.
-    pub fn persist(&mut self, key: K) -> Result<bool, NoMemory>
-        ensures stored { OnOk result (self.new ≡ shed_put K.cmp key Mode.Persistent (held_area K.cmp key self.old) self.old) }
-        ensures changed { IfOk result (λ c. IsTrue c ↔ (mode_at K.cmp key self.old ≡ Mode.BestEffort)) }
-        ensures memory { OnErr result (map_get K.cmp key self.old ≡ None) }
-        ensures unchanged { OnErr result (self.new ≡ self.old) }
+    // Whether a key has a bucket that is best-effort and has no pairs.
+    fn has_fresh(&self, key: &K) -> bool
+        ensures fresh { result ≡ has_fresh K.cmp key.now self.now }
     {
-        let fresh = fresh_bucket(self.alloc);
-        match self.buckets.get_or_insert(key, fresh) {
-            Ok(bucket) => {
-                let changed = bucket.mode == Mode::BestEffort;
-                bucket.mode = Mode::Persistent;
-                Ok(changed)
-            }
-            Err(refused) => Err(refused),
+        match self.buckets.get(key) {
+            Some(bucket) => bucket.is_fresh(),
+            None => false,
         }
+    }
+
+    // Takes out the bucket of one key, if it is best-effort, and tells whether it had pairs.
+    fn evict_one(&mut self, key: &K) -> bool
+        ensures evicted { self.new ≡ evicted_one K.cmp key.now self.old }
+        ensures lost { (if result then 1 else 0) ≡ count_evicted_one K.cmp key.now self.old }
+    {
+        let Some(bucket) = self.buckets.get(key) else {
+            return false;
+        };
+        if !bucket.mode.is_best_effort() {
+            return false;
+        }
+        let lost = !bucket.area.is_empty();
+        let _ = self.buckets.remove(key);
+        lost
     }
 }
 
@@ -187,42 +255,29 @@ impl<K: Ord + Clone + Drop> Shed<K> {
 
     /// A shed with equal buckets under clones of the keys.
     pub fn copy(&self) -> Result<Shed<K>, NoMemory>
-        ensures copied { IfOk result (λ shed. IsCopy K.is_clone (λ bucket copy. copy ≡ bucket) self.now shed) }
-        ensures same { ((key clone : K) → K.is_clone key clone → clone ≡ key) → IfOk result (λ shed. shed ≡ self.now) }
+        ensures copied { IfOk result (λ shed. IsCopy K.is_clone
+            (λ bucket copy. copy ≡ bucket) self.now shed) }
+        ensures same { ClonesCompareEqual K.cmp K.is_clone → IfOk result
+            (λ shed. HasSameValues K.cmp self.now shed) }
     {
-        match self.buckets.clone() {
+        match self.buckets.copy() {
             Ok(buckets) => Ok(Shed {
                 buckets,
                 alloc: self.alloc,
             }),
-            Err(_) => Err(NoMemory),
+            Err(NoMemory) => Err(NoMemory),
         }
     }
 }
 
-impl<K: Ord + Drop> Shed<K> {
-    // Empties the area of one key, if it is best-effort, and tells whether it was not empty.
-    fn empty(&mut self, key: &K) -> bool
-        ensures emptied { self.new ≡ evicted_one K.cmp key.now self.old }
-        ensures lost { (if result then 1 else 0) ≡ count_evicted_one K.cmp key.now self.old }
-    {
-        match self.buckets.get_mut(key) {
-            Some(bucket) => empty_bucket(bucket),
-            None => false,
-        }
-    }
-}
-
-// Empties a bucket, if it is best-effort, and tells whether it was not empty.
-fn empty_bucket(bucket: &mut Bucket) -> bool
-    ensures emptied { bucket.new ≡ emptied_bucket bucket.old }
-    ensures lost { result ≡ loses_pairs bucket.old }
+// Makes a bucket persistent, and tells whether that changed it.
+fn persist_bucket(bucket: &mut Bucket) -> bool
+    ensures persistent { bucket.new ≡ persistent_bucket bucket.old }
+    ensures changed { result ≡ is_best_effort bucket.old.mode }
 {
-    let lost = bucket.mode == Mode::BestEffort && !bucket.area.is_empty();
-    if bucket.mode == Mode::BestEffort {
-        bucket.area.clear();
-    }
-    lost
+    let changed = bucket.mode.is_best_effort();
+    bucket.mode = Mode::Persistent;
+    changed
 }
 
 // What the bucket of a key begins as.

@@ -1,3 +1,3 @@
 mod StandardFacts
-pub mod PlacesLemmas
+pub mod WalksLemmas
 pub mod EntriesLemmas

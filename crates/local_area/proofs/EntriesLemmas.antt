@@ -7,7 +7,7 @@ use Rattle.std.specs.Map as map
 use Rattle.std.specs.String.{string_eq}
 use Rattle.indexmap.specs.IndexMap.{insert_entry}
 use Rattle.local_area.specs.Area.{has_name, area_get, HasDistinctNames}
-use Rattle.local_area.specs.Held.{pair_of, pairs_of}
+use Rattle.local_area.specs.Stored.{pair_of, pairs_of}
 use Rattle.local_area.proofs.PairsLemmas.{choice, put_first, remove_first}
 
 abbrev pub Entries : Type 0

@@ -2,4 +2,4 @@
 pub mod Area
 pub mod Put
 -- What private functions compute. No public clause rests on it.
-pub mod Held
+pub mod Stored

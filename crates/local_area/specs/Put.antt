@@ -6,22 +6,22 @@ use Rattle.local_area.specs.declared.area.Put.{Put}
 use Rattle.local_area.specs.declared.area.Put.TheVariants.{Same, Added, Changed}
 
 -- an answer, as contracts see it
-pub data PutView : Type 0 where
-  same : PutView
-  added : PutView
-  changed : List ℕ → PutView
+pub data PlainPut : Type 0 where
+  same : PlainPut
+  added : PlainPut
+  changed : List ℕ → PlainPut
 
 -- the answer of the program, as contracts see it
-abbrev pub plain_put : Put → PutView
+abbrev pub plain_put : Put → PlainPut
 plain_put Same = same
 plain_put Added = added
 plain_put (Changed before) = changed (string_bytes before)
 
 -- the answer for a new value, from the value that is there
-abbrev pub answer_over : List ℕ → Option (List ℕ) → PutView
+abbrev pub answer_over : List ℕ → Option (List ℕ) → PlainPut
 answer_over value None = added
 answer_over value (Some before) = if bytes_eq before value then same else changed before
 
 -- the answer for a name and a value
-abbrev pub put_answer : List ℕ → List ℕ → List Pair → PutView
+abbrev pub put_answer : List ℕ → List ℕ → List Pair → PlainPut
 put_answer name value pairs = answer_over value (area_get name pairs)

@@ -1,5 +1,5 @@
 //! The pairs of one storage area, with their weight.
-ghost use Rattle.std.specs.Prelude.{◌≡◌, ◌≤◌, ◌<◌, ◌+◌, ◌-◌, ◌↔◌, ◌⊎◌, ◌==◌, ◌≢◌, [], length, Some, None, Ok, Err, IfOk, IfErr, OnOk, OnErr, IsTrue, IsOk, string_bytes, option_map};
+ghost use Rattle.std.specs.Prelude.{◌≡◌, ◌≤◌, ◌<◌, ◌+◌, ◌-◌, ◌↔◌, ◌⊎◌, ◌==◌, ◌≢◌, [], length, Some, None, Ok, Err, IfOk, IfErr, IfSome, IfNone, OnOk, OnErr, IsOk, string_bytes, option_map, if◌then◌else◌, nat_lt};
 ghost use Rattle.std.specs.Option.{option_copied};
 ghost use Rattle.local_area.specs.Area.{area_get, area_nth, area_put, area_remove, area_weight, quota, HasDistinctNames};
 ghost use Rattle.local_area.specs.Put.{plain_put, put_answer, same};
@@ -23,6 +23,19 @@ pub enum Put {
     Changed(String),
 }
 
+impl Put {
+    /// The same answer, over memory of its own.
+    pub fn copy(&self) -> Result<Put, NoMemory>
+        ensures same { IfOk result (λ p. plain_put p ≡ plain_put self.now) }
+    {
+        match self {
+            Put::Same => Ok(Put::Same),
+            Put::Added => Ok(Put::Added),
+            Put::Changed(before) => Ok(Put::Changed(before.clone()?)),
+        }
+    }
+}
+
 /// Why a [`Area::put`] was refused. The area is as it was.
 #[derive(Clone, Copy, Debug, PartialEq, Eq)]
 pub enum AreaFault {
@@ -30,6 +43,21 @@ pub enum AreaFault {
     Quota(u128),
     /// A growth of memory was refused.
     NoMemory,
+}
+
+impl AreaFault {
+    /// Why a pair is refused where its area is not there and memory for it is wanting: the quota,
+    /// where the pair alone passes it, and else memory.
+    pub fn without_area(name: &str, value: &str) -> AreaFault
+        ensures fault { let after = area_weight (area_put name.now value.now []) in
+            result ≡ (if nat_lt quota after then AreaFault.Quota after else AreaFault.NoMemory) }
+    {
+        let weight = name.len() as u128 + value.len() as u128;
+        if weight <= QUOTA as u128 {
+            return AreaFault::NoMemory;
+        }
+        AreaFault::Quota(weight)
+    }
 }
 
 impl From<NoMemory> for AreaFault {
@@ -67,11 +95,11 @@ impl Model for Area {
 
     ghost Value = { List Pair };
 
-    ghost use Rattle.local_area.specs.Held.{pairs_of, IsHeld};
+    ghost use Rattle.local_area.specs.Stored.{pairs_of, IsArea};
 
     ghost view = { λ a. pairs_of a.pairs.entries };
 
-    ghost invariant = { λ a. IsHeld (pairs_of a.pairs.entries) a.weight };
+    ghost invariant = { λ a. IsArea (pairs_of a.pairs.entries) a.weight };
 }
 
 impl Area {
@@ -132,21 +160,26 @@ impl Area {
     ///
     /// A refusal leaves the area as it was. The value that is there is never refused.
     pub fn put(&mut self, name: String, value: String) -> Result<Put, AreaFault>
-        ensures stored { OnOk result (self.new ≡ area_put (string_bytes name) (string_bytes value) self.old) }
-        ensures answer { IfOk result (λ p. plain_put p ≡ put_answer (string_bytes name) (string_bytes value) self.old) }
-        ensures quota { let after = area_weight (area_put (string_bytes name) (string_bytes value) self.old) in
+        ensures stored { OnOk result (self.new
+            ≡ area_put (string_bytes name) (string_bytes value) self.old) }
+        ensures answer { IfOk result (λ p. plain_put p
+            ≡ put_answer (string_bytes name) (string_bytes value) self.old) }
+        ensures quota { let pairs = area_put (string_bytes name) (string_bytes value) self.old in
+            let after = area_weight pairs in
             (result ≡ Err (AreaFault.Quota after)) ↔ (quota < after) }
-        ensures causes { let after = area_weight (area_put (string_bytes name) (string_bytes value) self.old) in
+        ensures causes { let pairs = area_put (string_bytes name) (string_bytes value) self.old in
+            let after = area_weight pairs in
             IfErr result (λ e. (e ≡ AreaFault.Quota after) ⊎ (e ≡ AreaFault.NoMemory)) }
-        ensures memory { result ≡ Err AreaFault.NoMemory → area_get (string_bytes name) self.old ≡ None }
+        ensures memory { result ≡ Err AreaFault.NoMemory → area_get (string_bytes name) self.old
+            ≡ None }
         ensures still { result ≡ Ok Put.Same → self.new ≡ self.old }
-        ensures kept { put_answer (string_bytes name) (string_bytes value) self.old ≡ same → IsOk result }
+        ensures kept { put_answer (string_bytes name) (string_bytes value) self.old ≡ same
+            → IsOk result }
         ensures unchanged { OnErr result (self.new ≡ self.old) }
     {
-        if self.has(&name, &value) {
+        let Some(weight) = self.weight_with(&name, &value) else {
             return Ok(Put::Same);
-        }
-        let weight = self.weight_with(&name, &value);
+        };
         if weight > QUOTA as u128 {
             return Err(AreaFault::Quota(weight));
         }
@@ -191,25 +224,18 @@ impl Area {
         }
     }
 
-    // Whether the name has this value.
-    fn has(&self, name: &str, value: &str) -> bool
-        ensures same { IsTrue result ↔ (area_get name.now self.now ≡ Some value.now) }
+    // The weight after a put, and none where the name has this value already.
+    fn weight_with(&self, name: &str, value: &str) -> Option<u128>
+        ensures weight { IfSome result
+            (λ w. w ≡ area_weight (area_put name.now value.now self.now)) }
+        ensures other { IfSome result (λ w. area_get name.now self.now ≢ Some value.now) }
+        ensures same { IfNone result (area_get name.now self.now ≡ Some value.now) }
     {
         match self.get(name) {
-            Some(before) => before == value,
-            None => false,
+            Some(before) if before == value => None,
+            Some(before) => Some((self.weight - before.len()) as u128 + value.len() as u128),
+            None => Some((self.weight + name.len()) as u128 + value.len() as u128),
         }
-    }
-
-    // The weight after a put.
-    fn weight_with(&self, name: &str, value: &str) -> u128
-        ensures weight { result ≡ area_weight (area_put name.now value.now self.now) }
-    {
-        let kept = match self.get(name) {
-            Some(before) => self.weight - before.len(),
-            None => self.weight + name.len(),
-        };
-        kept as u128 + value.len() as u128
     }
 }
 

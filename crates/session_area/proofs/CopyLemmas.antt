@@ -1,6 +1,6 @@
 -- Copies of areas, one key after another.
 use Rattle.std.proofs.Common.{◌≡◌, Bool, true, false, cond, List, [], ◌∷◌, ◌++◌, Option, Some, None, refl, ap, ◌∙◌, sym}
-use Rattle.std.specs.Prelude.{unwrap_or, ◌||◌}
+use Rattle.std.specs.Prelude.{◌||◌}
 use Rattle.std.proofs.Math.Bool.{or-false}
 use Rattle.std.proofs.lemmas.List.Folds.{list_any-append}
 use Rattle.std.specs.Cmp.{IsTotalOrder}
@@ -31,10 +31,6 @@ module _ {K : Type 0} (cmp : K → K → Ordering) (order : IsTotalOrder cmp) wh
       (λ same. sym (map_get-same cmp order key q from same) ∙ missing)
       ∙ ap (λ b. cond b (map_get cmp q from) None) (sym (among-push keys key q))
 
-  value_step : (area : List Pair) (a : Bool) → unwrap_or (cond a (Some area) None) area ≡ area
-  value_step area true = refl
-  value_step area false = refl
-
   found_step : (area : List Pair) (found : Option (List Pair)) (a b : Bool) → (b ≡ true → found ≡ Some area)
       → cond b (Some area) (cond a found None) ≡ cond (a || b) found None
   found_step area found true true is = sym (is refl)
@@ -45,13 +41,9 @@ module _ {K : Type 0} (cmp : K → K → Ordering) (order : IsTotalOrder cmp) wh
   -- a key with an area adds its copy
   pub IsCopied-found : (keys : List K) (key : K) (area : List Pair) (from to : List (K × List Pair)) → IsCopied cmp keys from to
       → map_get cmp key from ≡ Some area
-      → IsCopied cmp (keys ++ key ∷ []) from (map_put cmp key (unwrap_or (map_get cmp key to) area) to)
+      → IsCopied cmp (keys ++ key ∷ []) from (map_put cmp key area to)
   IsCopied-found keys key area from to copied found =
-      let same : unwrap_or (map_get cmp key to) area ≡ area =
-      ap (λ o. unwrap_or o area) (copied key)
-      ∙ ap (λ o. unwrap_or (cond (is_among cmp keys key) o None) area) found
-      ∙ value_step area (is_among cmp keys key) in
-      λ q. rw same
+      λ q.
       (map_get-put cmp order q key area to
       ∙ ap (λ b. cond b (Some area) (map_get cmp q to)) (eq-flip cmp order q key)
       ∙ ap (λ o. cond (is_eq (cmp key q)) (Some area) o) (copied q)

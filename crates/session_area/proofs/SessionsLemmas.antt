@@ -1,11 +1,14 @@
 -- The areas of tabs after a write at one tab.
-use Rattle.std.proofs.Common.{◌≡◌, ◌≢◌, ℕ, Bool, true, false, cond, List, [], ◌∷◌, Option, Some, None, refl, arith}
-use Rattle.std.specs.Prelude.{unwrap_or, is_some}
+use Rattle.std.proofs.Common.{◌≡◌, ◌≢◌, ℕ, Bool, true, false, cond, List, [], ◌∷◌, Option, Some, None, refl, arith, subst, sym, ap, ◌∙◌}
+use Rattle.std.specs.Prelude.{unwrap_or, is_some, OnSome, not, length, ◌==◌}
+use Rattle.std.proofs.lemmas.Bool.Decides.{nat_tests}
+use Rattle.std.specs.declared.cmp.Ordering.{Ordering}
 use Rattle.std.specs.List.{AllZip}
-use Rattle.std.specs.Cmp.{Equal-is}
+use Rattle.std.specs.Cmp.{Equal-is, nat_cmp_total}
+use Rattle.key_map.proofs.EntriesLemmas.{map_get-set, eq-flip}
 use Rattle.std.specs.Ordering.{nat_cmp, is_eq}
 use Rattle.local_area.specs.Area.{Pair}
-use Rattle.key_map.specs.Entries.{map_get, IsCopy}
+use Rattle.key_map.specs.Entries.{map_get, map_set, IsCopy, HasSameValues}
 use Rattle.session_area.specs.Sessions.{areas_of, ChangesTab, SameAreas}
 
 -- a tab is told from another
@@ -42,6 +45,54 @@ module _ {K : Type 0} where
       λ q. rw (finds q) (same_step (map_get nat_cmp q old) (is_eq (nat_cmp tab q))
       (λ same. let is : tab ≡ q = one tab q same in rw (← is) missing))
 
+  -- a tab that was there and is written
+  pub ChangesTab-set : (tab : ℕ) (here areas : List (K × List Pair)) (old new : List (ℕ × List (K × List Pair))) → Some here ≡ map_get nat_cmp tab old
+      → new ≡ map_set nat_cmp tab areas old → ChangesTab tab areas old new
+  ChangesTab-set tab here areas old new found is =
+      ChangesTab-found tab (Some areas) old new (λ q.
+      ap (map_get nat_cmp q) is
+      ∙ map_get-set nat_cmp nat_cmp_total q tab areas old (ap is_some (sym found))
+      ∙ ap (λ b. cond b (Some areas) (map_get nat_cmp q old)) (eq-flip nat_cmp nat_cmp_total q tab))
+
+  -- a tab that is given the areas that it has, while all tabs stay
+  pub ChangesTab-same : (tab : ℕ) (areas : List (K × List Pair)) (old new : List (ℕ × List (K × List Pair))) → SameAreas old new
+      → areas ≡ areas_of tab old → ChangesTab tab areas old new
+  ChangesTab-same tab areas old new same is = record {
+    here = same tab ∙ sym is;
+    elsewhere = λ other differ. same other;
+  }
+
+  -- a tab whose areas are those that it had
+  pub SameAreas-changed : (tab : ℕ) (areas : List (K × List Pair)) (old new : List (ℕ × List (K × List Pair))) → ChangesTab tab areas old new
+      → areas ≡ areas_of tab old → SameAreas old new
+  SameAreas-changed tab areas old new changes same = λ q. at q (is_eq (nat_cmp tab q)) refl
+    where
+      at : (q : ℕ) (b : Bool) → is_eq (nat_cmp tab q) ≡ b → areas_of q new ≡ areas_of q old
+      at q true is = subst (λ n. areas_of n new ≡ areas_of n old) (one tab q is) (changes.here ∙ same)
+      at q false is = changes.elsewhere q (λ tie. absurd (cc (subst (λ n. is_eq (nat_cmp tab n) ≡ true) tie (itself tab), is)))
+
+  -- a tab that is written twice
+  pub ChangesTab-twice : (tab : ℕ) (one two : List (K × List Pair)) (old mid new : List (ℕ × List (K × List Pair)))
+      → ChangesTab tab one old mid → ChangesTab tab two mid new → ChangesTab tab two old new
+  ChangesTab-twice tab one two old mid new first second = record {
+    here = second.here;
+    elsewhere = λ other differ. second.elsewhere other differ ∙ first.elsewhere other differ;
+  }
+
+  -- a tab that is written after all tabs stayed
+  pub ChangesTab-after : (tab : ℕ) (areas : List (K × List Pair)) (old mid new : List (ℕ × List (K × List Pair)))
+      → SameAreas old mid → ChangesTab tab areas mid new → ChangesTab tab areas old new
+  ChangesTab-after tab areas old mid new same changes = record {
+    here = changes.here;
+    elsewhere = λ other differ. changes.elsewhere other differ ∙ same other;
+  }
+
+  copied_step : (cmp : K → K → Ordering) (a b : List (K × List Pair)) (c d : Option (List (K × List Pair))) (t : Bool)
+      → HasSameValues cmp a b → HasSameValues cmp (unwrap_or c []) (unwrap_or d [])
+      → HasSameValues cmp (unwrap_or (cond t (Some a) c) []) (unwrap_or (cond t (Some b) d) [])
+  copied_step cmp a b c d true here rest = here
+  copied_step cmp a b c d false here rest = rest
+
   both_some : (C : K → K → Type 0) (D : List Pair → List Pair → Type 0) (a b : List (K × List Pair)) (c d : Option (List (K × List Pair))) (t : Bool)
       → IsCopy C D a b → IsCopy C D (unwrap_or c []) (unwrap_or d [])
       → IsCopy C D (unwrap_or (cond t (Some a) c) []) (unwrap_or (cond t (Some b) d) [])
@@ -65,3 +116,11 @@ none_from (Some x) is = absurd (cc is)
 pub both_none : {A : Type 0} (b : Bool) → ◌≡◌ {A = Option A} None (cond b None None)
 both_none true = refl
 both_none false = refl
+
+pub on_some : {A P Q : Type 0} (o : Option A) → (P → Q) → OnSome o P → OnSome o Q
+on_some None f p = tt
+on_some (Some x) f p = f p
+
+pub empty_length : {A : Type 0} (xs : List A) → not (length xs == 0) ≡ false → xs ≡ []
+empty_length [] is = refl
+empty_length (x ∷ xs) is = grind (arith, nat_tests)

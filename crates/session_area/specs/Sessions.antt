@@ -1,11 +1,11 @@
 -- Session areas: a map from tabs to a map from storage keys to areas.
 -- Source: Storage Standard, "Storage sheds": each traversable navigable holds a storage shed.
 -- Our own choice: a tab without areas and an absent tab are not told apart.
-use Rattle.std.specs.Prelude.{◌≡◌, ◌≢◌, ℕ, List, [], Option, None, unwrap_or, if◌then◌else◌}
+use Rattle.std.specs.Prelude.{◌≡◌, ◌≢◌, ℕ, Bool, false, List, [], length, ◌==◌, Option, None, option_map, is_some, unwrap_or, if◌then◌else◌}
 use Rattle.std.specs.declared.cmp.Ordering.{Ordering}
 use Rattle.std.specs.Ordering.{nat_cmp}
 use Rattle.local_area.specs.Area.{Pair}
-use Rattle.key_map.specs.Entries.{map_get, is_among}
+use Rattle.key_map.specs.Entries.{map_get, map_put, map_remove, is_among}
 
 module _ {K : Type 0} where
   -- the areas of a tab, by key
@@ -21,7 +21,8 @@ module _ {K : Type 0} where
   KeepsOthers tab old new = (other : ℕ) → tab ≢ other → areas_of other new ≡ areas_of other old
 
   -- a tab has these areas, and every other tab those that it had
-  pub record ChangesTab (tab : ℕ) (areas : List (K × List Pair)) (old new : List (ℕ × List (K × List Pair))) : Type 0 where
+  pub record ChangesTab (tab : ℕ) (areas : List (K × List Pair))
+      (old new : List (ℕ × List (K × List Pair))) : Type 0 where
     pub here : areas_of tab new ≡ areas
     pub elsewhere : KeepsOthers tab old new
 
@@ -34,7 +35,21 @@ module _ {K : Type 0} (cmp : K → K → Ordering) where
   abbrev pub held_session : ℕ → K → List (ℕ × List (K × List Pair)) → List Pair
   held_session tab key sessions = unwrap_or (session_area tab key sessions) []
 
+  -- the areas of a tab with one at the key: its own, or an empty one
+  abbrev pub made_area : K → List (K × List Pair) → List (K × List Pair)
+  made_area key areas = if is_some (map_get cmp key areas) then areas else map_put cmp key [] areas
+
+  -- whether the key has an area, which is empty
+  abbrev pub has_empty : K → List (K × List Pair) → Bool
+  has_empty key areas =
+      unwrap_or (option_map (λ pairs. length pairs == 0) (map_get cmp key areas)) false
+
+  -- the areas of a tab without that of a key, where it is empty
+  abbrev pub without_empty : K → List (K × List Pair) → List (K × List Pair)
+  without_empty key areas = if has_empty key areas then map_remove cmp key areas else areas
+
   -- a map of areas holds those of another under these keys, and no others
   abbrev pub IsCopied : List K → (from to : List (K × List Pair)) → Type 0
   IsCopied keys from to =
-      (key : K) → map_get cmp key to ≡ (if is_among cmp keys key then map_get cmp key from else None)
+      (key : K)
+      → map_get cmp key to ≡ (if is_among cmp keys key then map_get cmp key from else None)

@@ -1,10 +1,12 @@
 //! The session areas of all tabs.
-ghost use Rattle.std.specs.Prelude.{◌≡◌, ℕ, [], IfOk, OnErr, OnOk, option_copied, unwrap_or};
+ghost use Rattle.std.specs.Prelude.{◌≡◌, ℕ, [], IfNone, IfOk, IfSome, None, OnErr, OnOk, is_some, length, false, not, option_copied, ◌==◌};
 ghost use Rattle.std.specs.Borrow.{sem};
 ghost use Rattle.std.specs.List.{AllZip};
+ghost use Rattle.std.specs.List.Sorted.{IsStrictlySortedBy};
 ghost use Rattle.std.specs.Map.{keys_of};
-ghost use Rattle.key_map.specs.Entries.{map_get, IsCopy};
-ghost use Rattle.session_area.specs.Sessions.{areas_of, session_area, held_session, IsCopied, ChangesTab, KeepsOthers, SameAreas};
+ghost use Rattle.std.specs.Option.{option_copied_mut};
+ghost use Rattle.key_map.specs.Entries.{map_get, entries_from, IsCopy, HasSameValues, ClonesCompareEqual};
+ghost use Rattle.session_area.specs.Sessions.{areas_of, session_area, made_area, without_empty, has_empty, IsCopied, ChangesTab, KeepsOthers, SameAreas};
 ghost use Rattle.session_area.specs.Lends.{LendsSession};
 
 use agent_base::NoMemory;
@@ -12,6 +14,7 @@ use key_map::KeyMap;
 use local_area::Area;
 use std::alloc::Global;
 use std::collections::BTreeMap;
+use std::collections::btree_map::Range;
 use std::marker::Model;
 
 /// Areas by tab and storage key.
@@ -54,18 +57,78 @@ impl<K: Ord + Drop> Sessions<K> {
         }
     }
 
-    /// The area of a tab and a key, to be changed. An absent one begins empty.
+    /// Whether a tab has an area under a key.
+    pub fn contains(&self, tab: u16, key: &K) -> bool
+        ensures contains { result ≡ is_some (session_area K.cmp tab key.now self.now) }
+    {
+        match self.tabs.get(&tab) {
+            Some(areas) => areas.contains(key),
+            None => false,
+        }
+    }
+
+    /// The areas of a tab whose keys are not less than `from`, in the order of the keys. None is
+    /// for a tab without areas.
+    pub fn range_from(&self, tab: u16, from: &K) -> Option<Range<'_, K, Area>>
+        ensures areas { IfSome result
+            (λ areas. areas ≡ entries_from K.cmp from.now (areas_of tab self.now)) }
+        ensures ordered { IfSome result
+            (λ areas. IsStrictlySortedBy K.cmp (keys_of (areas_of tab self.now))) }
+        ensures none { IfNone result (areas_of tab self.now ≡ []) }
+    {
+        match self.tabs.get(&tab) {
+            Some(areas) => Some(areas.range_from(from)),
+            None => None,
+        }
+    }
+
+    /// The area that a tab has under a key, to be changed.
+    pub fn area_mut(&mut self, tab: u16, key: &K) -> Option<&mut Area>
+        ensures* writes_back { sem 𝓛 (LendsSession K.row K.Ord self.entry tab key.now result) }
+        ensures area { option_copied_mut result ≡ session_area K.cmp tab key.now self.old }
+    {
+        match self.tabs.get_mut(&tab) {
+            Some(areas) => areas.get_mut(key),
+            None => None,
+        }
+    }
+
+    /// Makes room for a tab and a key: their area is there afterwards, and empty if it is new.
     ///
     /// Want of memory leaves the areas as they were.
-    pub fn area_mut(&mut self, tab: u16, key: K) -> Result<&mut Area, NoMemory>
-        ensures* writes_back { sem 𝓛 (LendsSession K.row K.Ord self.entry tab key result) }
-        ensures area { IfOk result (λ a. a.now ≡ held_session K.cmp tab key self.old) }
+    pub fn reserve(&mut self, tab: u16, key: K) -> Result<(), NoMemory>
+        ensures made { OnOk result
+            (ChangesTab tab (made_area K.cmp key (areas_of tab self.old)) self.old self.new) }
+        ensures memory { OnErr result (session_area K.cmp tab key self.old ≡ None) }
+        ensures unchanged { OnErr result (SameAreas self.old self.new) }
     {
-        let fresh = Area::new(self.alloc);
         make_tab(&mut self.tabs, tab, self.alloc)?;
         match self.tabs.get_mut(&tab) {
-            Some(areas) => areas.get_or_insert(key, fresh),
+            Some(areas) => make_area(areas, key, self.alloc),
             None => Err(NoMemory),
+        }
+    }
+
+    /// Drops the area that a tab has under a key, where it is empty.
+    pub fn drop_empty(&mut self, tab: u16, key: &K)
+        ensures dropped { ChangesTab tab
+            (without_empty K.cmp key.now (areas_of tab self.old)) self.old self.new }
+    {
+        if !self.drop_within(tab, key) {
+            self.close(tab);
+        }
+    }
+
+    // Drops the area that a tab has under a key, where it is empty, and tells whether areas are
+    // left.
+    fn drop_within(&mut self, tab: u16, key: &K) -> bool
+        ensures dropped { ChangesTab tab
+            (without_empty K.cmp key.now (areas_of tab self.old)) self.old self.new }
+        ensures none { result ≡ false → areas_of tab self.new ≡ [] }
+    {
+        match self.tabs.get_mut(&tab) {
+            Some(areas) => drop_area(areas, key),
+            None => false,
         }
     }
 
@@ -74,7 +137,8 @@ impl<K: Ord + Drop> Sessions<K> {
     /// Want of memory leaves the areas as they were.
     pub fn clone_tab(&mut self, from: u16, to: u16, keys: Vec<K>) -> Result<(), NoMemory>
         requires { areas_of to self.old ≡ [] }
-        ensures copied { OnOk result (IsCopied K.cmp keys.items (areas_of from self.old) (areas_of to self.new)) }
+        ensures copied { OnOk result
+            (IsCopied K.cmp keys.items (areas_of from self.old) (areas_of to self.new)) }
         ensures elsewhere { OnOk result (KeepsOthers to self.old self.new) }
         ensures unchanged { OnErr result (SameAreas self.old self.new) }
     {
@@ -99,7 +163,8 @@ impl<K: Ord + Drop> Sessions<K> {
 impl<K: Ord + Clone + Drop> Sessions<K> {
     /// Clones of the keys under which a tab has areas, in their order.
     pub fn keys(&self, tab: u16) -> Result<Vec<K>, NoMemory>
-        ensures keys { IfOk result (λ keys. AllZip K.is_clone (keys_of (areas_of tab self.now)) keys.items) }
+        ensures keys { IfOk result
+            (λ keys. AllZip K.is_clone (keys_of (areas_of tab self.now)) keys.items) }
     {
         match self.tabs.get(&tab) {
             Some(areas) => areas.keys(self.alloc),
@@ -110,7 +175,11 @@ impl<K: Ord + Clone + Drop> Sessions<K> {
     /// The same tabs with equal areas under clones of the keys.
     pub fn copy(&self) -> Result<Sessions<K>, NoMemory>
         ensures copied { IfOk result (λ copy. (tab : ℕ)
-            → IsCopy K.is_clone (λ area clone. clone ≡ area) (areas_of tab self.now) (areas_of tab copy)) }
+            → IsCopy K.is_clone (λ area clone. clone ≡ area)
+            (areas_of tab self.now) (areas_of tab copy)) }
+        ensures same { ClonesCompareEqual K.cmp K.is_clone
+            → IfOk result (λ copy. (tab : ℕ)
+            → HasSameValues K.cmp (areas_of tab self.now) (areas_of tab copy)) }
     {
         match self.tabs.clone() {
             Ok(tabs) => Ok(Sessions {
@@ -133,10 +202,47 @@ fn copies_of<K: Ord + Drop>(
     let mut copies = KeyMap::new(alloc);
     for key in keys {
         if let Some(area) = areas.get(&key) {
-            copies.insert_new(key, area.copy()?)?;
+            copies.insert(key, area.copy()?)?;
         }
     }
     Ok(copies)
+}
+
+// Makes an empty area under a key that has none.
+fn make_area<K: Ord + Drop>(
+    areas: &mut KeyMap<K, Area>,
+    key: K,
+    alloc: Global,
+) -> Result<(), NoMemory>
+    ensures made { OnOk result (areas.new ≡ made_area K.cmp key areas.old) }
+    ensures memory { OnErr result (map_get K.cmp key areas.old ≡ None) }
+    ensures unchanged { OnErr result (areas.new ≡ areas.old) }
+{
+    if areas.contains(&key) {
+        return Ok(());
+    }
+    areas.insert(key, Area::new(alloc))
+}
+
+// Drops the area of a key where it is empty, and tells whether areas are left.
+fn drop_area<K: Ord + Drop>(areas: &mut KeyMap<K, Area>, key: &K) -> bool
+    ensures dropped { areas.new ≡ without_empty K.cmp key.now areas.old }
+    ensures left { result ≡ not (length areas.new == 0) }
+{
+    if has_empty(areas, key) {
+        let _ = areas.remove(key);
+    }
+    !areas.is_empty()
+}
+
+// Whether a key has an area, which is empty.
+fn has_empty<K: Ord + Drop>(areas: &KeyMap<K, Area>, key: &K) -> bool
+    ensures empty { result ≡ has_empty K.cmp key.now areas.now }
+{
+    match areas.get(key) {
+        Some(area) => area.is_empty(),
+        None => false,
+    }
 }
 
 // Makes the map of a tab's areas, which has none at first.
@@ -146,6 +252,7 @@ fn make_tab<K: Ord + Drop>(
     alloc: Global,
 ) -> Result<(), NoMemory>
     ensures same { SameAreas tabs.old.entries tabs.new.entries }
+    ensures memory { OnErr result (areas_of tab tabs.old.entries ≡ []) }
 {
     if tabs.contains_key(&tab) {
         return Ok(());

@@ -3,9 +3,9 @@ use Rattle.std.proofs.Common.{sym}
 use Rattle.session_area.proofs.CopyLemmas.{IsCopied-found, IsCopied-missing}
 use Rattle.session_area.proofs.sessions.copies_of.Goals as goal
 
-pub loop-key-preserved-in_ok-insert_new : goal.loop-key-preserved-in_ok-insert_new
-loop-key-preserved-in_ok-insert_new g c = λ q.
-    rw (c.in_ok-insert_new.ensures.inserted, c.in_ok-copy.ensures.same)
+pub loop-key-preserved-in_ok-insert : goal.loop-key-preserved-in_ok-insert
+loop-key-preserved-in_ok-insert g c = λ q.
+    rw (c.in_ok-insert.ensures.inserted, c.in_ok-copy.ensures.same)
     (IsCopied-found g.K.Ord.cmp g.met.K.Ord.total c.loop-key.yielded c.in-Some.key c.in-Some-get.area.now c.args.areas.now c.loop-key.copies
     c.loop-key.invariant (sym c.in-Some-get.ensures.value) q)
 

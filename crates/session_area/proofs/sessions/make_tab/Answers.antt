@@ -11,4 +11,5 @@ returns-in-Ok g c = record {
       (λ q. c.in-Ok.ensures.updates.0 q
       ∙ ap (λ areas. cond (is_eq (nat_cmp c.args.tab q)) (Some areas) (map_get nat_cmp q c.args.tabs.now.entries)) c.new.ensures.empty)
       (none_from _ c.if-contains_key.ensures);
+  memory = tt;
 }

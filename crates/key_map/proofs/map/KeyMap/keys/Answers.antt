@@ -1,9 +1,10 @@
--- The keys are those of the places.
-use Rattle.key_map.proofs.PlacesLemmas.{keys_of-placed}
+-- One key more is cloned.
+use Rattle.std.proofs.Common.{◌∷◌, []}
+use Rattle.std.proofs.lemmas.List.{map-append}
+use Rattle.std.proofs.lemmas.List.Elements.{AllZip-push}
 use Rattle.key_map.proofs.map.KeyMap.keys.Goals as goal
 
-pub returns : goal.returns
-returns g c = record {
-  keys = rw (← c.self.view_is) (rw (keys_of-placed _ _ c.self.invariant.placed.within) c.clones_of.ensures.keys);
-  ordered = rw (← c.self.view_is) (rw (keys_of-placed _ _ c.self.invariant.placed.within) c.self.invariant.ordered);
-}
+pub loop-key-preserved : goal.loop-key-preserved
+loop-key-preserved g c =
+    rw (map-append (λ k. k.now) c.loop-key.yielded (c.in-Some.key ∷ []), c.in-Ok.ensures.items)
+    (AllZip-push g.K.Clone.is_clone _ _ _ _ c.loop-key.invariant c.in_ok-clone.ensures.cases)

@@ -1,6 +1,6 @@
 -- A clone of the map has the same pairs.
 use Rattle.std.proofs.Common.{◌≡◌, ◌∙◌}
-use Rattle.local_area.specs.Held.{pairs_of}
+use Rattle.local_area.specs.Stored.{pairs_of}
 use Rattle.local_area.proofs.EntriesLemmas.{pairs_of-clone}
 use Rattle.local_area.proofs.area.Area.copy.Goals as goal
 

@@ -2,7 +2,7 @@
 use Rattle.std.proofs.Common.{◌≡◌, ◌∙◌, ap, arith, sym, Some}
 use Rattle.std.specs.Prelude.{option_map, string_bytes}
 use Rattle.local_area.specs.Area.{area_get, area_remove, area_weight}
-use Rattle.local_area.specs.Held.{pairs_of}
+use Rattle.local_area.specs.Stored.{pairs_of}
 use Rattle.local_area.proofs.PairsLemmas.{remove_first, remove_first-is, area_weight-remove_first}
 use Rattle.local_area.proofs.EntriesLemmas.{pairs_of-lookup, pairs_of-remove, pairs_of-distinct}
 use Rattle.local_area.proofs.area.Area.remove.Goals as goal

@@ -3,12 +3,12 @@ use Rattle.std.proofs.Common.{◌≡◌, ◌-◌, ◌^◌, ℕ, refl, List, [], 
 use Rattle.std.specs.Prelude.{codes, nat_eq, replicate, true, false}
 use Rattle.agent_base.specs.declared.refusals.Label.{Label}
 use Rattle.storage_events.specs.declared.event.AreaKind.TheVariants.{Local, Session}
-use Rattle.storage_events.specs.Event.{EventView}
+use Rattle.storage_events.specs.Event.{PlainEvent}
 use Rattle.storage_events.specs.Queue.{events_after, lost_after, has_room}
 use Rattle.storage_events.specs.Audience.{audience}
 
 -- a value that changed
-abbrev change : EventView
+abbrev change : PlainEvent
 change = record {
   area = Local;
   key = Some (codes "k");

@@ -1,5 +1,6 @@
 -- The documents that hear of a change of an area.
--- Source: HTML, "Web storage", the broadcast of a storage object: every other one over the same map.
+-- Source: HTML, "Web storage", the broadcast of a storage object: every other one over the same
+-- map.
 -- Our own choice: one document's local areas are one storage object, so the writer hears nothing.
 use Rattle.std.specs.Prelude.{Bool, true, not, ◌&&◌, List, map, filter, nat_eq}
 use Rattle.agent_base.specs.declared.refusals.Label.{Label}
@@ -21,5 +22,6 @@ hears eq area writer key document =
     in_reach area writer document.0 && (not (same_label document.0 writer) && eq key document.1)
 
 -- every other document whose storage key is the writer's, and for a session area of its tab alone
-abbrev pub audience : {K : Type 0} → (K → K → Bool) → AreaKind → Label → K → List (Label × K) → List Label
+abbrev pub audience : {K : Type 0} → (K → K → Bool) → AreaKind → Label → K → List (Label × K)
+    → List Label
 audience eq area writer key documents = map (λ d. d.0) (filter (hears eq area writer key) documents)

@@ -16,24 +16,25 @@ pub fn audience<K: Eq>(
     key: &K,
     documents: &[(Label, K)],
 ) -> Result<Vec<Label>, NoMemory>
-    ensures audience { IfOk result (λ labels. labels.items ≡ audience K.eq area writer key.now documents.now) }
+    ensures audience { IfOk result (λ labels. labels.items
+        ≡ audience K.eq area writer key.now documents.now) }
 {
     let mut labels = Vec::new(alloc);
     for document in documents {
-        if hears(area, writer, key, document) && labels.push(document.0).is_err() {
+        if hears(area, writer, key, document.0, &document.1) && labels.push(document.0).is_err() {
             return Err(NoMemory);
         }
     }
     Ok(labels)
 }
 
-// Whether a document hears of a change.
-fn hears<K: Eq>(area: AreaKind, writer: Label, key: &K, document: &(Label, K)) -> bool
-    ensures hears { result ≡ hears K.eq area writer key.now document.now }
+/// Whether `reader`, whose storage key is `own`, hears of a change that `writer` made under `key`.
+pub fn hears<K: Eq>(area: AreaKind, writer: Label, key: &K, reader: Label, own: &K) -> bool
+    ensures hears { result ≡ hears K.eq area writer key.now (reader, own.now) }
 {
     let within = match area {
         AreaKind::Local => true,
-        AreaKind::Session => document.0.tab == writer.tab,
+        AreaKind::Session => reader.tab == writer.tab,
     };
-    within && document.0 != writer && *key == document.1
+    within && reader != writer && *key == *own
 }

@@ -25,9 +25,9 @@ pub struct Queue {
 impl Model for Queue {
     ghost use Rattle.std.specs.Prelude.{◌≤◌, map, vec_capacity, length};
     ghost use Rattle.storage_events.specs.Event.{plain_event};
-    ghost use Rattle.storage_events.specs.Queue.{QueueView, has_room, most_events};
+    ghost use Rattle.storage_events.specs.Queue.{PlainQueue, has_room, most_events};
 
-    ghost Value = { QueueView };
+    ghost Value = { PlainQueue };
 
     ghost view = { λ q. record {
       events = map plain_event q.events.items;
@@ -76,7 +76,8 @@ impl Queue {
 
     /// Gives the events and the number of lost ones, and leaves none.
     pub fn take(&mut self) -> (Vec<Event>, u32)
-        ensures given { (map plain_event result.0.items ≡ self.old.events) × (result.1 ≡ self.old.lost) }
+        ensures given { (map plain_event result.0.items ≡ self.old.events)
+            × (result.1 ≡ self.old.lost) }
         ensures within { length self.old.events ≤ most_events }
         ensures emptied { (self.new.events ≡ []) × (self.new.lost ≡ 0) }
     {

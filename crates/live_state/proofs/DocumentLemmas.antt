@@ -7,7 +7,8 @@ use Rattle.std.proofs.lemmas.List.{append-nil, map-id}
 use Rattle.std.proofs.lemmas.List.Elements.{filter_map-append}
 use Rattle.std.proofs.lemmas.List.FromFn.{map-range_with_len_more}
 use Rattle.frame_tree.specs.Tree.{IsLastFrame, PlainFrame}
-use Rattle.live_state.specs.Documents.{frame_numbers, key_of_frame, keyed, plain_keyed}
+use Rattle.frame_tree.specs.Keys.{key_of_frame}
+use Rattle.live_state.specs.Documents.{frame_numbers, keyed, plain_keyed}
 use Rattle.agent_base.specs.declared.refusals.Label.{Label}
 use Rattle.storage_key.specs.Key.{PlainKey}
 use Rattle.storage_key.specs.declared.key.StorageKey.{StorageKey}

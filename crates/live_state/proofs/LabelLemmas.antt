@@ -7,11 +7,11 @@ use Rattle.std.proofs.lemmas.Bool.Decides.{nat_tests}
 use Rattle.std.proofs.lemmas.List.{map-id}
 use Rattle.agent_base.specs.declared.refusals.Label.{Label}
 use Rattle.storage_events.specs.Audience.{same_label}
-use Rattle.storage_events.specs.Event.{EventView}
+use Rattle.storage_events.specs.Event.{PlainEvent}
 use Rattle.storage_events.specs.declared.event.Event.{Event}
-use Rattle.live_state.specs.Held.{changed_at}
+use Rattle.live_state.specs.ExistingQueues.{changed_at}
 use Rattle.live_state.specs.Queues.{are_distinct, event_for, is_ready, is_told, label_of, plain_sent, queue_told, sent, with_queues}
-use Rattle.live_state.specs.Tabs.{LiveView, PlainQueue, PlainTab, empty_queue}
+use Rattle.live_state.specs.Tabs.{PlainLive, PlainFrameQueue, PlainTab, empty_queue}
 use Rattle.live_state.proofs.ListLemmas.{and_both, and_parts, map-agree, not_true}
 
 pub label-is : (a b : Label) → same_label a b ≡ true → (a.tab ≡ b.tab) × (a.frame ≡ b.frame)
@@ -50,24 +50,24 @@ other_tab m n b differ =
 turned : (m n : ℕ) → (m == n) ≡ (n == m)
 turned m n = grind (arith, nat_tests)
 
-queues-left : (change : Label → PlainQueue → PlainQueue) (tab : PlainTab) → ((q : PlainQueue) → change (label_of tab q) q ≡ q) → with_queues change tab ≡ tab
+queues-left : (change : Label → PlainFrameQueue → PlainFrameQueue) (tab : PlainTab) → ((q : PlainFrameQueue) → change (label_of tab q) q ≡ q) → with_queues change tab ≡ tab
 queues-left change tab leaves =
     ap (λ qs. record { number = tab.number; frames = tab.frames; queues = qs })
     (map-agree (λ q. change (label_of tab q) q) (λ q. q) tab.queues leaves ∙ map-id tab.queues)
 
-queues-at : (change : Label → PlainQueue → PlainQueue) (frame : ℕ) (next : PlainQueue → PlainQueue) (tab : PlainTab)
-    → ((q : PlainQueue) → change (label_of tab q) q ≡ (if q.frame == frame then next q else q))
+queues-at : (change : Label → PlainFrameQueue → PlainFrameQueue) (frame : ℕ) (next : PlainFrameQueue → PlainFrameQueue) (tab : PlainTab)
+    → ((q : PlainFrameQueue) → change (label_of tab q) q ≡ (if q.frame == frame then next q else q))
     → with_queues change tab ≡ changed_at frame next tab
 queues-at change frame next tab agrees =
     ap (λ qs. record { number = tab.number; frames = tab.frames; queues = qs })
     (map-agree (λ q. change (label_of tab q) q) (λ q. if q.frame == frame then next q else q) tab.queues agrees)
 
-module _ (at : Label) (event : EventView) where
+module _ (at : Label) (event : PlainEvent) where
   -- each queue after this one event
-  abbrev pub after_one : Label → PlainQueue → PlainQueue
+  abbrev pub after_one : Label → PlainFrameQueue → PlainFrameQueue
   after_one l q = queue_told (event_for l ((at, event) ∷ [])) q
 
-  told_by : (b : Bool) (q : PlainQueue) → queue_told (option_map (λ (x : Label × EventView). x.1) (cond b (Some (at, event)) None)) q ≡ cond b (queue_told (Some event) q) q
+  told_by : (b : Bool) (q : PlainFrameQueue) → queue_told (option_map (λ (x : Label × PlainEvent). x.1) (cond b (Some (at, event)) None)) q ≡ cond b (queue_told (Some event) q) q
   told_by true q = refl
   told_by false q = refl
 
@@ -86,7 +86,7 @@ module _ (at : Label) (event : EventView) where
 
 module _ (at : Label) where
   -- each queue after its events were taken, if it is this document's
-  abbrev pub after_take : Label → PlainQueue → PlainQueue
+  abbrev pub after_take : Label → PlainFrameQueue → PlainFrameQueue
   after_take l q = if same_label l at then empty_queue q.frame else q
 
   pub taken-others : (tab : PlainTab) → not (tab.number == at.tab) ≡ true → with_queues after_take tab ≡ tab
@@ -101,10 +101,10 @@ module _ (at : Label) where
 
 -- ---- many events, one after another
 
-abbrev pub labels_of : List (Label × EventView) → List Label
+abbrev pub labels_of : List (Label × PlainEvent) → List Label
 labels_of events = map (λ e. e.0) events
 
-none_step : (a l : Label) (x : Label × EventView) (t u : Bool) (rest : Option (Label × EventView)) → same_label a x.0 ≡ t → same_label x.0 l ≡ u
+none_step : (a l : Label) (x : Label × PlainEvent) (t u : Bool) (rest : Option (Label × PlainEvent)) → same_label a x.0 ≡ t → same_label x.0 l ≡ u
     → same_label a l ≡ true → t ≡ false → rest ≡ None → cond u (Some x) rest ≡ None
 none_step a l x t true rest is one same differ none =
     absurd (both_ways t differ (sym is ∙ label-joined a x.0 l same one))
@@ -115,43 +115,43 @@ or_parts true b none = absurd (cc none)
 or_parts false b none = (refl, none)
 
 -- there is no event for a document that is not among them
-pub no-event : (a l : Label) (events : List (Label × EventView)) → list_any (same_label a) (labels_of events) ≡ false → same_label a l ≡ true
+pub no-event : (a l : Label) (events : List (Label × PlainEvent)) → list_any (same_label a) (labels_of events) ≡ false → same_label a l ≡ true
     → find (λ e. same_label e.0 l) events ≡ None
 no-event a l [] none same = refl
 no-event a l (x ∷ xs) none same =
     let parts = or_parts (same_label a x.0) (list_any (same_label a) (labels_of xs)) none in
     none_step a l x (same_label a x.0) (same_label x.0 l) (find (λ e. same_label e.0 l) xs) refl refl same parts.0 (no-event a l xs parts.1 same)
 
-more_by : (e : Label × EventView) (q : PlainQueue) (later : Option (Label × EventView)) (b : Bool) → (b ≡ true → later ≡ None)
-    → queue_told (option_map (λ (x : Label × EventView). x.1) (cond b (Some e) later)) q
-    ≡ queue_told (option_map (λ (x : Label × EventView). x.1) later) (queue_told (option_map (λ (x : Label × EventView). x.1) (cond b (Some e) None)) q)
+more_by : (e : Label × PlainEvent) (q : PlainFrameQueue) (later : Option (Label × PlainEvent)) (b : Bool) → (b ≡ true → later ≡ None)
+    → queue_told (option_map (λ (x : Label × PlainEvent). x.1) (cond b (Some e) later)) q
+    ≡ queue_told (option_map (λ (x : Label × PlainEvent). x.1) later) (queue_told (option_map (λ (x : Label × PlainEvent). x.1) (cond b (Some e) None)) q)
 more_by e q None true none = refl
 more_by e q None false none = refl
 more_by e q (Some x) true none = absurd (cc (none refl))
 more_by e q (Some x) false none = refl
 
 -- one event, and then others, none of which is for its document
-told-first : (e : Label × EventView) (events : List (Label × EventView)) (l : Label) (q : PlainQueue) → list_any (same_label e.0) (labels_of events) ≡ false
+told-first : (e : Label × PlainEvent) (events : List (Label × PlainEvent)) (l : Label) (q : PlainFrameQueue) → list_any (same_label e.0) (labels_of events) ≡ false
     → queue_told (event_for l (e ∷ events)) q ≡ queue_told (event_for l events) (queue_told (event_for l (e ∷ [])) q)
 told-first e events l q none =
     more_by e q (find (λ x. same_label x.0 l) events) (same_label e.0 l) (λ same. no-event e.0 l events none same)
 
-frame_told : (o : Option EventView) (q : PlainQueue) → (queue_told o q).frame ≡ q.frame
+frame_told : (o : Option PlainEvent) (q : PlainFrameQueue) → (queue_told o q).frame ≡ q.frame
 frame_told None q = refl
 frame_told (Some e) q = refl
 
-queues-first : (e : Label × EventView) (events : List (Label × EventView)) (tab : PlainTab) (qs : List PlainQueue) → list_any (same_label e.0) (labels_of events) ≡ false
+queues-first : (e : Label × PlainEvent) (events : List (Label × PlainEvent)) (tab : PlainTab) (qs : List PlainFrameQueue) → list_any (same_label e.0) (labels_of events) ≡ false
     → map (λ q. queue_told (event_for (label_of tab q) (e ∷ events)) q) qs
     ≡ map (λ q. queue_told (event_for (label_of tab q) events) q) (map (λ q. queue_told (event_for (label_of tab q) (e ∷ [])) q) qs)
 queues-first e events tab [] none = refl
 queues-first e events tab (q ∷ qs) none =
-    let now : PlainQueue = queue_told (event_for (label_of tab q) (e ∷ [])) q in
+    let now : PlainFrameQueue = queue_told (event_for (label_of tab q) (e ∷ [])) q in
     let first = told-first e events (label_of tab q) q none
     ∙ ap (λ n. queue_told (event_for (record { tab = tab.number; frame = n }) events) now) (sym (frame_told (event_for (label_of tab q) (e ∷ [])) q)) in
     ap (λ x. x ∷ map (λ q. queue_told (event_for (label_of tab q) (e ∷ events)) q) qs) first
     ∙ ap (λ l. queue_told (event_for (label_of tab now) events) now ∷ l) (queues-first e events tab qs none)
 
-pub sent-first : (e : Label × EventView) (events : List (Label × EventView)) (tabs : List PlainTab) → list_any (same_label e.0) (labels_of events) ≡ false
+pub sent-first : (e : Label × PlainEvent) (events : List (Label × PlainEvent)) (tabs : List PlainTab) → list_any (same_label e.0) (labels_of events) ≡ false
     → sent (e ∷ events) tabs ≡ sent events (sent (e ∷ []) tabs)
 sent-first e events [] none = refl
 sent-first e events (tab ∷ tabs) none =
@@ -181,7 +181,7 @@ sent-rest e events tabs distinct =
     sent-first (plain_sent e) (map plain_sent events) tabs
     (ap (list_any (same_label e.0)) (labels_same events) ∙ not_true (list_any (same_label e.0) (to_of events)) parts.0)
 
-ready_rest : (old new : LiveView) (at : Label) (events : List (Label × Event)) → list_any (same_label at) (to_of events) ≡ false
+ready_rest : (old new : PlainLive) (at : Label) (events : List (Label × Event)) → list_any (same_label at) (to_of events) ≡ false
     → ((other : Label) → same_label other at ≡ false → is_ready old other ≡ true → is_ready new other ≡ true)
     → list_all (λ e. is_ready old e.0) events ≡ true → list_all (λ e. is_ready new e.0) events ≡ true
 ready_rest old new at [] none stays all = refl
@@ -192,7 +192,7 @@ ready_rest old new at (e ∷ es) none stays all =
     (stays e.0 (label-flip at e.0 differ.0) parts.0) (ready_rest old new at es differ.1 stays parts.1)
 
 -- the documents that are left are ready still
-pub ready-rest : (old new : LiveView) (e : Label × Event) (events : List (Label × Event)) → are_distinct (to_of (e ∷ events)) ≡ true
+pub ready-rest : (old new : PlainLive) (e : Label × Event) (events : List (Label × Event)) → are_distinct (to_of (e ∷ events)) ≡ true
     → ((other : Label) → same_label other e.0 ≡ false → is_ready old other ≡ true → is_ready new other ≡ true)
     → list_all (λ e. is_ready old e.0) (e ∷ events) ≡ true → list_all (λ e. is_ready new e.0) events ≡ true
 ready-rest old new e events distinct stays all =
@@ -203,9 +203,9 @@ ready-rest old new e events distinct stays all =
 pub distinct-rest : (e : Label × Event) (events : List (Label × Event)) → are_distinct (to_of (e ∷ events)) ≡ true → are_distinct (to_of events) ≡ true
 distinct-rest e events distinct = (and_parts (not (list_any (same_label e.0) (to_of events))) (are_distinct (to_of events)) distinct).1
 
-untold_by : (at : Label) (entry : Label × Event) (found : Option (Label × EventView)) (same : Bool) → same_label entry.0 at ≡ same
-    → is_some (option_map (λ (x : Label × EventView). x.1) (cond same (Some (plain_sent entry)) found)) ≡ false
-    → (same_label at entry.0 ≡ false) × (is_some (option_map (λ (x : Label × EventView). x.1) found) ≡ false)
+untold_by : (at : Label) (entry : Label × Event) (found : Option (Label × PlainEvent)) (same : Bool) → same_label entry.0 at ≡ same
+    → is_some (option_map (λ (x : Label × PlainEvent). x.1) (cond same (Some (plain_sent entry)) found)) ≡ false
+    → (same_label at entry.0 ≡ false) × (is_some (option_map (λ (x : Label × PlainEvent). x.1) found) ≡ false)
 untold_by at entry found true is told = absurd (cc told)
 untold_by at entry found false is told = (label-flip entry.0 at is, told)
 

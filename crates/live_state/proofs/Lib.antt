@@ -1,13 +1,19 @@
 mod StandardFacts
 pub mod ListLemmas
-pub mod PlacesLemmas
+pub mod TabPlaceLemmas
+pub mod NumberLemmas
+pub mod SiteTabsLemmas
+pub mod IndexLemmas
 pub mod SearchLemmas
 pub mod StepLemmas
-pub mod HeldLemmas
+pub mod ExistingQueueLemmas
 pub mod QueueLemmas
 pub mod TabLemmas
 pub mod DocumentLemmas
 pub mod OnceLemmas
 pub mod UnderLemmas
+pub mod HearerLemmas
+pub mod IndexStepLemmas
 pub mod LiveLemmas
+pub mod FramesInPlaceLemmas
 pub mod LabelLemmas

@@ -8,44 +8,44 @@ use Rattle.std.proofs.lemmas.List.{map-append, map-set, set_split, take-append-d
 use Rattle.std.proofs.lemmas.List.Folds.{find_at, list_all-map}
 use Rattle.std.proofs.lemmas.Option.{slice_get_read, slice_get_within}
 use Rattle.agent_base.specs.declared.refusals.Label.{Label}
-use Rattle.live_state.specs.Held.{TabView, ready_tab}
-use Rattle.live_state.specs.Places.{IsAt, IsGap, are_lower}
+use Rattle.live_state.specs.ExistingQueues.{PlainOpenTab, ready_tab}
+use Rattle.live_state.specs.TabPlaces.{IsAt, IsGap, are_lower}
 use Rattle.live_state.specs.Queues.{is_among, ready_frames}
 use Rattle.live_state.specs.Tabs.{PlainTab, is_rising, tab_at}
 use Rattle.live_state.proofs.ListLemmas.{all_weaker, find-map, find_past, find-written, first-at, map-none, split_at}
-use Rattle.live_state.proofs.PlacesLemmas.{found-gap, higher_isnt_it, lower_isnt_it, rising-with}
+use Rattle.live_state.proofs.TabPlaceLemmas.{found-gap, higher_isnt_it, lower_isnt_it, rising-with}
 use Rattle.live_state.proofs.SearchLemmas.{plain_of}
 use Rattle.live_state.proofs.StepLemmas.{number-here, plain_here, written-at}
 
 -- the open tab of a number, with its ready frames
-abbrev pub found : ℕ → List TabView → Option TabView
+abbrev pub found : ℕ → List PlainOpenTab → Option PlainOpenTab
 found n ts = find (λ t. t.plain.number == n) ts
 
 -- a frame of a tab is ready
-abbrev pub ready_in : ℕ → Option TabView → Bool
+abbrev pub ready_in : ℕ → Option PlainOpenTab → Bool
 ready_in frame None = false
 ready_in frame (Some tab) = is_among frame tab.ready
 
-ready_by : (frame : ℕ) (o : Option TabView) → is_among frame (ready_frames (option_map ready_tab o)) ≡ ready_in frame o
+ready_by : (frame : ℕ) (o : Option PlainOpenTab) → is_among frame (ready_frames (option_map ready_tab o)) ≡ ready_in frame o
 ready_by frame None = refl
 ready_by frame (Some t) = refl
 
-pub ready-found : (n frame : ℕ) (ts : List TabView)
+pub ready-found : (n frame : ℕ) (ts : List PlainOpenTab)
     → is_among frame (ready_frames (find (λ t. t.number == n) (map ready_tab ts))) ≡ ready_in frame (found n ts)
 ready-found n frame ts =
     ap (λ o. is_among frame (ready_frames o)) (find-map ready_tab (λ t. t.number == n) ts) ∙ ready_by frame (found n ts)
 
-pub tab-found : (n : ℕ) (ts : List TabView) → tab_at n (plain_of ts) ≡ option_map (λ t. t.plain) (found n ts)
+pub tab-found : (n : ℕ) (ts : List PlainOpenTab) → tab_at n (plain_of ts) ≡ option_map (λ t. t.plain) (found n ts)
 tab-found n ts = find-map (λ t. t.plain) (λ t. t.number == n) ts
 
-none_by : (o : Option TabView) → option_map (λ t. t.plain) o ≡ None → o ≡ None
+none_by : (o : Option PlainOpenTab) → option_map (λ t. t.plain) o ≡ None → o ≡ None
 none_by None is = refl
 none_by (Some t) is = absurd (cc is)
 
-pub found-none : (n : ℕ) (ts : List TabView) (place : ℕ) → IsGap n (plain_of ts) place → found n ts ≡ None
+pub found-none : (n : ℕ) (ts : List PlainOpenTab) (place : ℕ) → IsGap n (plain_of ts) place → found n ts ≡ None
 found-none n ts place gap = none_by (found n ts) (sym (tab-found n ts) ∙ found-gap n (plain_of ts) place gap)
 
-module _ (n : ℕ) (ts : List TabView) (place : ℕ) (at : IsAt n (plain_of ts) place) (old : TabView) (within : place < length ts) (read : old ≡ get_or ts place old) where
+module _ (n : ℕ) (ts : List PlainOpenTab) (place : ℕ) (at : IsAt n (plain_of ts) place) (old : PlainOpenTab) (within : place < length ts) (read : old ≡ get_or ts place old) where
   here : slice_get ts place ≡ Some old
   here = slice_get_read ts (length ts) place old refl within read
 
@@ -63,17 +63,17 @@ module _ (n : ℕ) (ts : List TabView) (place : ℕ) (at : IsAt n (plain_of ts) 
   pub found-here : found n ts ≡ Some old
   found-here = find_at (λ t. t.plain.number == n) ts ∙ ap (slice_get ts) (sym first) ∙ here
 
-  module _ (new : TabView) (same : new.plain.number ≡ n) where
+  module _ (new : PlainOpenTab) (same : new.plain.number ≡ n) where
     pub found-written : (m : ℕ) → found m (set ts place new) ≡ cond (n == m) (Some new) (found m ts)
     found-written m = find-written (λ t. t.plain.number) n ts place first within old read (number-here n ts place at old within read) new same m
 
 -- ---- the documents that are ready
 
 -- the queue of a document is ready
-abbrev pub live_ready : Label → List TabView → Bool
+abbrev pub live_ready : Label → List PlainOpenTab → Bool
 live_ready at ts = is_among at.frame (ready_frames (find (λ t. t.number == at.tab) (map ready_tab ts)))
 
-module _ (n : ℕ) (ts : List TabView) (place : ℕ) (at : IsAt n (plain_of ts) place) (old : TabView) (within : place < length ts) (read : old ≡ get_or ts place old) where
+module _ (n : ℕ) (ts : List PlainOpenTab) (place : ℕ) (at : IsAt n (plain_of ts) place) (old : PlainOpenTab) (within : place < length ts) (read : old ≡ get_or ts place old) where
   -- a document of the tab is ready
   pub ready-at : (l : Label) → l.tab ≡ n → live_ready l ts ≡ is_among l.frame old.ready
   ready-at l here =
@@ -81,7 +81,7 @@ module _ (n : ℕ) (ts : List TabView) (place : ℕ) (at : IsAt n (plain_of ts) 
       ∙ ap (λ m. ready_in l.frame (found m ts)) here
       ∙ ap (ready_in l.frame) (found-here n ts place at old within read)
 
-  module _ (new : TabView) (same : new.plain.number ≡ n) where
+  module _ (new : PlainOpenTab) (same : new.plain.number ≡ n) where
     after_set : (l : Label) → live_ready l (set ts place new) ≡ ready_in l.frame (cond (n == l.tab) (Some new) (found l.tab ts))
     after_set l =
         ready-found l.tab l.frame (set ts place new)
@@ -112,20 +112,20 @@ module _ (n : ℕ) (ts : List TabView) (place : ℕ) (at : IsAt n (plain_of ts) 
     rising-set rising =
         subst (λ us. is_rising us ≡ true) (sym (written-at n ts place at old within read new same)) (rising-with new.plain (plain_of ts) rising)
 
-pub ready-gap : (n : ℕ) (ts : List TabView) (place : ℕ) → IsGap n (plain_of ts) place → (l : Label) → l.tab ≡ n → live_ready l ts ≡ false
+pub ready-gap : (n : ℕ) (ts : List PlainOpenTab) (place : ℕ) → IsGap n (plain_of ts) place → (l : Label) → l.tab ≡ n → live_ready l ts ≡ false
 ready-gap n ts place gap l here =
     ready-found l.tab l.frame ts ∙ ap (λ m. ready_in l.frame (found m ts)) here ∙ ap (ready_in l.frame) (found-none n ts place gap)
 
 -- ---- a tab more, or less
 
 -- the tab of another number is found past this one
-other-found : (n m : ℕ) (front : List TabView) (t : TabView) (rest : List TabView) → t.plain.number ≡ n → (m == n) ≡ false
+other-found : (n m : ℕ) (front : List PlainOpenTab) (t : PlainOpenTab) (rest : List PlainOpenTab) → t.plain.number ≡ n → (m == n) ≡ false
     → found m (front ++ t ∷ rest) ≡ found m (front ++ rest)
 other-found n m front t rest same differ =
     let fails : t.plain.number == m ≡ false = grind (arith, nat_tests) in find_past (λ u. u.plain.number == m) front t rest fails
 
 -- what was ready is so beside a new tab
-pub ready-inserted : (n : ℕ) (ts : List TabView) (place : ℕ) → IsGap n (plain_of ts) place → (new : TabView) → new.plain.number ≡ n → (l : Label)
+pub ready-inserted : (n : ℕ) (ts : List PlainOpenTab) (place : ℕ) → IsGap n (plain_of ts) place → (new : PlainOpenTab) → new.plain.number ≡ n → (l : Label)
     → live_ready l ts ≡ true → live_ready l (insert ts place new) ≡ true
 ready-inserted n ts place gap new same l ready = by (eqb_tells l.tab n)
   where
@@ -139,7 +139,7 @@ ready-inserted n ts place gap new same l ready = by (eqb_tells l.tab n)
         ∙ ready
 
 -- what was ready in another tab is so without this one
-pub ready-removed : (n : ℕ) (ts : List TabView) (place : ℕ) → IsAt n (plain_of ts) place → (old : TabView) → place < length ts → old ≡ get_or ts place old
+pub ready-removed : (n : ℕ) (ts : List PlainOpenTab) (place : ℕ) → IsAt n (plain_of ts) place → (old : PlainOpenTab) → place < length ts → old ≡ get_or ts place old
     → (l : Label) → (l.tab == n) ≡ false → live_ready l ts ≡ true → live_ready l (remove ts place) ≡ true
 ready-removed n ts place at old within read l differ ready =
     ready-found l.tab l.frame (remove ts place)
@@ -178,7 +178,7 @@ module _ (n : ℕ) (change : PlainTab → PlainTab) (others : (t : PlainTab) →
       ∙ take-append-drop place ts)
 
   -- the tabs, as contracts see them, where one is changed
-  pub changed-set : (ts : List TabView) (place : ℕ) (at : IsAt n (plain_of ts) place) (old new : TabView) → place < length ts → old ≡ get_or ts place old
+  pub changed-set : (ts : List PlainOpenTab) (place : ℕ) (at : IsAt n (plain_of ts) place) (old new : PlainOpenTab) → place < length ts → old ≡ get_or ts place old
       → new.plain ≡ change old.plain → plain_of (set ts place new) ≡ map change (plain_of ts)
   changed-set ts place at old new within read is =
       map-set (λ t. t.plain) ts place new

@@ -8,13 +8,12 @@ use Rattle.std.proofs.lemmas.List.{map-append}
 use Rattle.std.proofs.lemmas.List.Folds.{list_all-append, list_all-map, list_any-append}
 use Rattle.agent_base.specs.declared.refusals.Label.{Label}
 use Rattle.storage_events.specs.Audience.{same_label}
-use Rattle.origin_site.specs.Site.{PlainSite}
 use Rattle.storage_key.specs.Key.{PlainKey}
 use Rattle.storage_key.specs.declared.key.StorageKey.{StorageKey}
 use Rattle.frame_tree.specs.Document.{PlainDocument}
 use Rattle.frame_tree.specs.Tree.{PlainFrame, document_of, has_frame}
-use Rattle.live_state.specs.Documents.{documents, documents_in, frame_numbers, key_of_document, key_of_frame, keyed, plain_keyed}
-use Rattle.live_state.specs.Listed.{is_listed, listed}
+use Rattle.frame_tree.specs.Keys.{key_of_document, key_of_frame}
+use Rattle.live_state.specs.Documents.{documents, documents_in, frame_numbers, keyed, plain_keyed}
 use Rattle.live_state.specs.Queues.{are_distinct, frames_by, has_document}
 use Rattle.live_state.specs.Tabs.{PlainTab, is_rising, tab_at}
 use Rattle.live_state.proofs.ListLemmas.{all_kept, all_true, all_weaker, and_both, and_parts, is_some-find, is_some-map, not_true}
@@ -186,6 +185,18 @@ labels_same : (list : List (Label × StorageKey)) → labels (map plain_keyed li
 labels_same [] = refl
 labels_same (d ∷ ds) = ap (λ ls. d.0 ∷ ls) (labels_same ds)
 
+pub listed-once : (tabs : List PlainTab) (list : List (Label × StorageKey)) → is_rising tabs ≡ true
+    → map plain_keyed list ≡ documents tabs → are_distinct (map (λ d. d.0) list) ≡ true
+listed-once tabs list rising is =
+    ap are_distinct (sym (labels_same list) ∙ ap labels is) ∙ documents-once tabs rising
+
+pub listed-there : (tabs : List PlainTab) (list : List (Label × StorageKey)) → is_rising tabs ≡ true
+    → map plain_keyed list ≡ documents tabs → list_all (λ d. has_document tabs d.0) list ≡ true
+listed-there tabs list rising is =
+    sym (list_all-map (has_document tabs) (λ d. d.0) list)
+    ∙ ap (list_all (has_document tabs)) (sym (labels_same list) ∙ ap labels is)
+    ∙ documents-there tabs rising
+
 -- labels of documents, of which some are left out
 any_left : (q : Label → Bool) (p : Label × PlainKey → Bool) (ds : List (Label × PlainKey)) → list_any q (labels ds) ≡ false
     → list_any q (labels (filter p ds)) ≡ false
@@ -210,16 +221,13 @@ distinct_left p (d ∷ ds) distinct =
     by true apart rest = and_both (not (list_any (same_label d.0) (labels (filter p ds)))) (are_distinct (labels (filter p ds))) apart rest
     by false apart rest = rest
 
-pub listed-once : (site : Option PlainSite) (tabs : List PlainTab) (list : List (Label × StorageKey)) → is_rising tabs ≡ true
-    → map plain_keyed list ≡ listed site tabs → are_distinct (map (λ d. d.0) list) ≡ true
-listed-once site tabs list rising is =
-    ap are_distinct (sym (labels_same list) ∙ ap labels is) ∙ distinct_left (is_listed site) (documents tabs) (documents-once tabs rising)
+-- some of the documents are distinct and there too
+pub kept-once : (p : Label × PlainKey → Bool) (tabs : List PlainTab) → is_rising tabs ≡ true → are_distinct (labels (filter p (documents tabs))) ≡ true
+kept-once p tabs rising = distinct_left p (documents tabs) (documents-once tabs rising)
 
-pub listed-there : (site : Option PlainSite) (tabs : List PlainTab) (list : List (Label × StorageKey)) → is_rising tabs ≡ true
-    → map plain_keyed list ≡ listed site tabs → list_all (λ d. has_document tabs d.0) list ≡ true
-listed-there site tabs list rising is =
-    sym (list_all-map (has_document tabs) (λ d. d.0) list)
-    ∙ ap (list_all (has_document tabs)) (sym (labels_same list) ∙ ap labels is)
-    ∙ list_all-map (has_document tabs) (λ d. d.0) (listed site tabs)
-    ∙ all_kept (is_listed site) (λ d. has_document tabs d.0) (documents tabs)
+pub kept-there : (p : Label × PlainKey → Bool) (tabs : List PlainTab) → is_rising tabs ≡ true
+    → list_all (has_document tabs) (labels (filter p (documents tabs))) ≡ true
+kept-there p tabs rising =
+    list_all-map (has_document tabs) (λ d. d.0) (filter p (documents tabs))
+    ∙ all_kept p (λ d. has_document tabs d.0) (documents tabs)
     (sym (list_all-map (has_document tabs) (λ d. d.0) (documents tabs)) ∙ documents-there tabs rising)

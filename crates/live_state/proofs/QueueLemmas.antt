@@ -11,13 +11,13 @@ use Rattle.std.proofs.lemmas.List.Recursion.{and_at, and_set}
 use Rattle.std.proofs.lemmas.Option.{cond_some, slice_get-get_or, slice_get_past}
 use Rattle.frame_tree.specs.Tree.{PlainFrame, has_frame}
 use Rattle.live_state.specs.declared.frame_queue.FrameQueue.{FrameQueue}
-use Rattle.live_state.specs.Held.{IsChangedAt, held_at, is_held, plain_by, ready_by}
-use Rattle.live_state.specs.Tabs.{PlainQueue, empty_queue}
+use Rattle.live_state.specs.ExistingQueues.{IsChangedAt, existing_at, are_of_frames, plain_by, ready_by}
+use Rattle.live_state.specs.Tabs.{PlainFrameQueue, empty_queue}
 use Rattle.live_state.proofs.ListLemmas.{find-written}
 
 -- the first queue of a frame
 abbrev pub place_in : ℕ → List FrameQueue → Option ℕ
-place_in frame held = position (λ q. q.frame == frame) held
+place_in frame existing = position (λ q. q.frame == frame) existing
 
 turned : (m n : ℕ) → (m == n) ≡ false → (n == m) ≡ false
 turned m n differ = grind (arith, nat_tests)
@@ -26,144 +26,144 @@ none_by : (b : Bool) (i : ℕ) → cond b (Some i) None ≡ None → b ≡ false
 none_by true i is = absurd (cc is)
 none_by false i is = refl
 
-pub no-place : (frame : ℕ) (held : List FrameQueue) → place_in frame held ≡ None → held_at frame held ≡ None
-no-place frame held is =
-    let past : nat_lt (position_or_len (λ q. q.frame == frame) held) (length held) ≡ false =
-    none_by (nat_lt (position_or_len (λ q. q.frame == frame) held) (length held)) (position_or_len (λ q. q.frame == frame) held) is in
-    let behind : length held ≤ position_or_len (λ q. q.frame == frame) held = grind (arith, nat_tests) in
-    find_at (λ q. q.frame == frame) held ∙ slice_get_past held (position_or_len (λ q. q.frame == frame) held) behind
+pub no-place : (frame : ℕ) (existing : List FrameQueue) → place_in frame existing ≡ None → existing_at frame existing ≡ None
+no-place frame existing is =
+    let past : nat_lt (position_or_len (λ q. q.frame == frame) existing) (length existing) ≡ false =
+    none_by (nat_lt (position_or_len (λ q. q.frame == frame) existing) (length existing)) (position_or_len (λ q. q.frame == frame) existing) is in
+    let behind : length existing ≤ position_or_len (λ q. q.frame == frame) existing = grind (arith, nat_tests) in
+    find_at (λ q. q.frame == frame) existing ∙ slice_get_past existing (position_or_len (λ q. q.frame == frame) existing) behind
 
-module _ (frame : ℕ) (held : List FrameQueue) (place : ℕ) (is : place_in frame held ≡ Some place) (old : FrameQueue) (read : old ≡ get_or held place old) where
-  facts : (place < length held) × ((get_or held place old).frame == frame ≡ true) × ((k : ℕ) → k < place → (get_or held k old).frame == frame ≡ false)
-  facts = position-Some (λ q. q.frame == frame) held place old is
+module _ (frame : ℕ) (existing : List FrameQueue) (place : ℕ) (is : place_in frame existing ≡ Some place) (old : FrameQueue) (read : old ≡ get_or existing place old) where
+  facts : (place < length existing) × ((get_or existing place old).frame == frame ≡ true) × ((k : ℕ) → k < place → (get_or existing k old).frame == frame ≡ false)
+  facts = position-Some (λ q. q.frame == frame) existing place old is
 
-  first : place ≡ position_or_len (λ q. q.frame == frame) held
+  first : place ≡ position_or_len (λ q. q.frame == frame) existing
   first =
-      sym (cond_some (nat_lt (position_or_len (λ q. q.frame == frame) held) (length held)) (position_or_len (λ q. q.frame == frame) held) place is).1
+      sym (cond_some (nat_lt (position_or_len (λ q. q.frame == frame) existing) (length existing)) (position_or_len (λ q. q.frame == frame) existing) place is).1
 
   pub frame-here : old.frame ≡ frame
   frame-here =
       let test : old.frame == frame ≡ true = ap (λ q. q.frame == frame) read ∙ facts.1 in grind (arith, nat_tests)
 
-  pub held-here : held_at frame held ≡ Some old
-  held-here =
-      find_at (λ q. q.frame == frame) held
-      ∙ ap (slice_get held) (sym first)
-      ∙ slice_get-get_or held place old facts.0
+  pub existing-here : existing_at frame existing ≡ Some old
+  existing-here =
+      find_at (λ q. q.frame == frame) existing
+      ∙ ap (slice_get existing) (sym first)
+      ∙ slice_get-get_or existing place old facts.0
       ∙ ap Some (sym read)
 
   module _ (new : FrameQueue) (same : new.frame ≡ old.frame) where
-    -- the queues that are held afterwards
-    pub held-written : (n : ℕ) → held_at n (set held place new) ≡ cond (frame == n) (Some new) (held_at n held)
-    held-written n = find-written (λ q. q.frame) frame held place first facts.0 old read frame-here new (same ∙ frame-here) n
+    -- the queues that are existing afterwards
+    pub existing-written : (n : ℕ) → existing_at n (set existing place new) ≡ cond (frame == n) (Some new) (existing_at n existing)
+    existing-written n = find-written (λ q. q.frame) frame existing place first facts.0 old read frame-here new (same ∙ frame-here) n
 
-    changed_by : (change : PlainQueue → PlainQueue) → plain_by frame (Some new) ≡ change (plain_by frame (Some old)) → (n : ℕ)
+    changed_by : (change : PlainFrameQueue → PlainFrameQueue) → plain_by frame (Some new) ≡ change (plain_by frame (Some old)) → (n : ℕ)
         → (((frame == n) ≡ true) × (frame ≡ n)) ⊎ (((frame == n) ≡ false) × (frame ≢ n))
-        → plain_by n (held_at n (set held place new)) ≡ (if n == frame then change (plain_by n (held_at n held)) else plain_by n (held_at n held))
+        → plain_by n (existing_at n (set existing place new)) ≡ (if n == frame then change (plain_by n (existing_at n existing)) else plain_by n (existing_at n existing))
     changed_by change changes n (inl equal) =
-        ap (plain_by n) (held-written n ∙ ap (λ b. cond b (Some new) (held_at n held)) equal.0)
+        ap (plain_by n) (existing-written n ∙ ap (λ b. cond b (Some new) (existing_at n existing)) equal.0)
         ∙ ap (λ m. plain_by m (Some new)) (sym equal.1)
         ∙ changes
-        ∙ ap (λ o. change (plain_by frame o)) (sym held-here)
-        ∙ ap (λ m. change (plain_by m (held_at m held))) equal.1
-        ∙ ap (λ b. if b then change (plain_by n (held_at n held)) else plain_by n (held_at n held)) (sym (eq-eqb n frame (sym equal.1)))
+        ∙ ap (λ o. change (plain_by frame o)) (sym existing-here)
+        ∙ ap (λ m. change (plain_by m (existing_at m existing))) equal.1
+        ∙ ap (λ b. if b then change (plain_by n (existing_at n existing)) else plain_by n (existing_at n existing)) (sym (eq-eqb n frame (sym equal.1)))
     changed_by change changes n (inr differ) =
-        ap (plain_by n) (held-written n ∙ ap (λ b. cond b (Some new) (held_at n held)) differ.0)
-        ∙ ap (λ b. if b then change (plain_by n (held_at n held)) else plain_by n (held_at n held)) (sym (ne_eqb n frame (λ e. differ.1 (sym e))))
+        ap (plain_by n) (existing-written n ∙ ap (λ b. cond b (Some new) (existing_at n existing)) differ.0)
+        ∙ ap (λ b. if b then change (plain_by n (existing_at n existing)) else plain_by n (existing_at n existing)) (sym (ne_eqb n frame (λ e. differ.1 (sym e))))
 
     -- one queue is changed
-    pub changed-at : (change : PlainQueue → PlainQueue) → plain_by frame (Some new) ≡ change (plain_by frame (Some old))
-        → IsChangedAt frame change held (set held place new)
+    pub changed-at : (change : PlainFrameQueue → PlainFrameQueue) → plain_by frame (Some new) ≡ change (plain_by frame (Some old))
+        → IsChangedAt frame change existing (set existing place new)
     changed-at change changes = record {
       plain = λ n. changed_by change changes n (eqb_tells frame n);
       others = λ n differ ready.
           subst (λ o. ready_by o ≡ true)
-          (sym (held-written n ∙ ap (λ b. cond b (Some new) (held_at n held)) (turned n frame differ))) ready;
+          (sym (existing-written n ∙ ap (λ b. cond b (Some new) (existing_at n existing)) (turned n frame differ))) ready;
     }
 
     same_by : plain_by frame (Some new) ≡ plain_by frame (Some old) → (n : ℕ)
         → (((frame == n) ≡ true) × (frame ≡ n)) ⊎ (((frame == n) ≡ false) × (frame ≢ n))
-        → plain_by n (cond (frame == n) (Some new) (held_at n held)) ≡ plain_by n (held_at n held)
+        → plain_by n (cond (frame == n) (Some new) (existing_at n existing)) ≡ plain_by n (existing_at n existing)
     same_by plain n (inl equal) =
-        ap (λ b. plain_by n (cond b (Some new) (held_at n held))) equal.0
+        ap (λ b. plain_by n (cond b (Some new) (existing_at n existing))) equal.0
         ∙ ap (λ m. plain_by m (Some new)) (sym equal.1)
         ∙ plain
-        ∙ ap (plain_by frame) (sym held-here)
-        ∙ ap (λ m. plain_by m (held_at m held)) equal.1
-    same_by plain n (inr differ) = ap (λ b. plain_by n (cond b (Some new) (held_at n held))) differ.0
+        ∙ ap (plain_by frame) (sym existing-here)
+        ∙ ap (λ m. plain_by m (existing_at m existing)) equal.1
+    same_by plain n (inr differ) = ap (λ b. plain_by n (cond b (Some new) (existing_at n existing))) differ.0
 
     -- a write that contracts do not see
     pub same-written : plain_by frame (Some new) ≡ plain_by frame (Some old) → (n : ℕ)
-        → plain_by n (held_at n (set held place new)) ≡ plain_by n (held_at n held)
-    same-written plain n = ap (plain_by n) (held-written n) ∙ same_by plain n (eqb_tells frame n)
+        → plain_by n (existing_at n (set existing place new)) ≡ plain_by n (existing_at n existing)
+    same-written plain n = ap (plain_by n) (existing-written n) ∙ same_by plain n (eqb_tells frame n)
 
     ready_step : (old.queue.reserved ≡ true → new.queue.reserved ≡ true) → (n : ℕ)
         → (((frame == n) ≡ true) × (frame ≡ n)) ⊎ (((frame == n) ≡ false) × (frame ≢ n))
-        → ready_by (held_at n held) ≡ true → ready_by (cond (frame == n) (Some new) (held_at n held)) ≡ true
+        → ready_by (existing_at n existing) ≡ true → ready_by (cond (frame == n) (Some new) (existing_at n existing)) ≡ true
     ready_step stays n (inl equal) ready =
-        ap (λ b. ready_by (cond b (Some new) (held_at n held))) equal.0
-        ∙ stays (sym (ap ready_by held-here) ∙ ap (λ m. ready_by (held_at m held)) equal.1 ∙ ready)
-    ready_step stays n (inr differ) ready = ap (λ b. ready_by (cond b (Some new) (held_at n held))) differ.0 ∙ ready
+        ap (λ b. ready_by (cond b (Some new) (existing_at n existing))) equal.0
+        ∙ stays (sym (ap ready_by existing-here) ∙ ap (λ m. ready_by (existing_at m existing)) equal.1 ∙ ready)
+    ready_step stays n (inr differ) ready = ap (λ b. ready_by (cond b (Some new) (existing_at n existing))) differ.0 ∙ ready
 
     pub ready-written : (old.queue.reserved ≡ true → new.queue.reserved ≡ true) → (n : ℕ)
-        → ready_by (held_at n held) ≡ true → ready_by (held_at n (set held place new)) ≡ true
-    ready-written stays n ready = ap ready_by (held-written n) ∙ ready_step stays n (eqb_tells frame n) ready
+        → ready_by (existing_at n existing) ≡ true → ready_by (existing_at n (set existing place new)) ≡ true
+    ready-written stays n ready = ap ready_by (existing-written n) ∙ ready_step stays n (eqb_tells frame n) ready
 
     -- each queue is still that of a frame
-    pub is_held-written : (frames : List PlainFrame) → is_held frames held ≡ true → is_held frames (set held place new) ≡ true
-    is_held-written frames all =
+    pub are_of_frames-written : (frames : List PlainFrame) → are_of_frames frames existing ≡ true → are_of_frames frames (set existing place new) ≡ true
+    are_of_frames-written frames all =
         let here : has_frame old.frame frames ≡ true =
-        ap (λ q. has_frame q.frame frames) read ∙ and_at (is_held frames) (λ q. has_frame q.frame frames) refl (λ q qs. refl) held place old facts.0 all in
-        and_set (is_held frames) (λ q. has_frame q.frame frames) refl (λ q qs. refl) held place new (ap (λ n. has_frame n frames) same ∙ here) all
+        ap (λ q. has_frame q.frame frames) read ∙ and_at (are_of_frames frames) (λ q. has_frame q.frame frames) refl (λ q qs. refl) existing place old facts.0 all in
+        and_set (are_of_frames frames) (λ q. has_frame q.frame frames) refl (λ q qs. refl) existing place new (ap (λ n. has_frame n frames) same ∙ here) all
 
 -- ---- a queue more
 
-module _ (frame : ℕ) (held : List FrameQueue) (new : FrameQueue) (none : held_at frame held ≡ None) (same : new.frame ≡ frame) where
+module _ (frame : ℕ) (existing : List FrameQueue) (new : FrameQueue) (none : existing_at frame existing ≡ None) (same : new.frame ≡ frame) where
   more_by : (n : ℕ) → (((new.frame == n) ≡ true) × (new.frame ≡ n)) ⊎ (((new.frame == n) ≡ false) × (new.frame ≢ n))
-      → option_or (held_at n held) (cond (new.frame == n) (Some new) None) ≡ cond (frame == n) (Some new) (held_at n held)
+      → option_or (existing_at n existing) (cond (new.frame == n) (Some new) None) ≡ cond (frame == n) (Some new) (existing_at n existing)
   more_by n (inl equal) =
-      let absent : held_at n held ≡ None = ap (λ m. held_at m held) (sym equal.1 ∙ same) ∙ none in
+      let absent : existing_at n existing ≡ None = ap (λ m. existing_at m existing) (sym equal.1 ∙ same) ∙ none in
       ap (λ o. option_or o (cond (new.frame == n) (Some new) None)) absent
       ∙ ap (λ b. cond b (Some new) None) equal.0
-      ∙ ap (λ b. cond b (Some new) (held_at n held)) (sym (ap (λ m. m == n) (sym same) ∙ equal.0))
+      ∙ ap (λ b. cond b (Some new) (existing_at n existing)) (sym (ap (λ m. m == n) (sym same) ∙ equal.0))
   more_by n (inr differ) =
-      ap (λ b. option_or (held_at n held) (cond b (Some new) None)) differ.0
-      ∙ or_none (held_at n held)
-      ∙ ap (λ b. cond b (Some new) (held_at n held)) (sym (ap (λ m. m == n) (sym same) ∙ differ.0))
+      ap (λ b. option_or (existing_at n existing) (cond b (Some new) None)) differ.0
+      ∙ or_none (existing_at n existing)
+      ∙ ap (λ b. cond b (Some new) (existing_at n existing)) (sym (ap (λ m. m == n) (sym same) ∙ differ.0))
     where
       or_none : (o : Option FrameQueue) → option_or o None ≡ o
       or_none None = refl
       or_none (Some q) = refl
 
-  pub held-more : (n : ℕ) → held_at n (held ++ new ∷ []) ≡ cond (frame == n) (Some new) (held_at n held)
-  held-more n = find-append (λ q. q.frame == n) held (new ∷ []) ∙ more_by n (eqb_tells new.frame n)
+  pub existing-more : (n : ℕ) → existing_at n (existing ++ new ∷ []) ≡ cond (frame == n) (Some new) (existing_at n existing)
+  existing-more n = find-append (λ q. q.frame == n) existing (new ∷ []) ∙ more_by n (eqb_tells new.frame n)
 
-  pub there-more : is_some (held_at frame (held ++ new ∷ [])) ≡ true
-  there-more = ap is_some (held-more frame) ∙ ap (λ b. is_some (cond b (Some new) (held_at frame held))) (eq-eqb frame frame refl)
+  pub there-more : is_some (existing_at frame (existing ++ new ∷ [])) ≡ true
+  there-more = ap is_some (existing-more frame) ∙ ap (λ b. is_some (cond b (Some new) (existing_at frame existing))) (eq-eqb frame frame refl)
 
   plain_more : new.queue.events ≡ [] → new.queue.lost ≡ 0 → (n : ℕ)
       → (((frame == n) ≡ true) × (frame ≡ n)) ⊎ (((frame == n) ≡ false) × (frame ≢ n))
-      → plain_by n (cond (frame == n) (Some new) (held_at n held)) ≡ plain_by n (held_at n held)
+      → plain_by n (cond (frame == n) (Some new) (existing_at n existing)) ≡ plain_by n (existing_at n existing)
   plain_more events lost n (inl equal) =
-      ap (λ b. plain_by n (cond b (Some new) (held_at n held))) equal.0
+      ap (λ b. plain_by n (cond b (Some new) (existing_at n existing))) equal.0
       ∙ ap (λ es. record { frame = n; events = es; lost = new.queue.lost }) events
       ∙ ap (λ l. record { frame = n; events = []; lost = l }) lost
       ∙ ap (plain_by n) (sym none)
-      ∙ ap (λ m. plain_by n (held_at m held)) equal.1
-  plain_more events lost n (inr differ) = ap (λ b. plain_by n (cond b (Some new) (held_at n held))) differ.0
+      ∙ ap (λ m. plain_by n (existing_at m existing)) equal.1
+  plain_more events lost n (inr differ) = ap (λ b. plain_by n (cond b (Some new) (existing_at n existing))) differ.0
 
   -- an empty queue is seen as none
-  pub same-more : new.queue.events ≡ [] → new.queue.lost ≡ 0 → (n : ℕ) → plain_by n (held_at n (held ++ new ∷ [])) ≡ plain_by n (held_at n held)
-  same-more events lost n = ap (plain_by n) (held-more n) ∙ plain_more events lost n (eqb_tells frame n)
+  pub same-more : new.queue.events ≡ [] → new.queue.lost ≡ 0 → (n : ℕ) → plain_by n (existing_at n (existing ++ new ∷ [])) ≡ plain_by n (existing_at n existing)
+  same-more events lost n = ap (plain_by n) (existing-more n) ∙ plain_more events lost n (eqb_tells frame n)
 
   ready_more : (n : ℕ) → (((frame == n) ≡ true) × (frame ≡ n)) ⊎ (((frame == n) ≡ false) × (frame ≢ n))
-      → ready_by (held_at n held) ≡ true → ready_by (cond (frame == n) (Some new) (held_at n held)) ≡ true
+      → ready_by (existing_at n existing) ≡ true → ready_by (cond (frame == n) (Some new) (existing_at n existing)) ≡ true
   ready_more n (inl equal) ready =
-      let no : false ≡ true = sym (ap ready_by none) ∙ ap (λ m. ready_by (held_at m held)) equal.1 ∙ ready in absurd (cc no)
-  ready_more n (inr differ) ready = ap (λ b. ready_by (cond b (Some new) (held_at n held))) differ.0 ∙ ready
+      let no : false ≡ true = sym (ap ready_by none) ∙ ap (λ m. ready_by (existing_at m existing)) equal.1 ∙ ready in absurd (cc no)
+  ready_more n (inr differ) ready = ap (λ b. ready_by (cond b (Some new) (existing_at n existing))) differ.0 ∙ ready
 
-  pub ready-more : (n : ℕ) → ready_by (held_at n held) ≡ true → ready_by (held_at n (held ++ new ∷ [])) ≡ true
-  ready-more n ready = ap ready_by (held-more n) ∙ ready_more n (eqb_tells frame n) ready
+  pub ready-more : (n : ℕ) → ready_by (existing_at n existing) ≡ true → ready_by (existing_at n (existing ++ new ∷ [])) ≡ true
+  ready-more n ready = ap ready_by (existing-more n) ∙ ready_more n (eqb_tells frame n) ready
 
 -- ---- an answer that takes memory
 
@@ -171,23 +171,23 @@ some_by : (b : Bool) (i : ℕ) → is_some (cond b (Some i) None) ≡ true → b
 some_by true i is = refl
 some_by false i is = absurd (cc is)
 
-pub place-there : (frame : ℕ) (held : List FrameQueue) → is_some (place_in frame held) ≡ true → is_some (held_at frame held) ≡ true
-place-there frame held is =
-    let test : nat_lt (position_or_len (λ q. q.frame == frame) held) (length held) ≡ true =
-    some_by (nat_lt (position_or_len (λ q. q.frame == frame) held) (length held)) (position_or_len (λ q. q.frame == frame) held) is in
-    let low : position_or_len (λ q. q.frame == frame) held < length held = grind (arith, nat_tests) in
-    ap is_some (find_at (λ q. q.frame == frame) held)
-    ∙ some_within held (position_or_len (λ q. q.frame == frame) held) low
+pub place-there : (frame : ℕ) (existing : List FrameQueue) → is_some (place_in frame existing) ≡ true → is_some (existing_at frame existing) ≡ true
+place-there frame existing is =
+    let test : nat_lt (position_or_len (λ q. q.frame == frame) existing) (length existing) ≡ true =
+    some_by (nat_lt (position_or_len (λ q. q.frame == frame) existing) (length existing)) (position_or_len (λ q. q.frame == frame) existing) is in
+    let low : position_or_len (λ q. q.frame == frame) existing < length existing = grind (arith, nat_tests) in
+    ap is_some (find_at (λ q. q.frame == frame) existing)
+    ∙ some_within existing (position_or_len (λ q. q.frame == frame) existing) low
   where
     some_within : (xs : List FrameQueue) (i : ℕ) → i < length xs → is_some (slice_get xs i) ≡ true
     some_within [] i low = absurd (omega arith)
     some_within (x ∷ xs) i low = ap is_some (slice_get-get_or (x ∷ xs) i x low)
 
-pub ready-here : (frame : ℕ) (held : List FrameQueue) (place : ℕ) (is : place_in frame held ≡ Some place) (old : FrameQueue) (read : old ≡ get_or held place old)
-    (new : FrameQueue) (same : new.frame ≡ old.frame) → new.queue.reserved ≡ true → ready_by (held_at frame (set held place new)) ≡ true
-ready-here frame held place is old read new same ready =
-    ap ready_by (held-written frame held place is old read new same frame)
-    ∙ ap (λ b. ready_by (cond b (Some new) (held_at frame held))) (eq-eqb frame frame refl)
+pub ready-here : (frame : ℕ) (existing : List FrameQueue) (place : ℕ) (is : place_in frame existing ≡ Some place) (old : FrameQueue) (read : old ≡ get_or existing place old)
+    (new : FrameQueue) (same : new.frame ≡ old.frame) → new.queue.reserved ≡ true → ready_by (existing_at frame (set existing place new)) ≡ true
+ready-here frame existing place is old read new same ready =
+    ap ready_by (existing-written frame existing place is old read new same frame)
+    ∙ ap (λ b. ready_by (cond b (Some new) (existing_at frame existing))) (eq-eqb frame frame refl)
     ∙ ready
 
 -- what an answer tells of what is ready
@@ -210,18 +210,18 @@ on_err (Ok x) is = tt
 on_err (Err e) is = is
 
 -- a take of no events
-pub changed-none : (frame : ℕ) (held : List FrameQueue) → held_at frame held ≡ None → IsChangedAt frame (λ queue. empty_queue queue.frame) held held
-changed-none frame held none = record {
+pub changed-none : (frame : ℕ) (existing : List FrameQueue) → existing_at frame existing ≡ None → IsChangedAt frame (λ queue. empty_queue queue.frame) existing existing
+changed-none frame existing none = record {
   plain = λ n. none_at n (eqb_tells n frame);
   others = λ n differ ready. ready;
 }
   where
     none_at : (n : ℕ) → (((n == frame) ≡ true) × (n ≡ frame)) ⊎ (((n == frame) ≡ false) × (n ≢ frame))
-        → plain_by n (held_at n held) ≡ (if n == frame then empty_queue (plain_by n (held_at n held)).frame else plain_by n (held_at n held))
+        → plain_by n (existing_at n existing) ≡ (if n == frame then empty_queue (plain_by n (existing_at n existing)).frame else plain_by n (existing_at n existing))
     none_at n (inl equal) =
-        let absent : held_at n held ≡ None = ap (λ m. held_at m held) equal.1 ∙ none in
+        let absent : existing_at n existing ≡ None = ap (λ m. existing_at m existing) equal.1 ∙ none in
         ap (plain_by n) absent
         ∙ ap (λ o. empty_queue (plain_by n o).frame) (sym absent)
-        ∙ ap (λ b. if b then empty_queue (plain_by n (held_at n held)).frame else plain_by n (held_at n held)) (sym equal.0)
+        ∙ ap (λ b. if b then empty_queue (plain_by n (existing_at n existing)).frame else plain_by n (existing_at n existing)) (sym equal.0)
     none_at n (inr differ) =
-        ap (λ b. if b then empty_queue (plain_by n (held_at n held)).frame else plain_by n (held_at n held)) (sym differ.0)
+        ap (λ b. if b then empty_queue (plain_by n (existing_at n existing)).frame else plain_by n (existing_at n existing)) (sym differ.0)

@@ -10,14 +10,14 @@ use Rattle.std.proofs.lemmas.List.{get_or-map, take-map, drop-map, length-map}
 use Rattle.std.proofs.lemmas.List.Elements.{All-map, All-weaker}
 use Rattle.std.proofs.lemmas.List.Sums.{list_all-from_AllPass}
 use Rattle.std.proofs.lemmas.Option.{slice_get-get_or, slice_get-map}
-use Rattle.live_state.specs.Held.{TabView}
+use Rattle.live_state.specs.ExistingQueues.{PlainOpenTab}
 use Rattle.live_state.specs.Tabs.{PlainTab, is_rising}
-use Rattle.live_state.specs.Places.{IsAt, IsGap}
+use Rattle.live_state.specs.TabPlaces.{IsAt, IsGap}
 use Rattle.live_state.proofs.ListLemmas.{All-back, All-front}
-use Rattle.live_state.proofs.PlacesLemmas.{rising-apart, rising-split}
+use Rattle.live_state.proofs.TabPlaceLemmas.{rising-apart, rising-split}
 
 -- the tabs, as contracts see them
-abbrev pub plain_of : List TabView → List PlainTab
+abbrev pub plain_of : List PlainOpenTab → List PlainTab
 plain_of ts = map (λ t. t.plain) ts
 
 is_less : (m n : ℕ) → nat_cmp m n ≡ Less → nat_lt m n ≡ true
@@ -32,7 +32,7 @@ is_equal m n is = grind (arith, nat_tests)
 index_rises : (l m n : ℕ) → l ≤ m → ordering_index (nat_cmp l n) ≤ ordering_index (nat_cmp m n)
 index_rises l m n low = grind (arith, nat_tests)
 
-index_same : (ts : List TabView) (n i j : ℕ) (d : TabView) → is_rising (plain_of ts) ≡ true → i ≤ j → j < length ts
+index_same : (ts : List PlainOpenTab) (n i j : ℕ) (d : PlainOpenTab) → is_rising (plain_of ts) ≡ true → i ≤ j → j < length ts
     → (i ≡ j) ⊎ (i < j)
     → ordering_index (nat_cmp (get_or ts i d).plain.number n) ≤ ordering_index (nat_cmp (get_or ts j d).plain.number n)
 index_same ts n i j d rising low within (inl same) =
@@ -49,14 +49,14 @@ index_same ts n i j d rising low within (inr below) =
 which : (i j : ℕ) → i ≤ j → (i ≡ j) ⊎ (i < j)
 which i j low = grind arith
 
-searchable : (ts : List TabView) (n : ℕ) → is_rising (plain_of ts) ≡ true → IsNonDecreasingBy (λ t. ordering_index (nat_cmp t.plain.number n)) ts
+searchable : (ts : List PlainOpenTab) (n : ℕ) → is_rising (plain_of ts) ≡ true → IsNonDecreasingBy (λ t. ordering_index (nat_cmp t.plain.number n)) ts
 searchable ts n rising = λ i j d low within. index_same ts n i j d rising low within (which i j low)
 
-place-found : (n i : ℕ) (ts : List TabView) → is_rising (plain_of ts) ≡ true → i < length ts
+place-found : (n i : ℕ) (ts : List PlainOpenTab) → is_rising (plain_of ts) ≡ true → i < length ts
     → HoldsAt (λ t. nat_cmp t.plain.number n ≡ Equal) ts i → IsAt n (plain_of ts) i
 place-found n i [] rising within equal = absurd (omega arith)
 place-found n i (d ∷ ts) rising within equal =
-    let all : List TabView = d ∷ ts in
+    let all : List PlainOpenTab = d ∷ ts in
     let long : length (plain_of all) ≡ length all = length-map all (λ t. t.plain) in
     let t : PlainTab = get_or (plain_of all) i d.plain in
     let here : slice_get (plain_of all) i ≡ Some t = slice_get-get_or (plain_of all) i d.plain (omega arith) in
@@ -68,7 +68,7 @@ place-found n i (d ∷ ts) rising within equal =
       higher = rw same at parts.1;
     }
 
-place-gap : (n i : ℕ) (ts : List TabView) → i ≤ length ts
+place-gap : (n i : ℕ) (ts : List PlainOpenTab) → i ≤ length ts
     → AllWithin (λ t. nat_cmp t.plain.number n ≡ Less) ts 0 i → AllWithin (λ t. nat_cmp t.plain.number n ≡ Greater) ts i (length ts)
     → IsGap n (plain_of ts) i
 place-gap n i ts within lower higher =
@@ -89,7 +89,7 @@ place-gap n i ts within lower higher =
           (All-back (λ t. nat_cmp t.plain.number n ≡ Greater) ts i higher))));
     }
 
-pub searched : (n : ℕ) (ts : List TabView) (r : Result ℕ ℕ) → is_rising (plain_of ts) ≡ true → IsSearchInRange r (length ts)
+pub searched : (n : ℕ) (ts : List PlainOpenTab) (r : Result ℕ ℕ) → is_rising (plain_of ts) ≡ true → IsSearchInRange r (length ts)
     → IsBinarySearchResult (λ t. nat_cmp t.plain.number n) ts r
     → MatchResult r (IsAt n (plain_of ts)) (IsGap n (plain_of ts))
 searched n ts (Ok i) rising bound found = place-found n i ts rising bound found
@@ -97,11 +97,11 @@ searched n ts (Err i) rising bound gap =
     let parts = gap (searchable ts n rising) in
     place-gap n i ts bound parts.0 parts.1
 
-number_by : (o : Option TabView) → option_map (λ u. u.number) (option_map (λ t. t.plain) o) ≡ option_map (λ t. t.plain.number) o
+number_by : (o : Option PlainOpenTab) → option_map (λ u. u.number) (option_map (λ t. t.plain) o) ≡ option_map (λ t. t.plain.number) o
 number_by None = refl
 number_by (Some t) = refl
 
 -- the number of the tab at a place
-pub number_at : (ts : List TabView) (i : ℕ)
+pub number_at : (ts : List PlainOpenTab) (i : ℕ)
     → option_map (λ u. u.number) (slice_get (plain_of ts) i) ≡ option_map (λ t. t.plain.number) (slice_get ts i)
 number_at ts i = ap (option_map (λ u. u.number)) (slice_get-map (λ t. t.plain) ts i) ∙ number_by (slice_get ts i)

@@ -1,21 +1,21 @@
 -- Values worked out by hand from the standard's steps and from this repository's own choices.
 use Rattle.std.proofs.Common.{◌≡◌, ℕ, refl, List, [], ◌∷◌, ◌++◌, Some, None, true, false}
 use Rattle.std.specs.Prelude.{codes, replicate}
-use Rattle.storage_events.specs.Event.{EventView}
-use Rattle.storage_events.specs.declared.event.AreaKind.TheVariants.{Local}
+use Rattle.storage_events.specs.Event.{PlainEvent}
+use Rattle.storage_events.specs.declared.event.AreaKind.TheVariants.{Local, Session}
 use Rattle.origin_site.specs.Address.{PlainAddress}
-use Rattle.origin_site.specs.Site.{PlainSite}
 use Rattle.agent_base.specs.declared.refusals.Label.{Label}
 use Rattle.storage_key.specs.Key.{PlainKey}
 use Rattle.frame_tree.specs.Sandbox.{unrestricted}
 use Rattle.frame_tree.specs.Document.{loaded}
 use Rattle.frame_tree.specs.Tree.{PlainFrame}
-use Rattle.live_state.specs.Tabs.{LiveView, PlainQueue, PlainTab, is_open, is_reserved, is_rising, next_tab, room_dropped, room_put, tabs_put, without_tab}
-use Rattle.live_state.specs.Documents.{documents, documents_under, frame_numbers}
+use Rattle.live_state.specs.Tabs.{PlainLive, PlainFrameQueue, PlainTab, is_open, is_reserved, is_rising, next_tab, room_dropped, room_put, tabs_put, without_tab}
+use Rattle.live_state.specs.Documents.{documents, frame_numbers}
+use Rattle.live_state.specs.Hearers.{hearers}
 use Rattle.live_state.specs.Queues.{are_distinct, goes, has_document, is_ready, is_told, queue_at, sent, taken}
 
 -- a value that changed
-abbrev change : EventView
+abbrev change : PlainEvent
 change = record {
   area = Local;
   key = Some (codes "k");
@@ -39,13 +39,13 @@ abbrev frame : ℕ → PlainFrame
 frame number = record { frame = number; parent = 0; document = loaded [] unrestricted false address }
 
 -- a queue in which one event waits, and one that lost some
-abbrev waiting : ℕ → PlainQueue
+abbrev waiting : ℕ → PlainFrameQueue
 waiting number = record { frame = number; events = change ∷ []; lost = 0 }
 
-abbrev lost : ℕ → PlainQueue
+abbrev lost : ℕ → PlainFrameQueue
 lost number = record { frame = number; events = []; lost = 3 }
 
-abbrev empty : ℕ → PlainQueue
+abbrev empty : ℕ → PlainFrameQueue
 empty number = record { frame = number; events = []; lost = 0 }
 
 -- tab 2 has a top and two frames below, tab 7 a top alone
@@ -102,13 +102,24 @@ closed_tab = refl
 open_and_closed : (is_open 7 tabs ≡ true) × (is_open 3 tabs ≡ false)
 open_and_closed = (refl, refl)
 
--- there is room for one tab more
-abbrev roomy : LiveView
-roomy = record { tabs = tabs; ready = []; room = 1 }
+-- there is room for one tab more, and for one more at one of two sites
+abbrev roomy : PlainLive
+roomy = record {
+  tabs = tabs;
+  ready = [];
+  room = 1;
+  sites = (record { https = true; host = codes "a.test" }, true) ∷ (record { https = true; host = codes "b.test" }, false) ∷ [];
+}
 
-reserved : (is_reserved 2 roomy ≡ true) × (is_reserved 3 roomy ≡ true) × (is_reserved 3 (record roomy { room = 0 }) ≡ false)
-    × (is_reserved 2 (record roomy { room = 0 }) ≡ true)
+reserved : (is_reserved 2 two.frames roomy ≡ true) × (is_reserved 3 two.frames roomy ≡ true)
+    × (is_reserved 3 two.frames (record roomy { room = 0 }) ≡ false) × (is_reserved 2 two.frames (record roomy { room = 0 }) ≡ true)
 reserved = (refl, refl, refl, refl)
+
+-- a top at a site for which there is no room
+reserved_at_another_site : is_reserved 2 (record (frame 0) {
+  document = loaded [] unrestricted false (record address { text = codes "https://b.test/"; host = codes "b.test" });
+} ∷ []) roomy ≡ false
+reserved_at_another_site = refl
 
 room_after_put : (room_put 2 roomy ≡ 1) × (room_put 3 roomy ≡ 0)
 room_after_put = (refl, refl)
@@ -150,22 +161,14 @@ at_another_site = record (frame 0) {
 abbrev nine : PlainTab
 nine = record { number = 9; frames = at_another_site ∷ frame 1 ∷ []; queues = empty 0 ∷ empty 1 ∷ [] }
 
-abbrev site : List ℕ → PlainSite
-site host = record { https = true; host = host }
-
-documents_under_a_site : documents_under (site (codes "a.test")) (tabs ++ nine ∷ []) ≡ documents tabs
+-- the frames of tab 9 hear of no change at the other site, and those of two tabs of one site hear
+local_change : hearers Local (label 7 0) key (tabs ++ nine ∷ []) ≡ label 2 0 ∷ label 2 1 ∷ label 2 5 ∷ []
 unfolding frame_numbers
-documents_under_a_site = refl
+local_change = refl
 
-documents_under_another_site : documents_under (site (codes "b.test")) (tabs ++ nine ∷ [])
-    ≡ (label 9 0, record key { origin = record key.origin { host = codes "b.test" }; top = site (codes "b.test") })
-    ∷ (label 9 1, record key { top = site (codes "b.test"); bit = true }) ∷ []
+session_change : hearers Session (label 2 0) key (tabs ++ nine ∷ []) ≡ label 2 1 ∷ label 2 5 ∷ []
 unfolding frame_numbers
-documents_under_another_site = refl
-
-documents_under_another_scheme : documents_under (record (site (codes "a.test")) { https = false }) (tabs ++ nine ∷ []) ≡ []
-unfolding frame_numbers
-documents_under_another_scheme = refl
+session_change = refl
 
 -- ---- events
 
@@ -178,7 +181,7 @@ event_for_no_document : sent ((label 3 0, change) ∷ (label 7 5, change) ∷ []
 event_for_no_document = refl
 
 -- a queue of 1,024 events, and one more
-full : PlainQueue
+full : PlainFrameQueue
 full = record { frame = 0; events = replicate 1024 change; lost = 0 }
 
 event_is_lost : queue_at (sent ((label 1 0, change) ∷ []) (record { number = 1; frames = frame 0 ∷ []; queues = full ∷ [] } ∷ [])) (label 1 0)
@@ -192,8 +195,8 @@ taken_from_one = refl
 document_that_is_there : (has_document tabs (label 2 5) ≡ true) × (has_document tabs (label 7 5) ≡ false) × (has_document tabs (label 3 0) ≡ false)
 document_that_is_there = (refl, refl, refl)
 
-ready_document : (is_ready (record { tabs = tabs; ready = record { number = 2; frames = 5 ∷ [] } ∷ []; room = 0 }) (label 2 5) ≡ true)
-    × (is_ready (record { tabs = tabs; ready = record { number = 2; frames = 5 ∷ [] } ∷ []; room = 0 }) (label 2 0) ≡ false)
+ready_document : (is_ready (record { tabs = tabs; ready = record { number = 2; frames = 5 ∷ [] } ∷ []; room = 0; sites = [] }) (label 2 5) ≡ true)
+    × (is_ready (record { tabs = tabs; ready = record { number = 2; frames = 5 ∷ [] } ∷ []; room = 0; sites = [] }) (label 2 0) ≡ false)
 ready_document = (refl, refl)
 
 -- frame 5 has a fresh document, and frame 1 is not there

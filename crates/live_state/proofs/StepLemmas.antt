@@ -7,13 +7,13 @@ use Rattle.std.proofs.lemmas.List.Edits.{length-insert, length-remove}
 use Rattle.std.proofs.lemmas.List.{drop-map, length-map, map-append, map-set, take-map}
 use Rattle.std.proofs.lemmas.Option.{slice_get-map, slice_get_read}
 use Rattle.frame_tree.specs.Tree.{PlainFrame}
-use Rattle.live_state.specs.Held.{TabView}
+use Rattle.live_state.specs.ExistingQueues.{PlainOpenTab}
 use Rattle.live_state.specs.Tabs.{PlainTab, empty_queue, is_fresh, is_open, is_rising, made_tab, queue_after, queue_of, tab_at, tabs_put, with_tab, without_tab}
-use Rattle.live_state.specs.Places.{IsAt, IsGap}
-use Rattle.live_state.proofs.PlacesLemmas.{found-at, found-gap, put-at, put-gap, rising-with, standing, without-at}
+use Rattle.live_state.specs.TabPlaces.{IsAt, IsGap}
+use Rattle.live_state.proofs.TabPlaceLemmas.{found-at, found-gap, put-at, put-gap, rising-with, standing, without-at}
 use Rattle.live_state.proofs.SearchLemmas.{plain_of}
 
-module _ (n : ℕ) (ts : List TabView) (place : ℕ) (at : IsAt n (plain_of ts) place) where
+module _ (n : ℕ) (ts : List PlainOpenTab) (place : ℕ) (at : IsAt n (plain_of ts) place) where
   -- the tab at the place is gone
   pub dropped-at : plain_of (remove ts place) ≡ without_tab n (plain_of ts)
   dropped-at =
@@ -22,7 +22,7 @@ module _ (n : ℕ) (ts : List TabView) (place : ℕ) (at : IsAt n (plain_of ts) 
       ∙ ap (λ l. take place (plain_of ts) ++ l) (sym (drop-map (λ t. t.plain) (suc place) ts))
       ∙ sym (without-at n (plain_of ts) place at)
 
-  module _ (old : TabView) (within : place < length ts) (read : old ≡ get_or ts place old) where
+  module _ (old : PlainOpenTab) (within : place < length ts) (read : old ≡ get_or ts place old) where
     pub plain_here : slice_get (plain_of ts) place ≡ Some old.plain
     plain_here =
         slice_get-map (λ t. t.plain) ts place
@@ -49,17 +49,17 @@ module _ (n : ℕ) (ts : List TabView) (place : ℕ) (at : IsAt n (plain_of ts) 
         more ∙ ap (λ b. if b then capacity - length ts + 1 else capacity - length ts) (sym open-here)
 
     -- the tab at the place is another of its number
-    pub written-at : (new : TabView) → new.plain.number ≡ n → plain_of (set ts place new) ≡ with_tab new.plain (plain_of ts)
+    pub written-at : (new : PlainOpenTab) → new.plain.number ≡ n → plain_of (set ts place new) ≡ with_tab new.plain (plain_of ts)
     written-at new same =
         map-set (λ t. t.plain) ts place new
         ∙ put-at new.plain (plain_of ts) place (subst (λ m. IsAt m (plain_of ts) place) (sym same) at)
 
-module _ (n : ℕ) (ts : List TabView) (place : ℕ) (gap : IsGap n (plain_of ts) place) where
+module _ (n : ℕ) (ts : List PlainOpenTab) (place : ℕ) (gap : IsGap n (plain_of ts) place) where
   pub closed-gap : is_open n (plain_of ts) ≡ false
   closed-gap = ap is_some (found-gap n (plain_of ts) place gap)
 
   -- a tab is put into the gap
-  pub inserted-gap : (new : TabView) → new.plain.number ≡ n → plain_of (insert ts place new) ≡ with_tab new.plain (plain_of ts)
+  pub inserted-gap : (new : PlainOpenTab) → new.plain.number ≡ n → plain_of (insert ts place new) ≡ with_tab new.plain (plain_of ts)
   inserted-gap new same =
       map-append (λ t. t.plain) (take place ts) (new ∷ drop place ts)
       ∙ ap (λ l. l ++ new.plain ∷ plain_of (drop place ts)) (sym (take-map (λ t. t.plain) place ts))
@@ -75,7 +75,7 @@ module _ (n : ℕ) (ts : List TabView) (place : ℕ) (gap : IsGap n (plain_of ts
   room-gap capacity reserved = room_by (is_open n (plain_of ts)) capacity (length ts) closed-gap reserved
 
   -- what the put of a new tab takes
-  pub room-inserted : (capacity : ℕ) (new : TabView)
+  pub room-inserted : (capacity : ℕ) (new : PlainOpenTab)
       → capacity - length (insert ts place new) ≡ (if is_open n (plain_of ts) then capacity - length ts else capacity - length ts - 1)
   room-inserted capacity new =
       let long : length (plain_of ts) ≡ length ts = length-map ts (λ t. t.plain) in
@@ -85,8 +85,8 @@ module _ (n : ℕ) (ts : List TabView) (place : ℕ) (gap : IsGap n (plain_of ts
       less ∙ ap (λ b. if b then capacity - length ts else capacity - length ts - 1) (sym closed-gap)
 
 -- the tabs made of the ones before, in the place of one that is open
-pub put-open : (n : ℕ) (frames : List PlainFrame) (fresh : Option ℕ) (ts : List TabView) (place : ℕ) (at : IsAt n (plain_of ts) place)
-    (old new : TabView) → place < length ts → old ≡ get_or ts place old
+pub put-open : (n : ℕ) (frames : List PlainFrame) (fresh : Option ℕ) (ts : List PlainOpenTab) (place : ℕ) (at : IsAt n (plain_of ts) place)
+    (old new : PlainOpenTab) → place < length ts → old ≡ get_or ts place old
     → new.plain ≡ made_tab old.plain.number frames fresh (Some old.plain) → plain_of (set ts place new) ≡ tabs_put n frames fresh (plain_of ts)
 put-open n frames fresh ts place at old new within read made =
     let number : old.plain.number ≡ n = number-here n ts place at old within read in
@@ -107,8 +107,8 @@ map_empty fresh (f ∷ fs) =
     ∙ ap (λ l. queue_after fresh [] f.frame ∷ l) (map_empty fresh fs)
 
 -- a tab that was not open is put
-pub put-closed : (n : ℕ) (frames : List PlainFrame) (fresh : Option ℕ) (ts : List TabView) (place : ℕ) → IsGap n (plain_of ts) place
-    → (new : TabView) → new.plain ≡ made_tab n frames None None → plain_of (insert ts place new) ≡ tabs_put n frames fresh (plain_of ts)
+pub put-closed : (n : ℕ) (frames : List PlainFrame) (fresh : Option ℕ) (ts : List PlainOpenTab) (place : ℕ) → IsGap n (plain_of ts) place
+    → (new : PlainOpenTab) → new.plain ≡ made_tab n frames None None → plain_of (insert ts place new) ≡ tabs_put n frames fresh (plain_of ts)
 put-closed n frames fresh ts place gap new made =
     inserted-gap n ts place gap new (ap (λ t. t.number) made)
     ∙ ap (λ t. with_tab t (plain_of ts)) made
@@ -122,13 +122,13 @@ rising-put n frames fresh before after rising is =
     subst (λ ts. is_rising ts ≡ true) (sym is) (rising-with (made_tab n frames fresh (tab_at n before)) before rising)
 
 -- a tab that was not found is not open
-pub closed-found : (n : ℕ) (ts : List TabView) (r : Result ℕ ℕ) → MatchResult r (IsAt n (plain_of ts)) (IsGap n (plain_of ts))
+pub closed-found : (n : ℕ) (ts : List PlainOpenTab) (r : Result ℕ ℕ) → MatchResult r (IsAt n (plain_of ts)) (IsGap n (plain_of ts))
     → is_err r ≡ true → is_open n (plain_of ts) ≡ false
 closed-found n ts (Ok place) at is = absurd (cc is)
 closed-found n ts (Err place) gap is = closed-gap n ts place gap
 
 -- a tab that was found is open
-pub open-found : (n : ℕ) (ts : List TabView) (r : Result ℕ ℕ) → MatchResult r (IsAt n (plain_of ts)) (IsGap n (plain_of ts))
+pub open-found : (n : ℕ) (ts : List PlainOpenTab) (r : Result ℕ ℕ) → MatchResult r (IsAt n (plain_of ts)) (IsGap n (plain_of ts))
     → is_err r ≡ false → is_open n (plain_of ts) ≡ true
 open-found n ts (Ok place) at isnt =
     ap is_some (found-at n (plain_of ts) place at ∙ (standing n (slice_get (plain_of ts) place) at.here).1)

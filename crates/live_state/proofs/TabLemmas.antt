@@ -4,39 +4,39 @@ use Rattle.std.specs.Prelude.{◌&&◌, ◌||◌, ◌==◌, ◌≢◌, ◌⊎◌
 use Rattle.std.proofs.lemmas.Bool.Decides.{eqb_tells}
 use Rattle.frame_tree.specs.Tree.{PlainFrame, has_frame}
 use Rattle.live_state.specs.declared.frame_queue.FrameQueue.{FrameQueue}
-use Rattle.live_state.specs.Held.{IsChangedAt, held_at, is_held, plain_by, queues_of, ready_by, ready_of}
+use Rattle.live_state.specs.ExistingQueues.{IsChangedAt, existing_at, are_of_frames, plain_by, queues_of, ready_by, ready_of}
 use Rattle.live_state.specs.Queues.{is_among}
-use Rattle.live_state.specs.Tabs.{PlainQueue, empty_queue, is_fresh, queue_of, stays}
-use Rattle.live_state.proofs.HeldLemmas.{find-queues, frame_by, held-absent}
+use Rattle.live_state.specs.Tabs.{PlainFrameQueue, empty_queue, is_fresh, queue_of, stays}
+use Rattle.live_state.proofs.ExistingQueueLemmas.{find-queues, frame_by, existing-absent}
 use Rattle.live_state.proofs.ListLemmas.{and_both, and_parts, fails_too, find-kept, not_false}
 
 pub queues-same : (frames : List PlainFrame) (old new : List FrameQueue)
-    → ((n : ℕ) → plain_by n (held_at n new) ≡ plain_by n (held_at n old)) → queues_of frames new ≡ queues_of frames old
+    → ((n : ℕ) → plain_by n (existing_at n new) ≡ plain_by n (existing_at n old)) → queues_of frames new ≡ queues_of frames old
 queues-same [] old new same = refl
 queues-same (f ∷ fs) old new same =
-    ap (λ q. q ∷ queues_of fs new) (same f.frame) ∙ ap (λ l. plain_by f.frame (held_at f.frame old) ∷ l) (queues-same fs old new same)
+    ap (λ q. q ∷ queues_of fs new) (same f.frame) ∙ ap (λ l. plain_by f.frame (existing_at f.frame old) ∷ l) (queues-same fs old new same)
 
 -- one queue of the tab is changed
-pub queues-changed : (frame : ℕ) (change : PlainQueue → PlainQueue) (frames : List PlainFrame) (old new : List FrameQueue) → IsChangedAt frame change old new
+pub queues-changed : (frame : ℕ) (change : PlainFrameQueue → PlainFrameQueue) (frames : List PlainFrame) (old new : List FrameQueue) → IsChangedAt frame change old new
     → queues_of frames new ≡ map (λ queue. if queue.frame == frame then change queue else queue) (queues_of frames old)
 queues-changed frame change [] old new changed = refl
 queues-changed frame change (f ∷ fs) old new changed =
-    let q : PlainQueue = plain_by f.frame (held_at f.frame old) in
+    let q : PlainFrameQueue = plain_by f.frame (existing_at f.frame old) in
     ap (λ q. q ∷ queues_of fs new) (changed.plain f.frame)
-    ∙ ap (λ m. (if m == frame then change q else q) ∷ queues_of fs new) (sym (frame_by f.frame (held_at f.frame old)))
+    ∙ ap (λ m. (if m == frame then change q else q) ∷ queues_of fs new) (sym (frame_by f.frame (existing_at f.frame old)))
     ∙ ap (λ l. (if q.frame == frame then change q else q) ∷ l) (queues-changed frame change fs old new changed)
 
-held_by : (n : ℕ) (there : Bool) (h : Option FrameQueue) → (there ≡ false → h ≡ None)
+existing_by : (n : ℕ) (there : Bool) (h : Option FrameQueue) → (there ≡ false → h ≡ None)
     → unwrap_or (cond there (Some (plain_by n h)) None) (empty_queue n) ≡ plain_by n h
-held_by n true h absent = refl
-held_by n false h absent = ap (plain_by n) (sym (absent refl))
+existing_by n true h absent = refl
+existing_by n false h absent = ap (plain_by n) (sym (absent refl))
 
--- the queue of a frame is the one that is held, if there is one
-pub queue-held : (n : ℕ) (frames : List PlainFrame) (held : List FrameQueue) → is_held frames held ≡ true
-    → queue_of n (queues_of frames held) ≡ plain_by n (held_at n held)
-queue-held n frames held all =
-    ap (λ o. unwrap_or o (empty_queue n)) (find-queues n held frames)
-    ∙ held_by n (has_frame n frames) (held_at n held) (held-absent n frames held all)
+-- the queue of a frame is the one that is existing, if there is one
+pub queue-existing : (n : ℕ) (frames : List PlainFrame) (existing : List FrameQueue) → are_of_frames frames existing ≡ true
+    → queue_of n (queues_of frames existing) ≡ plain_by n (existing_at n existing)
+queue-existing n frames existing all =
+    ap (λ o. unwrap_or o (empty_queue n)) (find-queues n existing frames)
+    ∙ existing_by n (has_frame n frames) (existing_at n existing) (existing-absent n frames existing all)
 
 -- ---- the frames that are ready
 
@@ -61,46 +61,46 @@ among_step n r f rest there true is (inr differ) more =
 among_step n r f rest there false is (inr differ) more =
     more ∙ sym (ap (λ t. (t || there) && r n) differ.0)
 
-pub among-ready : (n : ℕ) (frames : List PlainFrame) (held : List FrameQueue)
-    → is_among n (ready_of frames held) ≡ (has_frame n frames && ready_by (held_at n held))
-among-ready n [] held = refl
-among-ready n (f ∷ fs) held =
-    among_step n (λ m. ready_by (held_at m held)) f (ready_of fs held) (has_frame n fs) (ready_by (held_at f.frame held)) refl (eqb_tells f.frame n)
-    (among-ready n fs held)
+pub among-ready : (n : ℕ) (frames : List PlainFrame) (existing : List FrameQueue)
+    → is_among n (ready_of frames existing) ≡ (has_frame n frames && ready_by (existing_at n existing))
+among-ready n [] existing = refl
+among-ready n (f ∷ fs) existing =
+    among_step n (λ m. ready_by (existing_at m existing)) f (ready_of fs existing) (has_frame n fs) (ready_by (existing_at f.frame existing)) refl (eqb_tells f.frame n)
+    (among-ready n fs existing)
 
 -- a frame that is there is ready where its queue is
-pub ready-there : (n : ℕ) (frames : List PlainFrame) (held : List FrameQueue) → has_frame n frames ≡ true → ready_by (held_at n held) ≡ true
-    → is_among n (ready_of frames held) ≡ true
-ready-there n frames held there ready = among-ready n frames held ∙ and_both (has_frame n frames) (ready_by (held_at n held)) there ready
+pub ready-there : (n : ℕ) (frames : List PlainFrame) (existing : List FrameQueue) → has_frame n frames ≡ true → ready_by (existing_at n existing) ≡ true
+    → is_among n (ready_of frames existing) ≡ true
+ready-there n frames existing there ready = among-ready n frames existing ∙ and_both (has_frame n frames) (ready_by (existing_at n existing)) there ready
 
-pub ready-parts : (n : ℕ) (frames : List PlainFrame) (held : List FrameQueue) → is_among n (ready_of frames held) ≡ true
-    → (has_frame n frames ≡ true) × (ready_by (held_at n held) ≡ true)
-ready-parts n frames held ready = and_parts (has_frame n frames) (ready_by (held_at n held)) (sym (among-ready n frames held) ∙ ready)
+pub ready-parts : (n : ℕ) (frames : List PlainFrame) (existing : List FrameQueue) → is_among n (ready_of frames existing) ≡ true
+    → (has_frame n frames ≡ true) × (ready_by (existing_at n existing) ≡ true)
+ready-parts n frames existing ready = and_parts (has_frame n frames) (ready_by (existing_at n existing)) (sym (among-ready n frames existing) ∙ ready)
 
 -- a frame whose queue is not ready is not
-pub unready : (n : ℕ) (frames : List PlainFrame) (held : List FrameQueue) → ready_by (held_at n held) ≡ false
-    → is_among n (ready_of frames held) ≡ false
-unready n frames held isnt =
-    fails_too (is_among n (ready_of frames held)) (ready_by (held_at n held)) (λ ready. (ready-parts n frames held ready).1) isnt
+pub unready : (n : ℕ) (frames : List PlainFrame) (existing : List FrameQueue) → ready_by (existing_at n existing) ≡ false
+    → is_among n (ready_of frames existing) ≡ false
+unready n frames existing isnt =
+    fails_too (is_among n (ready_of frames existing)) (ready_by (existing_at n existing)) (λ ready. (ready-parts n frames existing ready).1) isnt
 
 -- what is ready stays so
 pub ready-stays : (n : ℕ) (frames : List PlainFrame) (old new : List FrameQueue)
-    → (ready_by (held_at n old) ≡ true → ready_by (held_at n new) ≡ true)
+    → (ready_by (existing_at n old) ≡ true → ready_by (existing_at n new) ≡ true)
     → is_among n (ready_of frames old) ≡ true → is_among n (ready_of frames new) ≡ true
 ready-stays n frames old new stays ready =
     let parts = ready-parts n frames old ready in ready-there n frames new parts.0 (stays parts.1)
 
 -- what is ready and stays where frames are put into the tab is ready still
-pub ready-put : (fresh : Option ℕ) (frames made : List PlainFrame) (held : List FrameQueue) (n : ℕ) → not (stays fresh made n) ≡ false
-    → is_among n (ready_of frames held) ≡ true → is_among n (ready_of made (filter (λ q. stays fresh made q.frame) held)) ≡ true
-ready-put fresh frames made held n stay ready =
+pub ready-put : (fresh : Option ℕ) (frames made : List PlainFrame) (existing : List FrameQueue) (n : ℕ) → not (stays fresh made n) ≡ false
+    → is_among n (ready_of frames existing) ≡ true → is_among n (ready_of made (filter (λ q. stays fresh made q.frame) existing)) ≡ true
+ready-put fresh frames made existing n stay ready =
     let there : stays fresh made n ≡ true = not_false (stays fresh made n) stay in
-    ready-there n made (filter (λ q. stays fresh made q.frame) held) (and_parts (not (is_fresh fresh n)) (has_frame n made) there).1
-    (ap ready_by (find-kept (λ q. q.frame) (stays fresh made) n held ∙ ap (λ b. cond b (held_at n held) None) there)
-    ∙ (ready-parts n frames held ready).1)
+    ready-there n made (filter (λ q. stays fresh made q.frame) existing) (and_parts (not (is_fresh fresh n)) (has_frame n made) there).1
+    (ap ready_by (find-kept (λ q. q.frame) (stays fresh made) n existing ∙ ap (λ b. cond b (existing_at n existing) None) there)
+    ∙ (ready-parts n frames existing ready).1)
 
 -- each frame has a queue
-pub queues-each : (frames : List PlainFrame) (held : List FrameQueue) → map (λ q. q.frame) (queues_of frames held) ≡ map (λ f. f.frame) frames
-queues-each [] held = refl
-queues-each (f ∷ fs) held =
-    ap (λ n. n ∷ map (λ q. q.frame) (queues_of fs held)) (frame_by f.frame (held_at f.frame held)) ∙ ap (λ l. f.frame ∷ l) (queues-each fs held)
+pub queues-each : (frames : List PlainFrame) (existing : List FrameQueue) → map (λ q. q.frame) (queues_of frames existing) ≡ map (λ f. f.frame) frames
+queues-each [] existing = refl
+queues-each (f ∷ fs) existing =
+    ap (λ n. n ∷ map (λ q. q.frame) (queues_of fs existing)) (frame_by f.frame (existing_at f.frame existing)) ∙ ap (λ l. f.frame ∷ l) (queues-each fs existing)

@@ -1,20 +1,15 @@
--- The documents under a top-level site: those of the tabs whose top document is at the site.
-use Rattle.std.proofs.Common.{◌≡◌, ℕ, Bool, true, false, not, List, [], ◌∷◌, map, Option, Some, None, refl, ap, sym, ◌∙◌}
-use Rattle.std.specs.Prelude.{filter, option_and_then, option_map, if◌then◌else◌}
-use Rattle.agent_base.specs.declared.refusals.Label.{Label}
+-- The key of each document of a tab is under the site of the tab's top document.
+use Rattle.std.proofs.Common.{◌≡◌, ℕ, List, [], ◌∷◌, map, Option, Some, None, refl, ap, sym, ◌∙◌}
+use Rattle.std.specs.Prelude.{option_and_then, option_map}
 use Rattle.origin_site.specs.Origin.{PlainOrigin}
-use Rattle.origin_site.specs.Site.{PlainSite, same_plain_site}
-use Rattle.storage_key.specs.Context.{is_of, top_of}
+use Rattle.origin_site.specs.Site.{PlainSite}
+use Rattle.storage_key.specs.Context.{top_of}
 use Rattle.storage_key.specs.Key.{PlainKey, own_bit, storage_key}
 use Rattle.frame_tree.specs.Document.{PlainDocument}
 use Rattle.frame_tree.specs.Tree.{PlainFrame, IsTree, chain_of, document_of, top_site}
 use Rattle.frame_tree.proofs.ShapeLemmas.{has-document}
 use Rattle.frame_tree.proofs.TopLemmas.{top-of-chain}
-use Rattle.live_state.specs.Documents.{documents_in, key_of_document, key_of_frame}
-use Rattle.live_state.specs.Listed.{is_listed}
-use Rattle.live_state.specs.Tabs.{PlainTab}
-use Rattle.live_state.proofs.ListLemmas.{all_true, filter_all, filter_none}
-use Rattle.live_state.proofs.OnceLemmas.{all-documents}
+use Rattle.frame_tree.specs.Keys.{key_of_document, key_of_frame}
 
 -- the first site of a chain is that of its first document
 top_first : (frames : List PlainFrame) → top_of (map (λ f. f.document.site) frames) ≡ top_site frames
@@ -44,20 +39,3 @@ key-under-top frame frames key tree is = at (document_of frame frames) refl is
         sym (top-of-chain frame frames tree (has-document frame frames document there))
         ∙ sym (top_first (chain_of frame frames))
         ∙ key_top (map (λ f. f.document.site) (chain_of frame frames)) document.origin key e
-
--- every document of a tab is under the site where its top document is, and else none
-module _ (site : PlainSite) (tab : PlainTab) (tree : IsTree tab.frames) where
-  pub under-tab : (at : Bool) → is_of site (top_site tab.frames) ≡ at
-      → filter (is_listed (Some site)) (documents_in tab) ≡ (if at then documents_in tab else [])
-  under-tab true is =
-      filter_all (λ d. same_plain_site site d.1.top) (documents_in tab)
-      (all-documents (λ d. same_plain_site site d.1.top) tab
-      (λ frame key own. ap (is_of site) (sym (key-under-top frame tab.frames key tree own)) ∙ is))
-  under-tab false is =
-      filter_none (λ d. same_plain_site site d.1.top) (documents_in tab)
-      (all-documents (λ d. not (same_plain_site site d.1.top)) tab
-      (λ frame key own. ap not (ap (is_of site) (sym (key-under-top frame tab.frames key tree own)) ∙ is)))
-
--- without a site each document is listed
-pub all-listed : (ds : List (Label × PlainKey)) → filter (is_listed None) ds ≡ ds
-all-listed ds = filter_all (is_listed None) ds (all_true ds)

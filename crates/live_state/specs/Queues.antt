@@ -5,11 +5,11 @@ use Rattle.std.specs.Prelude.{◌≡◌, ℕ, Bool, true, false, not, ◌==◌, 
 use Rattle.std.specs.List.{list_any}
 use Rattle.agent_base.specs.declared.refusals.Label.{Label}
 use Rattle.storage_events.specs.Audience.{same_label}
-use Rattle.storage_events.specs.Event.{EventView, plain_event}
+use Rattle.storage_events.specs.Event.{PlainEvent, plain_event}
 use Rattle.storage_events.specs.Queue.{events_after, lost_after}
 use Rattle.storage_events.specs.declared.event.Event.{Event}
 use Rattle.frame_tree.specs.Tree.{PlainFrame, has_frame}
-use Rattle.live_state.specs.Tabs.{LiveView, PlainQueue, PlainTab, ReadyTab, empty_queue, queue_of, queues_before, stays, tab_at}
+use Rattle.live_state.specs.Tabs.{PlainLive, PlainFrameQueue, PlainTab, ReadyTab, empty_queue, queue_of, queues_before, stays, tab_at}
 
 -- the frames of a tab, and none where it is not open
 abbrev pub frames_by : Option PlainTab → List PlainFrame
@@ -21,7 +21,7 @@ abbrev pub has_document : List PlainTab → Label → Bool
 has_document tabs at = has_frame at.frame (frames_by (tab_at at.tab tabs))
 
 -- the queue of a document, and an empty one where the document is not there
-abbrev pub queue_at : List PlainTab → Label → PlainQueue
+abbrev pub queue_at : List PlainTab → Label → PlainFrameQueue
 queue_at tabs at = queue_of at.frame (queues_before (tab_at at.tab tabs))
 
 -- the frames of a tab whose queue is ready, and none where the tab is not open
@@ -34,11 +34,11 @@ abbrev pub is_among : ℕ → List ℕ → Bool
 is_among frame frames = list_any (λ f. f == frame) frames
 
 -- the queue of a document takes one event more without taking memory
-abbrev pub is_ready : LiveView → Label → Bool
+abbrev pub is_ready : PlainLive → Label → Bool
 is_ready live at = is_among at.frame (ready_frames (find (λ tab. tab.number == at.tab) live.ready))
 
 -- each ready document stays ready, but for these. So a later call takes no memory for the others.
-abbrev pub StayReadyBut : (Label → Bool) → LiveView → LiveView → Type 0
+abbrev pub StayReadyBut : (Label → Bool) → PlainLive → PlainLive → Type 0
 StayReadyBut but old new =
     (at : Label) → but at ≡ false → is_ready old at ≡ true → is_ready new at ≡ true
 
@@ -52,19 +52,19 @@ are_distinct [] = true
 are_distinct (at ∷ more) = not (list_any (same_label at) more) && are_distinct more
 
 -- an event of the program for a document, as contracts see it
-abbrev pub plain_sent : Label × Event → Label × EventView
+abbrev pub plain_sent : Label × Event → Label × PlainEvent
 plain_sent entry = (entry.0, plain_event entry.1)
 
 -- the event among these that is for a document
-abbrev pub event_for : Label → List (Label × EventView) → Option EventView
+abbrev pub event_for : Label → List (Label × PlainEvent) → Option PlainEvent
 event_for at events = option_map (λ entry. entry.1) (find (λ entry. same_label entry.0 at) events)
 
 -- one of these events is for a document
-abbrev pub is_told : List (Label × EventView) → Label → Bool
+abbrev pub is_told : List (Label × PlainEvent) → Label → Bool
 is_told events at = is_some (event_for at events)
 
 -- a queue after its event: it waits, or is counted as lost
-abbrev pub queue_told : Option EventView → PlainQueue → PlainQueue
+abbrev pub queue_told : Option PlainEvent → PlainFrameQueue → PlainFrameQueue
 queue_told None queue = queue
 queue_told (Some event) queue = record {
   frame = queue.frame;
@@ -73,11 +73,11 @@ queue_told (Some event) queue = record {
 }
 
 -- the document of a queue
-abbrev pub label_of : PlainTab → PlainQueue → Label
+abbrev pub label_of : PlainTab → PlainFrameQueue → Label
 label_of tab queue = record { tab = tab.number; frame = queue.frame }
 
 -- a tab with each queue changed by its document
-abbrev pub with_queues : (Label → PlainQueue → PlainQueue) → PlainTab → PlainTab
+abbrev pub with_queues : (Label → PlainFrameQueue → PlainFrameQueue) → PlainTab → PlainTab
 with_queues change tab = record {
   number = tab.number;
   frames = tab.frames;
@@ -85,7 +85,7 @@ with_queues change tab = record {
 }
 
 -- each document that an event is for has been told of it, and all other queues stay
-abbrev pub sent : List (Label × EventView) → List PlainTab → List PlainTab
+abbrev pub sent : List (Label × PlainEvent) → List PlainTab → List PlainTab
 sent events tabs = map (with_queues (λ at queue. queue_told (event_for at events) queue)) tabs
 
 -- the queue of a document is empty, and all other queues stay

@@ -3,7 +3,7 @@ ghost use Rattle.std.specs.Prelude.{◌≡◌, ◌==◌, ℕ, List, OnErr, OnOk,
 ghost use Rattle.std.specs.List.{position};
 ghost use Rattle.storage_events.specs.Event.{plain_event};
 ghost use Rattle.frame_tree.specs.Tree.{PlainFrame, has_frame};
-ghost use Rattle.live_state.specs.Held.{IsChangedAt, SeenAlike, StaysHeld, StaysReady, held_at, plain_by, ready_by};
+ghost use Rattle.live_state.specs.ExistingQueues.{IsChangedAt, SeenAlike, StayOfFrames, StaysReady, existing_at, plain_by, ready_by};
 ghost use Rattle.live_state.specs.Queues.{queue_told};
 ghost use Rattle.live_state.specs.Tabs.{empty_queue, is_fresh, stays};
 
@@ -28,12 +28,12 @@ pub fn keep_queues(queues: &mut Vec<FrameQueue>, made: &Tab, fresh: Option<u8>)
 
 /// Makes a queue for a frame that has none.
 pub fn make_queue(queues: &mut Vec<FrameQueue>, alloc: Global, frame: u8) -> Result<(), NoMemory>
-    ensures there { OnOk result (is_some (held_at frame queues.new.items) ≡ true) }
-    ensures memory { OnErr result (is_some (held_at frame queues.old.items) ≡ false) }
+    ensures there { OnOk result (is_some (existing_at frame queues.new.items) ≡ true) }
+    ensures memory { OnErr result (is_some (existing_at frame queues.old.items) ≡ false) }
     ensures same { SeenAlike queues.old.items queues.new.items }
     ensures ready { (n : ℕ) → StaysReady n queues.old.items queues.new.items }
-    ensures held { (frames : List PlainFrame) → has_frame frame frames ≡ true
-        → StaysHeld frames queues.old.items queues.new.items }
+    ensures of_frames { (frames : List PlainFrame) → has_frame frame frames ≡ true
+        → StayOfFrames frames queues.old.items queues.new.items }
 {
     if place_of(queues.as_slice(), frame).is_none() {
         let queue = Queue::new(alloc);
@@ -46,12 +46,13 @@ pub fn make_queue(queues: &mut Vec<FrameQueue>, alloc: Global, frame: u8) -> Res
 
 /// Makes room for one event in the queue of a frame.
 pub fn reserve_queue(queues: &mut Vec<FrameQueue>, frame: u8) -> Result<(), NoMemory>
-    requires there { is_some (held_at frame queues.old.items) ≡ true }
-    ensures reserved { OnOk result (ready_by (held_at frame queues.new.items) ≡ true) }
-    ensures memory { OnErr result (ready_by (held_at frame queues.old.items) ≡ false) }
+    requires there { is_some (existing_at frame queues.old.items) ≡ true }
+    ensures reserved { OnOk result (ready_by (existing_at frame queues.new.items) ≡ true) }
+    ensures memory { OnErr result (ready_by (existing_at frame queues.old.items) ≡ false) }
     ensures same { SeenAlike queues.old.items queues.new.items }
     ensures ready { (n : ℕ) → StaysReady n queues.old.items queues.new.items }
-    ensures held { (frames : List PlainFrame) → StaysHeld frames queues.old.items queues.new.items }
+    ensures of_frames { (frames : List PlainFrame)
+        → StayOfFrames frames queues.old.items queues.new.items }
 {
     match place_of(queues.as_slice(), frame) {
         Some(place) => queues[place].queue.reserve(),
@@ -61,10 +62,11 @@ pub fn reserve_queue(queues: &mut Vec<FrameQueue>, frame: u8) -> Result<(), NoMe
 
 /// Puts an event into the queue of a frame, or counts it as lost.
 pub fn push_event(queues: &mut Vec<FrameQueue>, frame: u8, event: Event)
-    requires ready { ready_by (held_at frame queues.old.items) ≡ true }
+    requires ready { ready_by (existing_at frame queues.old.items) ≡ true }
     ensures pushed { IsChangedAt frame (queue_told (Some (plain_event event)))
         queues.old.items queues.new.items }
-    ensures held { (frames : List PlainFrame) → StaysHeld frames queues.old.items queues.new.items }
+    ensures of_frames { (frames : List PlainFrame)
+        → StayOfFrames frames queues.old.items queues.new.items }
 {
     if let Some(place) = place_of(queues.as_slice(), frame) {
         queues[place].queue.push(event);
@@ -73,11 +75,12 @@ pub fn push_event(queues: &mut Vec<FrameQueue>, frame: u8, event: Event)
 
 /// Gives the events of a frame's queue and the number of lost ones, and leaves none.
 pub fn take_events(queues: &mut Vec<FrameQueue>, frame: u8) -> (Vec<Event>, u32)
-    ensures given { let before = plain_by frame (held_at frame queues.old.items) in
+    ensures given { let before = plain_by frame (existing_at frame queues.old.items) in
         (map plain_event result.0.items ≡ before.events) × (result.1 ≡ before.lost) }
     ensures emptied { IsChangedAt frame (λ queue. empty_queue queue.frame)
         queues.old.items queues.new.items }
-    ensures held { (frames : List PlainFrame) → StaysHeld frames queues.old.items queues.new.items }
+    ensures of_frames { (frames : List PlainFrame)
+        → StayOfFrames frames queues.old.items queues.new.items }
 {
     match place_of(queues.as_slice(), frame) {
         Some(place) => queues[place].queue.take(),

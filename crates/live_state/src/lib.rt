@@ -9,5 +9,6 @@
 mod frame_queue;
 mod live;
 mod open_tab;
+mod site_tabs;
 
 pub use live::Live;

@@ -1,23 +1,27 @@
 //! The open tabs.
-ghost use Rattle.std.specs.Prelude.{◌≡◌, ◌==◌, ◌≤◌, ◌<◌, [], ◌∷◌, false, true, length, map, IfOk, IfSome, MatchResult, OnErr, OnOk, option_copied, option_map, slice_get, vec_capacity, vec_len};
-ghost use Rattle.std.specs.List.{insert, list_all};
-ghost use Rattle.storage_events.specs.Audience.{same_label};
-ghost use Rattle.storage_events.specs.Event.{plain_event};
+ghost use Rattle.std.specs.Prelude.{◌≡◌, ◌==◌, ◌≤◌, ◌<◌, Err, None, Some, [], false, true, length, map, IfSome, MatchResult, OnErr, OnOk, option_copied, option_map, slice_get, vec_capacity, vec_len};
+ghost use Rattle.std.specs.List.{insert, list_any};
 ghost use Rattle.origin_site.specs.Plain.{plain_site};
-ghost use Rattle.live_state.specs.Documents.{documents, documents_under, plain_keyed};
-ghost use Rattle.live_state.specs.Listed.{listed};
-ghost use Rattle.live_state.specs.Places.{IsAt, IsGap};
-ghost use Rattle.live_state.specs.Queues.{StayReadyBut, are_distinct, goes, has_document, is_ready, is_told, plain_sent, queue_at, sent, taken};
-ghost use Rattle.live_state.specs.Tabs.{HasQueues, is_open, is_reserved, is_rising, next_tab, room_dropped, room_put, tab_at, tabs_put, without_tab};
+ghost use Rattle.frame_tree.specs.Calls.{without};
+ghost use Rattle.origin_site.specs.Site.{same_plain_site};
+ghost use Rattle.origin_site.specs.declared.site.Site.{Site};
+ghost use Rattle.live_state.specs.Documents.{documents};
+ghost use Rattle.live_state.specs.SiteTabs.{are_rising, has_room, listed_at, moved};
+ghost use Rattle.live_state.specs.TabPlaces.{IsAt, IsGap};
+ghost use Rattle.live_state.specs.Queues.{StayReadyBut, goes};
+ghost use Rattle.live_state.specs.Tabs.{HasQueues, has_site_room, is_open, is_reserved, is_rising, next_tab, room_dropped, room_put, tab_at, tabs_put, without_tab};
+
+mod frames;
+mod hearers;
+mod queues;
 
 use crate::open_tab::OpenTab;
-use agent_base::{Label, NoMemory};
+use crate::site_tabs::SiteTabs;
+use agent_base::NoMemory;
 use frame_tree::Tab;
-use origin_site::Site;
+use origin_site::{Site, same_site};
 use std::alloc::Global;
 use std::marker::Model;
-use storage_events::Event;
-use storage_key::StorageKey;
 
 /// The open tabs, each with its documents and the events that wait for them.
 ///
@@ -28,23 +32,26 @@ use storage_key::StorageKey;
 #[derive(Debug, Drop)]
 pub struct Live {
     tabs: Vec<OpenTab>,
+    sites: SiteTabs,
 }
 
 impl Model for Live {
     ghost use Rattle.std.specs.Prelude.{◌≡◌, ◌-◌, true, map, vec_capacity, length};
-    ghost use Rattle.live_state.specs.Tabs.{LiveView, is_rising};
+    ghost use Rattle.live_state.specs.SiteTabs.{AreIndexed, site_rooms};
+    ghost use Rattle.live_state.specs.Tabs.{PlainLive};
 
-    ghost Value = { LiveView };
+    ghost Value = { PlainLive };
 
-    ghost use Rattle.live_state.specs.Held.{ready_tab};
+    ghost use Rattle.live_state.specs.ExistingQueues.{ready_tab};
 
     ghost view = { λ l. record {
       tabs = map (λ t. t.plain) l.tabs.items;
       ready = map ready_tab l.tabs.items;
       room = vec_capacity l.tabs - length l.tabs.items;
+      sites = site_rooms l.sites.numbers.entries;
     } };
 
-    ghost invariant = { λ l. is_rising (map (λ t. t.plain) l.tabs.items) ≡ true };
+    ghost invariant = { λ l. AreIndexed (map (λ t. t.plain) l.tabs.items) l.sites.numbers };
 }
 
 impl Live {
@@ -56,6 +63,7 @@ impl Live {
     {
         Live {
             tabs: Vec::new(alloc),
+            sites: SiteTabs::new(alloc),
         }
     }
 
@@ -83,15 +91,19 @@ impl Live {
         }
     }
 
-    /// Makes room for one `put_tab` of this tab, which is open or new.
-    pub fn reserve(&mut self, tab: u16) -> Result<(), NoMemory>
-        ensures reserved { OnOk result (is_reserved tab self.new ≡ true) }
+    /// Makes room for one `put_tab` of these documents into this tab, which is open or new.
+    pub fn reserve(&mut self, tab: u16, made: &Tab) -> Result<(), NoMemory>
+        ensures reserved { OnOk result (is_reserved tab made.now self.new ≡ true) }
         ensures same { (self.new.tabs ≡ self.old.tabs) × (self.new.ready ≡ self.old.ready) }
         ensures room { self.old.room ≤ self.new.room }
-        ensures open { is_open tab self.old.tabs ≡ true → self.new ≡ self.old }
-        ensures memory { OnErr result (is_reserved tab self.old ≡ false) }
-        ensures unchanged { OnErr result (self.new ≡ self.old) }
+        ensures open { is_open tab self.old.tabs ≡ true → self.new.room ≡ self.old.room }
+        ensures kept { (site : Site) → has_site_room (plain_site site) self.old ≡ true
+            → has_site_room (plain_site site) self.new ≡ true }
+        ensures memory { OnErr result (is_reserved tab made.now self.old ≡ false) }
+        ensures unchanged { OnErr result (self.new.room ≡ self.old.room) }
     {
+        let alloc = *self.tabs.allocator();
+        self.sites.reserve(alloc, made.top_site())?;
         if place_of(self.tabs.as_slice(), tab).is_err() {
             self.tabs.reserve(1)?;
         }
@@ -101,14 +113,23 @@ impl Live {
     /// Puts these documents into a tab, which is open or new. `fresh` is the frame whose document
     /// was replaced, if one was: its events go. So do those of frames that `made` lacks.
     pub fn put_tab(&mut self, tab: u16, made: Tab, fresh: Option<u8>)
-        requires reserved { is_reserved tab self.old ≡ true }
+        requires reserved { is_reserved tab made self.old ≡ true }
         ensures put { self.new.tabs ≡ tabs_put tab made fresh self.old.tabs }
         ensures room { self.new.room ≡ room_put tab self.old }
         ensures kept { StayReadyBut (goes tab made fresh) self.old self.new }
     {
         match place_of(self.tabs.as_slice(), tab) {
-            Ok(place) => self.tabs[place].put(made, fresh),
+            Ok(place) => {
+                move_tab(
+                    &mut self.sites,
+                    tab,
+                    self.tabs[place].top_site(),
+                    made.top_site(),
+                );
+                self.tabs[place].put(made, fresh);
+            }
             Err(place) => {
+                self.sites.put(made.top_site(), tab);
                 let opened = OpenTab::new(*self.tabs.allocator(), tab, made);
                 insert_at(&mut self.tabs, place, opened);
             }
@@ -122,130 +143,14 @@ impl Live {
         ensures kept { StayReadyBut (λ at. at.tab == tab) self.old self.new }
     {
         if let Ok(place) = place_of(self.tabs.as_slice(), tab) {
+            self.sites.drop(self.tabs[place].top_site(), tab);
             self.tabs.remove(place);
-        }
-    }
-
-    /// Every document that has a storage key, once, with that key: by tab number and then by frame
-    /// number. An opaque document has none.
-    ///
-    /// Each tab is asked for the numbers from 0 to its highest.
-    pub fn documents(&self) -> Result<Vec<(Label, StorageKey)>, NoMemory>
-        ensures documents { IfOk result (λ list.
-            map plain_keyed list.items ≡ documents self.now.tabs) }
-        ensures once { IfOk result (λ list. are_distinct (map (λ d. d.0) list.items) ≡ true) }
-        ensures there { IfOk result (λ list.
-            list_all (λ d. has_document self.now.tabs d.0) list.items ≡ true) }
-        ensures rising { is_rising self.now.tabs ≡ true }
-    {
-        self.list(None)
-    }
-
-    /// The documents whose key is under a top-level site, in the order of `documents`.
-    ///
-    /// A tab whose top document is at another site costs one comparison of sites and no memory.
-    pub fn documents_under(&self, site: &Site) -> Result<Vec<(Label, StorageKey)>, NoMemory>
-        ensures documents { IfOk result (λ list.
-            map plain_keyed list.items ≡ documents_under (plain_site site.now) self.now.tabs) }
-        ensures once { IfOk result (λ list. are_distinct (map (λ d. d.0) list.items) ≡ true) }
-        ensures there { IfOk result (λ list.
-            list_all (λ d. has_document self.now.tabs d.0) list.items ≡ true) }
-        ensures rising { is_rising self.now.tabs ≡ true }
-    {
-        self.list(Some(site))
-    }
-
-    /// Makes room for one event in the queue of each of these documents, which are there.
-    pub fn reserve_queues(&mut self, to: &[Label]) -> Result<(), NoMemory>
-        requires there { list_all (has_document self.old.tabs) to.now ≡ true }
-        ensures ready { OnOk result (list_all (is_ready self.new) to.now ≡ true) }
-        ensures memory { OnErr result (list_all (is_ready self.old) to.now ≡ false) }
-        ensures kept { StayReadyBut (λ at. false) self.old self.new }
-        ensures same { (self.new.tabs ≡ self.old.tabs) × (self.new.room ≡ self.old.room) }
-    {
-        for at in to {
-            self.reserve_queue(*at)?;
-        }
-        Ok(())
-    }
-
-    /// Puts each event into the queue of its document, or counts it as lost where 1,024 wait.
-    pub fn send(&mut self, events: Vec<(Label, Event)>)
-        requires ready { list_all (λ entry. is_ready self.old entry.0) events.items ≡ true }
-        requires distinct { are_distinct (map (λ entry. entry.0) events.items) ≡ true }
-        ensures sent { self.new.tabs ≡ sent (map plain_sent events.items) self.old.tabs }
-        ensures kept { StayReadyBut (is_told (map plain_sent events.items)) self.old self.new }
-        ensures room { self.new.room ≡ self.old.room }
-    {
-        for (at, event) in events {
-            self.push_event(at, event);
-        }
-    }
-
-    /// Gives the events that wait for a document, the oldest first, and the number of lost ones,
-    /// and leaves none. A document that is not there has none.
-    pub fn take_events(&mut self, at: Label) -> (Vec<Event>, u32)
-        ensures given { let before = queue_at self.old.tabs at in
-            (map plain_event result.0.items ≡ before.events) × (result.1 ≡ before.lost) }
-        ensures taken { self.new.tabs ≡ taken at self.old.tabs }
-        ensures kept { StayReadyBut (λ other. same_label other at) self.old self.new }
-        ensures room { self.new.room ≡ self.old.room }
-    {
-        match place_of(self.tabs.as_slice(), at.tab) {
-            Ok(place) => self.tabs[place].take(at.frame),
-            Err(_) => (Vec::new(*self.tabs.allocator()), 0),
-        }
-    }
-
-    // The documents that have a storage key, of all tabs or under one site.
-    fn list(&self, site: Option<&Site>) -> Result<Vec<(Label, StorageKey)>, NoMemory>
-        ensures listed { IfOk result (λ list. map plain_keyed list.items
-            ≡ listed (option_map plain_site (option_copied site.entry)) self.now.tabs) }
-        ensures once { IfOk result (λ list. are_distinct (map (λ d. d.0) list.items) ≡ true) }
-        ensures there { IfOk result (λ list.
-            list_all (λ d. has_document self.now.tabs d.0) list.items ≡ true) }
-        ensures rising { is_rising self.now.tabs ≡ true }
-    {
-        let alloc = *self.tabs.allocator();
-        let mut documents = Vec::new(alloc);
-        for tab in &self.tabs {
-            if tab.is_at(site) {
-                tab.list_documents(alloc, &mut documents)?;
-            }
-        }
-        Ok(documents)
-    }
-
-    // Makes room for one event in the queue of a document.
-    fn reserve_queue(&mut self, at: Label) -> Result<(), NoMemory>
-        requires there { has_document self.old.tabs at ≡ true }
-        ensures reserved { OnOk result (is_ready self.new at ≡ true) }
-        ensures memory { OnErr result (is_ready self.old at ≡ false) }
-        ensures kept { StayReadyBut (λ other. false) self.old self.new }
-        ensures same { (self.new.tabs ≡ self.old.tabs) × (self.new.room ≡ self.old.room) }
-    {
-        let alloc = *self.tabs.allocator();
-        match place_of(self.tabs.as_slice(), at.tab) {
-            Ok(place) => self.tabs[place].reserve(alloc, at.frame),
-            Err(_) => Ok(()),
-        }
-    }
-
-    // Puts an event into the queue of a document, or counts it as lost.
-    fn push_event(&mut self, at: Label, event: Event)
-        requires ready { is_ready self.old at ≡ true }
-        ensures sent { self.new.tabs ≡ sent ((at, plain_event event) ∷ []) self.old.tabs }
-        ensures kept { StayReadyBut (λ other. same_label other at) self.old self.new }
-        ensures room { self.new.room ≡ self.old.room }
-    {
-        if let Ok(place) = place_of(self.tabs.as_slice(), at.tab) {
-            self.tabs[place].push(at.frame, event);
         }
     }
 }
 
-// The place of the tab of a number, or the place where it would stand.
-fn place_of(tabs: &[OpenTab], number: u16) -> Result<usize, usize>
+/// The place of the tab of a number, or the place where it would stand.
+pub fn place_of(tabs: &[OpenTab], number: u16) -> Result<usize, usize>
     requires { is_rising (map (λ t. t.plain) tabs.now) ≡ true }
     ensures place { let open_tabs = map (λ t. t.plain) tabs.now in
         MatchResult result (IsAt number open_tabs) (IsGap number open_tabs) }
@@ -267,6 +172,22 @@ fn place_after(tabs: &[OpenTab], after: Option<u16>) -> usize
     match place_of(tabs, number) {
         Ok(place) => place + 1,
         Err(place) => place,
+    }
+}
+
+// Moves a tab from one site to another.
+fn move_tab(sites: &mut SiteTabs, number: u16, from: &Site, to: &Site)
+    requires room { has_room (plain_site to.now) sites.old.numbers ≡ true }
+    requires rising { are_rising (listed_at (plain_site to.now) sites.old.numbers) ≡ true }
+    requires absent { same_plain_site (plain_site from.now) (plain_site to.now) ≡ false
+        → list_any (λ n. n == number) (listed_at (plain_site to.now) sites.old.numbers) ≡ false }
+    ensures moved { (site : Site) → listed_at (plain_site site) sites.new.numbers
+        ≡ moved number (plain_site from.now) (plain_site to.now) (plain_site site)
+        (listed_at (plain_site site) sites.old.numbers) }
+{
+    if !same_site(from, to) {
+        sites.drop(from, number);
+        sites.put(to, number);
     }
 }
 

@@ -1,14 +1,18 @@
 //! An open tab, with the queues of its documents.
-ghost use Rattle.std.specs.Prelude.{◌≡◌, ◌==◌, ◌++◌, [], IfOk, OnErr, OnOk, false, filter, map, not, option_copied, option_map, true, if◌then◌else◌};
+ghost use Rattle.std.specs.Prelude.{◌≡◌, ◌≢◌, ◌==◌, ◌++◌, Err, IfOk, OnErr, OnOk, None, Some, false, map, not, option_map, true};
 ghost use Rattle.std.specs.Option.{option_to_list};
+ghost use Rattle.agent_base.specs.Answers.{Answers};
 ghost use Rattle.storage_events.specs.Event.{plain_event};
 ghost use Rattle.storage_key.specs.Plain.{plain_key};
-ghost use Rattle.origin_site.specs.Plain.{plain_site};
-ghost use Rattle.frame_tree.specs.Tree.{IsTree, has_frame, document_of, top_site};
-ghost use Rattle.frame_tree.specs.Plain.{plain_document};
-ghost use Rattle.live_state.specs.Documents.{documents_in, key_of_frame, keyed, plain_keyed};
-ghost use Rattle.live_state.specs.Held.{FramesStayReadyBut, changed_at};
-ghost use Rattle.live_state.specs.Listed.{is_listed};
+ghost use Rattle.origin_site.specs.Plain.{plain_address, plain_site};
+ghost use Rattle.frame_tree.specs.Calls.{IsDoneAt, activated, added, navigated, without};
+ghost use Rattle.frame_tree.specs.Tree.{IsTree, has_frame, top_site};
+ghost use Rattle.frame_tree.specs.Plain.{plain_sandbox};
+ghost use Rattle.frame_tree.specs.declared.tab.TreeFault.{TreeFault};
+ghost use Rattle.live_state.specs.Documents.{documents_in, keyed, plain_keyed};
+ghost use Rattle.live_state.specs.ExistingQueues.{FramesStayReadyBut, changed_at};
+ghost use Rattle.live_state.specs.FramesInPlace.{IsRemade};
+ghost use Rattle.live_state.specs.Hearers.{hearers_in, hearing};
 ghost use Rattle.live_state.specs.Queues.{is_among, queue_told};
 ghost use Rattle.live_state.specs.Tabs.{HasQueues, empty_queue, made_tab, queue_of, stays};
 
@@ -16,12 +20,13 @@ use crate::frame_queue::{
     FrameQueue, keep_queues, make_queue, push_event, reserve_queue, take_events,
 };
 use agent_base::{Label, NoMemory};
-use frame_tree::{Document, Tab};
-use origin_site::{Site, same_site};
+use frame_tree::{NoFrame, Sandbox, Tab, TreeFault};
+use origin_site::{Address, Site};
 use std::alloc::Global;
 use std::marker::Model;
-use storage_events::Event;
-use storage_key::{StorageKey, key_of};
+use storage_events::{AreaKind, Event, hears};
+use storage_key::StorageKey;
+use suffix_list::SuffixList;
 
 /// An open tab. A frame whose document has heard of no event may have no queue yet.
 #[derive(Debug, Drop)]
@@ -33,16 +38,16 @@ pub struct OpenTab {
 
 impl Model for OpenTab {
     ghost use Rattle.std.specs.Prelude.{◌≡◌, true};
-    ghost use Rattle.live_state.specs.Held.{TabView, is_held, queues_of, ready_of};
+    ghost use Rattle.live_state.specs.ExistingQueues.{PlainOpenTab, are_of_frames, queues_of, ready_of};
 
-    ghost Value = { TabView };
+    ghost Value = { PlainOpenTab };
 
     ghost view = { λ t. record {
       plain = record { number = t.number; frames = t.tab; queues = queues_of t.tab t.queues.items };
       ready = ready_of t.tab t.queues.items;
     } };
 
-    ghost invariant = { λ t. is_held t.tab t.queues.items ≡ true };
+    ghost invariant = { λ t. are_of_frames t.tab t.queues.items ≡ true };
 }
 
 impl OpenTab {
@@ -82,6 +87,100 @@ impl OpenTab {
         self.tab = made;
     }
 
+    /// Adds a frame, as `Tab::add` does. Its queue is empty, and the others stay.
+    pub fn add_frame(
+        &mut self,
+        parent: u8,
+        frame: u8,
+        address: Address,
+        sandbox: Sandbox,
+        deny: bool,
+        list: &SuffixList,
+    ) -> Result<(), TreeFault>
+        ensures answer { Answers (λ _. self.new.plain.frames) TreeFault.NoMemory
+            (added list.now.rules parent frame (plain_address address) (plain_sandbox sandbox) deny
+            self.old.plain.frames) result }
+        ensures decided { (why : TreeFault) → added list.now.rules parent frame
+            (plain_address address) (plain_sandbox sandbox) deny self.old.plain.frames ≡ Err why
+            → result ≡ Err why }
+        ensures put { OnOk result (IsRemade None self.old.plain self.new.plain) }
+        ensures unchanged { OnErr result (self.new ≡ self.old) }
+        ensures number { self.new.plain.number ≡ self.old.plain.number }
+        ensures site { top_site self.new.plain.frames ≡ top_site self.old.plain.frames }
+        ensures tree { IsTree self.new.plain.frames }
+        ensures kept { FramesStayReadyBut (λ n. not (stays None self.new.plain.frames n))
+            self.old self.new }
+    {
+        self.tab.add(parent, frame, address, sandbox, deny, list)?;
+        keep_queues(&mut self.queues, &self.tab, None);
+        Ok(())
+    }
+
+    /// Loads a document into a frame below the top, as `Tab::navigate` does. Its queue is empty,
+    /// and those of frames that are there still stay.
+    pub fn navigate_frame(
+        &mut self,
+        frame: u8,
+        address: Address,
+        keep_flag: bool,
+        list: &SuffixList,
+    ) -> Result<(), TreeFault>
+        requires { frame ≢ 0 }
+        ensures answer { Answers (λ _. self.new.plain.frames) TreeFault.NoMemory
+            (navigated list.now.rules frame (plain_address address) keep_flag
+            self.old.plain.frames) result }
+        ensures decided { (why : TreeFault) → navigated list.now.rules frame
+            (plain_address address) keep_flag self.old.plain.frames ≡ Err why
+            → result ≡ Err why }
+        ensures put { OnOk result (IsRemade (Some frame) self.old.plain self.new.plain) }
+        ensures unchanged { OnErr result (self.new ≡ self.old) }
+        ensures number { self.new.plain.number ≡ self.old.plain.number }
+        ensures site { top_site self.new.plain.frames ≡ top_site self.old.plain.frames }
+        ensures tree { IsTree self.new.plain.frames }
+        ensures kept { FramesStayReadyBut (λ n. not (stays (Some frame) self.new.plain.frames n))
+            self.old self.new }
+    {
+        self.tab.navigate(frame, address, keep_flag, list)?;
+        keep_queues(&mut self.queues, &self.tab, Some(frame));
+        Ok(())
+    }
+
+    /// Removes a frame below the top, as `Tab::remove` does. The queues of frames that are there
+    /// still stay.
+    pub fn remove_frame(&mut self, frame: u8) -> Result<(), NoFrame>
+        requires { frame ≢ 0 }
+        ensures removed { IsDoneAt frame self.old.plain.frames self.new.plain.frames
+            (without frame self.old.plain.frames) result }
+        ensures put { OnOk result (IsRemade None self.old.plain self.new.plain) }
+        ensures unchanged { OnErr result (self.new ≡ self.old) }
+        ensures number { self.new.plain.number ≡ self.old.plain.number }
+        ensures site { top_site self.new.plain.frames ≡ top_site self.old.plain.frames }
+        ensures tree { IsTree self.new.plain.frames }
+        ensures kept { FramesStayReadyBut (λ n. not (stays None self.new.plain.frames n))
+            self.old self.new }
+    {
+        self.tab.remove(frame)?;
+        keep_queues(&mut self.queues, &self.tab, None);
+        Ok(())
+    }
+
+    /// Activates a document, as `Tab::activate` does. Every queue stays.
+    pub fn activate(&mut self, frame: u8, now: i64) -> Result<(), NoFrame>
+        ensures activated { IsDoneAt frame self.old.plain.frames self.new.plain.frames
+            (activated frame now self.old.plain.frames) result }
+        ensures put { OnOk result (IsRemade None self.old.plain self.new.plain) }
+        ensures unchanged { OnErr result (self.new ≡ self.old) }
+        ensures number { self.new.plain.number ≡ self.old.plain.number }
+        ensures site { top_site self.new.plain.frames ≡ top_site self.old.plain.frames }
+        ensures tree { IsTree self.new.plain.frames }
+        ensures kept { FramesStayReadyBut (λ n. not (stays None self.new.plain.frames n))
+            self.old self.new }
+    {
+        self.tab.activate(frame, now)?;
+        keep_queues(&mut self.queues, &self.tab, None);
+        Ok(())
+    }
+
     /// Makes room for one event in the queue of a frame that is there.
     pub fn reserve(&mut self, alloc: Global, frame: u8) -> Result<(), NoMemory>
         requires there { has_frame frame self.old.plain.frames ≡ true }
@@ -115,18 +214,57 @@ impl OpenTab {
         take_events(&mut self.queues, frame)
     }
 
-    /// Whether the top document is at a site. Without a site every tab is asked for its documents.
-    pub fn is_at(&self, site: Option<&Site>) -> bool
-        ensures listed { let documents = documents_in self.now.plain in
-            filter (is_listed (option_map plain_site (option_copied site.entry))) documents
-            ≡ (if result then documents else []) }
+    /// The site of the top document.
+    pub fn top_site(&self) -> &Site
+        ensures site { top_site self.now.plain.frames ≡ Some (plain_site result.now) }
+        ensures tree { IsTree self.now.plain.frames }
     {
-        let Some(site) = site else {
-            return true;
+        self.tab.top_site()
+    }
+
+    /// Puts the documents that hear of a change behind the others, by their frames' numbers.
+    pub fn list_hearers(
+        &self,
+        kind: AreaKind,
+        writer: Label,
+        key: &StorageKey,
+        to: &mut Vec<Label>,
+    ) -> Result<(), NoMemory>
+        ensures listed { OnOk result (to.new.items
+            ≡ to.old.items ++ hearers_in kind writer (plain_key key.now) self.now.plain) }
+    {
+        for frame in 0..=self.tab.last_frame() {
+            self.list_hearer(kind, writer, key, frame, to)?;
+        }
+        Ok(())
+    }
+
+    // Puts the document of a frame behind the others, if it hears of a change.
+    fn list_hearer(
+        &self,
+        kind: AreaKind,
+        writer: Label,
+        key: &StorageKey,
+        frame: u8,
+        to: &mut Vec<Label>,
+    ) -> Result<(), NoMemory>
+        ensures listed { let found = keyed self.now.plain.number self.now.plain.frames frame in
+            OnOk result (to.new.items
+            ≡ to.old.items ++ hearing kind writer (plain_key key.now) (option_to_list found)) }
+    {
+        let Some(own) = self.tab.key(frame) else {
+            return Ok(());
         };
-        match top_site(&self.tab) {
-            Some(own) => same_site(site, own),
-            None => false,
+        let at = Label {
+            tab: self.number,
+            frame,
+        };
+        if !hears(kind, writer, key, at, own) {
+            return Ok(());
+        }
+        match to.push(at) {
+            Ok(()) => Ok(()),
+            Err(_) => Err(NoMemory),
         }
     }
 
@@ -156,52 +294,16 @@ impl OpenTab {
             ≡ map plain_keyed documents.old.items
             ++ option_to_list (keyed self.now.plain.number self.now.plain.frames frame)) }
     {
-        let Some(key) = key_in(alloc, &self.tab, frame)? else {
+        let Some(key) = self.tab.key(frame) else {
             return Ok(());
         };
         let at = Label {
             tab: self.number,
             frame,
         };
-        match documents.push((at, key)) {
+        match documents.push((at, key.copy(alloc)?)) {
             Ok(()) => Ok(()),
             Err(_) => Err(NoMemory),
         }
     }
-}
-
-// The site of the top document.
-fn top_site(tab: &Tab) -> Option<&Site>
-    ensures site { option_map plain_site (option_copied result) ≡ top_site tab.now }
-    ensures tree { IsTree tab.now }
-{
-    match tab.document(0) {
-        Some(top) => top.site.as_ref(),
-        None => None,
-    }
-}
-
-// The storage key of a frame's document, if it has one.
-fn key_in(alloc: Global, tab: &Tab, frame: u8) -> Result<Option<StorageKey>, NoMemory>
-    ensures key { IfOk result (λ key. option_map plain_key key ≡ key_of_frame frame tab.now) }
-{
-    match tab.document(frame) {
-        Some(document) => document_key(alloc, tab, frame, document),
-        None => Ok(None),
-    }
-}
-
-fn document_key(
-    alloc: Global,
-    tab: &Tab,
-    frame: u8,
-    document: &Document,
-) -> Result<Option<StorageKey>, NoMemory>
-    requires { Some (plain_document document.now) ≡ document_of frame tab.now }
-    ensures { IfOk result (λ key. option_map plain_key key ≡ key_of_frame frame tab.now) }
-{
-    let Ok(chain) = tab.chain(frame) else {
-        return Err(NoMemory);
-    };
-    key_of(alloc, chain.as_slice(), document.origin.as_ref())
 }

@@ -3,38 +3,38 @@ use Rattle.std.proofs.Common.{◌≡◌, List, Some, None, true, false, ap, refl
 use Rattle.storage_events.specs.Event.{plain_event}
 use Rattle.storage_events.specs.Queue.{events_after}
 use Rattle.live_state.specs.declared.frame_queue.FrameQueue.{FrameQueue}
-use Rattle.live_state.specs.Held.{ready_by}
+use Rattle.live_state.specs.ExistingQueues.{ready_by}
 use Rattle.live_state.specs.Queues.{queue_told}
-use Rattle.live_state.proofs.QueueLemmas.{changed-at, held-here, is_held-written, no-place, place_in}
+use Rattle.live_state.proofs.QueueLemmas.{changed-at, existing-here, are_of_frames-written, no-place, place_in}
 use Rattle.live_state.proofs.frame_queue.push_event.Goals as goal
 
 pub push-requires : goal.push-requires
 push-requires c =
-    let held : List FrameQueue = c.args.queues.now.items in
-    let is : place_in c.args.frame held ≡ Some c.in-Some.place = ap (place_in c.args.frame) (sym c.as_slice.ensures.value) ∙ sym c.in-Some.ensures.place in
+    let existing : List FrameQueue = c.args.queues.now.items in
+    let is : place_in c.args.frame existing ≡ Some c.in-Some.place = ap (place_in c.args.frame) (sym c.as_slice.ensures.value) ∙ sym c.in-Some.ensures.place in
     record {
       reserved =
-          sym (ap ready_by (held-here c.args.frame held c.in-Some.place is c.index_mut.result.now c.index_mut.ensures.value))
+          sym (ap ready_by (existing-here c.args.frame existing c.in-Some.place is c.index_mut.result.now c.index_mut.ensures.value))
           ∙ c.requires.ready;
     }
 
 pub returns-in-Some-clause-pushed : goal.returns-in-Some-clause-pushed
 returns-in-Some-clause-pushed c =
-    let held : List FrameQueue = c.args.queues.now.items in
-    let is : place_in c.args.frame held ≡ Some c.in-Some.place = ap (place_in c.args.frame) (sym c.as_slice.ensures.value) ∙ sym c.in-Some.ensures.place in
-    changed-at c.args.frame held c.in-Some.place is c.index_mut.result.now c.index_mut.ensures.value _ refl
+    let existing : List FrameQueue = c.args.queues.now.items in
+    let is : place_in c.args.frame existing ≡ Some c.in-Some.place = ap (place_in c.args.frame) (sym c.as_slice.ensures.value) ∙ sym c.in-Some.ensures.place in
+    changed-at c.args.frame existing c.in-Some.place is c.index_mut.result.now c.index_mut.ensures.value _ refl
     (queue_told (Some (plain_event c.args.event)))
     (ap (λ events. record { frame = c.args.frame; events = events; lost = c.push.new.self.lost }) c.push.ensures.events
     ∙ ap (λ lost. record { frame = c.args.frame; events = events_after c.index_mut.result.now.queue.events (plain_event c.args.event); lost = lost }) c.push.ensures.lost)
 
-pub returns-in-Some-clause-held : goal.returns-in-Some-clause-held
-returns-in-Some-clause-held c =
-    let held : List FrameQueue = c.args.queues.now.items in
-    let is : place_in c.args.frame held ≡ Some c.in-Some.place = ap (place_in c.args.frame) (sym c.as_slice.ensures.value) ∙ sym c.in-Some.ensures.place in
-    λ frames all. is_held-written c.args.frame held c.in-Some.place is c.index_mut.result.now c.index_mut.ensures.value _ refl frames all
+pub returns-in-Some-clause-of_frames : goal.returns-in-Some-clause-of_frames
+returns-in-Some-clause-of_frames c =
+    let existing : List FrameQueue = c.args.queues.now.items in
+    let is : place_in c.args.frame existing ≡ Some c.in-Some.place = ap (place_in c.args.frame) (sym c.as_slice.ensures.value) ∙ sym c.in-Some.ensures.place in
+    λ frames all. are_of_frames-written c.args.frame existing c.in-Some.place is c.index_mut.result.now c.index_mut.ensures.value _ refl frames all
 
 pub returns-in_default-clause-pushed : goal.returns-in_default-clause-pushed
 returns-in_default-clause-pushed c =
-    let held : List FrameQueue = c.args.queues.now.items in
-    let is : place_in c.args.frame held ≡ None = ap (place_in c.args.frame) (sym c.as_slice.ensures.value) ∙ sym c.in_default.ensures.place in
-    let no : false ≡ true = sym (ap ready_by (no-place c.args.frame held is)) ∙ c.requires.ready in absurd (cc no)
+    let existing : List FrameQueue = c.args.queues.now.items in
+    let is : place_in c.args.frame existing ≡ None = ap (place_in c.args.frame) (sym c.as_slice.ensures.value) ∙ sym c.in_default.ensures.place in
+    let no : false ≡ true = sym (ap ready_by (no-place c.args.frame existing is)) ∙ c.requires.ready in absurd (cc no)

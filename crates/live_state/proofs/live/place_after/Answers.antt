@@ -2,21 +2,21 @@
 use Rattle.std.proofs.Common.{◌+◌, List, ap, sym, ◌∙◌}
 use Rattle.std.specs.Prelude.{option_map, slice_get}
 use Rattle.std.proofs.Math.Numerals.{add-one}
-use Rattle.live_state.specs.Held.{TabView}
+use Rattle.live_state.specs.ExistingQueues.{PlainOpenTab}
 use Rattle.live_state.specs.Tabs.{next_tab}
-use Rattle.live_state.proofs.PlacesLemmas.{next-at, next-first, next-gap}
+use Rattle.live_state.proofs.TabPlaceLemmas.{next-at, next-first, next-gap}
 use Rattle.live_state.proofs.SearchLemmas.{plain_of, number_at}
 use Rattle.live_state.proofs.live.place_after.Goals as goal
 
 pub returns-in_default : goal.returns-in_default
 returns-in_default c =
-    let ts : List TabView = c.args.tabs.now in record {
+    let ts : List PlainOpenTab = c.args.tabs.now in record {
       place = ap (λ o. next_tab o (plain_of ts)) c.in_default.is ∙ next-first (plain_of ts) ∙ number_at ts 0;
     }
 
 pub returns-in-Ok : goal.returns-in-Ok
 returns-in-Ok c =
-    let ts : List TabView = c.args.tabs.now in record {
+    let ts : List PlainOpenTab = c.args.tabs.now in record {
       place =
           ap (λ o. next_tab o (plain_of ts)) c.in-Some.is
           ∙ next-at c.in-Some.number (plain_of ts) c.in-Ok.place c.in-Ok.ensures.place
@@ -26,7 +26,7 @@ returns-in-Ok c =
 
 pub returns-in-Err : goal.returns-in-Err
 returns-in-Err c =
-    let ts : List TabView = c.args.tabs.now in record {
+    let ts : List PlainOpenTab = c.args.tabs.now in record {
       place =
           ap (λ o. next_tab o (plain_of ts)) c.in-Some.is
           ∙ next-gap c.in-Some.number (plain_of ts) c.in-Err.place c.in-Err.ensures.place

@@ -1,10 +1,27 @@
--- Without a site all documents are listed.
-use Rattle.std.proofs.Common.{◌∙◌}
-use Rattle.std.proofs.lemmas.Result.{IfOk-weaker}
-use Rattle.live_state.specs.Documents.{documents}
-use Rattle.live_state.proofs.UnderLemmas.{all-listed}
+-- All documents of the tabs are listed, each once.
+use Rattle.std.proofs.Common.{◌≡◌, true, map, ap, sym, ◌∙◌}
+use Rattle.std.proofs.lemmas.List.{take_all}
+use Rattle.live_state.specs.Documents.{documents, plain_keyed}
+use Rattle.live_state.specs.Tabs.{is_rising}
+use Rattle.live_state.proofs.OnceLemmas.{listed-once, listed-there}
 use Rattle.live_state.proofs.live.Live.documents.Goals as goal
 
-pub returns-clause-documents : goal.returns-clause-documents
-returns-clause-documents c =
-    IfOk-weaker c.list.result _ _ (λ list listed. listed ∙ all-listed (documents c.args.self.now.tabs)) c.list.ensures.listed
+pub returns-clause-once : goal.returns-clause-once
+returns-clause-once c =
+    let rising : is_rising c.args.self.now.tabs ≡ true = ap (λ live. is_rising live.tabs) (sym c.self.view_is) ∙ c.self.invariant.rising in
+    let all : map plain_keyed c.loop-tab.documents.items ≡ documents c.args.self.now.tabs =
+    c.loop-tab.invariant
+    ∙ ap (λ ts. documents (map (λ t. t.plain) ts))
+    (take_all c.loop-tab.tab-index c.deref-tab-items.result.now c.loop-tab-test.false ∙ c.deref-tab-items.ensures.value)
+    ∙ ap (λ live. documents live.tabs) c.self.view_is in
+    listed-once c.args.self.now.tabs c.loop-tab.documents.items rising all
+
+pub returns-clause-there : goal.returns-clause-there
+returns-clause-there c =
+    let rising : is_rising c.args.self.now.tabs ≡ true = ap (λ live. is_rising live.tabs) (sym c.self.view_is) ∙ c.self.invariant.rising in
+    let all : map plain_keyed c.loop-tab.documents.items ≡ documents c.args.self.now.tabs =
+    c.loop-tab.invariant
+    ∙ ap (λ ts. documents (map (λ t. t.plain) ts))
+    (take_all c.loop-tab.tab-index c.deref-tab-items.result.now c.loop-tab-test.false ∙ c.deref-tab-items.ensures.value)
+    ∙ ap (λ live. documents live.tabs) c.self.view_is in
+    listed-there c.args.self.now.tabs c.loop-tab.documents.items rising all

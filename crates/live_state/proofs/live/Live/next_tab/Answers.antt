@@ -3,13 +3,13 @@ use Rattle.std.proofs.Common.{◌≡◌, ◌<◌, ◌≤◌, List, length, map, 
 use Rattle.std.specs.Prelude.{option_map, slice_get}
 use Rattle.std.proofs.lemmas.Bool.Decides.{nat_tests}
 use Rattle.std.proofs.lemmas.Option.{slice_get_past, slice_get_read}
-use Rattle.live_state.specs.Held.{TabView}
+use Rattle.live_state.specs.ExistingQueues.{PlainOpenTab}
 use Rattle.live_state.specs.Tabs.{next_tab}
 use Rattle.live_state.proofs.live.Live.next_tab.Goals as goal
 
 pub returns-in-Some : goal.returns-in-Some
 returns-in-Some c =
-    let items : List TabView = c.deref.result.now in
+    let items : List PlainOpenTab = c.deref.result.now in
     let test = c.in-Some.ensures.lookup.0 in
     let low : c.place_after-place.result < length items = grind (arith, nat_tests) in
     let found : slice_get items c.place_after-place.result ≡ Some c.in-Some.found.now =
@@ -25,7 +25,7 @@ returns-in-Some c =
 
 pub returns-in-None : goal.returns-in-None
 returns-in-None c =
-    let items : List TabView = c.deref.result.now in
+    let items : List PlainOpenTab = c.deref.result.now in
     let test = c.in-None.ensures.lookup.0 in
     let past : length items ≤ c.place_after-place.result = grind (arith, nat_tests) in
     let found : slice_get items c.place_after-place.result ≡ None = slice_get_past items c.place_after-place.result past in

@@ -1,11 +1,12 @@
 -- One queue of one tab has one event more.
 use Rattle.std.proofs.Common.{◌<◌, List, [], ◌∷◌, length, ap, refl, sym, ◌∙◌, rules}
 use Rattle.storage_events.specs.Event.{plain_event}
-use Rattle.live_state.specs.Held.{TabView}
-use Rattle.live_state.specs.Places.{IsAt, IsGap}
+use Rattle.live_state.specs.ExistingQueues.{PlainOpenTab}
+use Rattle.live_state.specs.TabPlaces.{IsAt, IsGap}
 use Rattle.live_state.specs.Queues.{is_ready, sent, with_queues}
 use Rattle.live_state.proofs.LabelLemmas.{after_one, frame-differs, sent-here, sent-others}
-use Rattle.live_state.proofs.LiveLemmas.{changed-none_of, changed-set, ready-at, ready-kept, rising-set}
+use Rattle.live_state.proofs.IndexStepLemmas.{indexed-queues}
+use Rattle.live_state.proofs.LiveLemmas.{changed-none_of, changed-set, ready-at, ready-kept}
 use Rattle.live_state.proofs.SearchLemmas.{plain_of}
 use Rattle.live_state.proofs.StepLemmas.{number-here}
 use Rattle.live_state.proofs.live.Live.push_event.Goals as goal
@@ -13,7 +14,7 @@ use Rattle.live_state.proofs.live.Live.push_event.Goals as goal
 pub push-requires : goal.push-requires
 push-requires c = record {
   ready =
-      let items : List TabView = c.self.inside.tabs.items in
+      let items : List PlainOpenTab = c.self.inside.tabs.items in
       let at : IsAt c.args.at.tab (plain_of items) c.in-Ok.place = rw c.as_slice.ensures.value at c.in-Ok.ensures.place in
       sym (ready-at c.args.at.tab items c.in-Ok.place at c.index_mut.result.now (search rules) c.index_mut.ensures.value c.args.at refl)
       ∙ ap (λ live. is_ready live c.args.at) c.self.view_is
@@ -22,19 +23,18 @@ push-requires c = record {
 
 pub invariant_of-self : goal.invariant_of-self
 invariant_of-self c =
-    let items : List TabView = c.self.inside.tabs.items in
+    let items : List PlainOpenTab = c.self.inside.tabs.items in
     let at : IsAt c.args.at.tab (plain_of items) c.in-Ok.place = rw c.as_slice.ensures.value at c.in-Ok.ensures.place in
-    let old : TabView = c.index_mut.result.now in
+    let old : PlainOpenTab = c.index_mut.result.now in
     let within : c.in-Ok.place < length items = search rules in
-    let number = number-here c.args.at.tab items c.in-Ok.place at old within c.index_mut.ensures.value in
-    rising-set c.args.at.tab items c.in-Ok.place at old within c.index_mut.ensures.value c.push.new.self
-    (ap (λ t. t.number) c.push.ensures.pushed ∙ number) c.self.invariant
+    indexed-queues c.args.at.tab items c.in-Ok.place at old within c.index_mut.ensures.value c.self.inside.sites.numbers c.self.invariant c.push.new.self
+    (ap (λ t. t.number) c.push.ensures.pushed) (ap (λ t. t.frames) c.push.ensures.pushed)
 
 pub returns-in-Ok-clause-sent : goal.returns-in-Ok-clause-sent
 returns-in-Ok-clause-sent c =
-    let items : List TabView = c.self.inside.tabs.items in
+    let items : List PlainOpenTab = c.self.inside.tabs.items in
     let at : IsAt c.args.at.tab (plain_of items) c.in-Ok.place = rw c.as_slice.ensures.value at c.in-Ok.ensures.place in
-    let old : TabView = c.index_mut.result.now in
+    let old : PlainOpenTab = c.index_mut.result.now in
     let within : c.in-Ok.place < length items = search rules in
     let event = plain_event c.args.event in
     let number = number-here c.args.at.tab items c.in-Ok.place at old within c.index_mut.ensures.value in
@@ -44,9 +44,9 @@ returns-in-Ok-clause-sent c =
 
 pub returns-in-Ok-clause-kept : goal.returns-in-Ok-clause-kept
 returns-in-Ok-clause-kept c = λ other differ ready.
-    let items : List TabView = c.self.inside.tabs.items in
+    let items : List PlainOpenTab = c.self.inside.tabs.items in
     let at : IsAt c.args.at.tab (plain_of items) c.in-Ok.place = rw c.as_slice.ensures.value at c.in-Ok.ensures.place in
-    let old : TabView = c.index_mut.result.now in
+    let old : PlainOpenTab = c.index_mut.result.now in
     let within : c.in-Ok.place < length items = search rules in
     let number = number-here c.args.at.tab items c.in-Ok.place at old within c.index_mut.ensures.value in
     ready-kept c.args.at.tab items c.in-Ok.place at old within c.index_mut.ensures.value c.push.new.self
@@ -56,7 +56,7 @@ returns-in-Ok-clause-kept c = λ other differ ready.
 
 pub returns-in_default-clause-sent : goal.returns-in_default-clause-sent
 returns-in_default-clause-sent c =
-    let items : List TabView = c.self.inside.tabs.items in
+    let items : List PlainOpenTab = c.self.inside.tabs.items in
     let gap : IsGap c.args.at.tab (plain_of items) c.in_default.field-0 = rw c.as_slice.ensures.value at c.in_default.ensures.place in
     let event = plain_event c.args.event in
     sym (ap (λ live. live.tabs) c.self.view_is)

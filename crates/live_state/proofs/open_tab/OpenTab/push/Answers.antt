@@ -1,7 +1,7 @@
 -- One queue of the tab has one event more.
 use Rattle.std.proofs.Common.{ap, ◌∙◌, Some}
 use Rattle.storage_events.specs.Event.{plain_event}
-use Rattle.live_state.specs.Held.{changed_at}
+use Rattle.live_state.specs.ExistingQueues.{changed_at}
 use Rattle.live_state.specs.Queues.{is_among, queue_told}
 use Rattle.live_state.proofs.TabLemmas.{queues-changed, ready-parts, ready-stays}
 use Rattle.live_state.proofs.open_tab.OpenTab.push.Goals as goal

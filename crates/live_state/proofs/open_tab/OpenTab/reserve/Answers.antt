@@ -3,7 +3,7 @@ use Rattle.std.proofs.Common.{◌≡◌, false, List, ap, sym, ◌∙◌}
 use Rattle.std.proofs.lemmas.Result.{on_err_weaker}
 use Rattle.frame_tree.specs.Tree.{has_frame}
 use Rattle.live_state.specs.declared.frame_queue.FrameQueue.{FrameQueue}
-use Rattle.live_state.specs.Held.{held_at, ready_by}
+use Rattle.live_state.specs.ExistingQueues.{existing_at, ready_by}
 use Rattle.live_state.specs.Queues.{is_among}
 use Rattle.live_state.proofs.ListLemmas.{fails_too, none_from}
 use Rattle.live_state.proofs.QueueLemmas.{on_err, told_by}
@@ -29,15 +29,15 @@ returns-clause-kept c = λ n but ready.
 
 pub returns-in_err-make_queue-clause-memory : goal.returns-in_err-make_queue-clause-memory
 returns-in_err-make_queue-clause-memory c =
-    let held : List FrameQueue = c.self.inside.queues.items in
-    let none : ready_by (held_at c.args.frame held) ≡ false = ap ready_by (none_from (held_at c.args.frame held) c.in_err-make_queue.ensures.memory) in
-    on_err c.from_residual.result (sym (ap (λ tab. is_among c.args.frame tab.ready) c.self.view_is) ∙ unready c.args.frame c.self.inside.tab held none)
+    let existing : List FrameQueue = c.self.inside.queues.items in
+    let none : ready_by (existing_at c.args.frame existing) ≡ false = ap ready_by (none_from (existing_at c.args.frame existing) c.in_err-make_queue.ensures.memory) in
+    on_err c.from_residual.result (sym (ap (λ tab. is_among c.args.frame tab.ready) c.self.view_is) ∙ unready c.args.frame c.self.inside.tab existing none)
 
 pub returns-clause-memory : goal.returns-clause-memory
 returns-clause-memory c =
-    let held : List FrameQueue = c.self.inside.queues.items in
+    let existing : List FrameQueue = c.self.inside.queues.items in
     on_err_weaker c.reserve_queue.result
     (λ isnt. sym (ap (λ tab. is_among c.args.frame tab.ready) c.self.view_is)
-    ∙ unready c.args.frame c.self.inside.tab held
-    (fails_too (ready_by (held_at c.args.frame held)) (ready_by (held_at c.args.frame c.make_queue.new.queues.items)) (c.make_queue.ensures.ready c.args.frame) isnt))
+    ∙ unready c.args.frame c.self.inside.tab existing
+    (fails_too (ready_by (existing_at c.args.frame existing)) (ready_by (existing_at c.args.frame c.make_queue.new.queues.items)) (c.make_queue.ensures.ready c.args.frame) isnt))
     c.reserve_queue.ensures.memory

@@ -1,18 +1,18 @@
 -- The queue of the frame is given and emptied.
 use Rattle.std.proofs.Common.{◌≡◌, ap, sym, ◌∙◌}
-use Rattle.live_state.specs.Held.{changed_at, held_at, plain_by}
+use Rattle.live_state.specs.ExistingQueues.{changed_at, existing_at, plain_by}
 use Rattle.live_state.specs.Queues.{is_among}
-use Rattle.live_state.specs.Tabs.{PlainQueue, empty_queue, queue_of}
-use Rattle.live_state.proofs.TabLemmas.{queue-held, queues-changed, ready-stays}
+use Rattle.live_state.specs.Tabs.{PlainFrameQueue, empty_queue, queue_of}
+use Rattle.live_state.proofs.TabLemmas.{queue-existing, queues-changed, ready-stays}
 use Rattle.live_state.proofs.open_tab.OpenTab.take.Goals as goal
 
 pub returns-clause-given : goal.returns-clause-given
 returns-clause-given c =
-    let before : plain_by c.args.frame (held_at c.args.frame c.self.inside.queues.items) ≡ queue_of c.args.frame c.args.self.now.plain.queues =
-    sym (queue-held c.args.frame c.self.inside.tab c.self.inside.queues.items c.self.invariant)
+    let before : plain_by c.args.frame (existing_at c.args.frame c.self.inside.queues.items) ≡ queue_of c.args.frame c.args.self.now.plain.queues =
+    sym (queue-existing c.args.frame c.self.inside.tab c.self.inside.queues.items c.self.invariant)
     ∙ ap (λ tab. queue_of c.args.frame tab.plain.queues) c.self.view_is in (
-      c.take_events.ensures.given.0 ∙ ap (λ (q : PlainQueue). q.events) before,
-      c.take_events.ensures.given.1 ∙ ap (λ (q : PlainQueue). q.lost) before,
+      c.take_events.ensures.given.0 ∙ ap (λ (q : PlainFrameQueue). q.events) before,
+      c.take_events.ensures.given.1 ∙ ap (λ (q : PlainFrameQueue). q.lost) before,
     )
 
 pub returns-clause-emptied : goal.returns-clause-emptied

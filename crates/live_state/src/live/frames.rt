@@ -1,0 +1,124 @@
+//! Changes of the frames of an open tab, in its place.
+ghost use Rattle.std.specs.Prelude.{◌≡◌, ◌≢◌, ◌<◌, Err, None, Some, OnErr, OnOk};
+ghost use Rattle.agent_base.specs.Answers.{Answers};
+ghost use Rattle.origin_site.specs.Plain.{plain_address};
+ghost use Rattle.frame_tree.specs.Calls.{IsDoneAt, activated, added, navigated, without};
+ghost use Rattle.frame_tree.specs.Plain.{plain_sandbox};
+ghost use Rattle.frame_tree.specs.Tree.{top_site};
+ghost use Rattle.frame_tree.specs.declared.tab.TreeFault.{TreeFault};
+ghost use Rattle.live_state.specs.FramesInPlace.{IsPutIn, frames_at};
+ghost use Rattle.live_state.specs.Queues.{StayReadyBut, goes};
+
+use crate::Live;
+use crate::live::place_of;
+use agent_base::Label;
+use frame_tree::{NoFrame, Sandbox, TreeFault};
+use origin_site::Address;
+use suffix_list::SuffixList;
+
+impl Live {
+    /// Adds a frame to an open tab, as `Tab::add` does. Its queue is empty, and the others stay.
+    ///
+    /// A tab that is not open has no frame, and so no parent.
+    pub fn add_frame(
+        &mut self,
+        at: Label,
+        parent: u8,
+        address: Address,
+        sandbox: Sandbox,
+        deny: bool,
+        list: &SuffixList,
+    ) -> Result<(), TreeFault>
+        ensures answer { let before = frames_at at.tab self.old.tabs in
+            Answers (λ _. frames_at at.tab self.new.tabs) TreeFault.NoMemory
+            (added list.now.rules parent at.frame (plain_address address) (plain_sandbox sandbox)
+            deny before) result }
+        ensures decided { let before = frames_at at.tab self.old.tabs in
+            (why : TreeFault) → added list.now.rules parent at.frame (plain_address address)
+            (plain_sandbox sandbox) deny before ≡ Err why → result ≡ Err why }
+        ensures put { OnOk result (IsPutIn at.tab None self.old.tabs self.new.tabs) }
+        ensures site { top_site (frames_at at.tab self.new.tabs)
+            ≡ top_site (frames_at at.tab self.old.tabs) }
+        ensures unchanged { OnErr result (self.new ≡ self.old) }
+        ensures room { (self.new.room ≡ self.old.room) × (self.new.sites ≡ self.old.sites) }
+        ensures kept { let made = frames_at at.tab self.new.tabs in
+            StayReadyBut (goes at.tab made None) self.old self.new }
+    {
+        match place_of(self.tabs.as_slice(), at.tab) {
+            Ok(place) => {
+                self.tabs[place].add_frame(parent, at.frame, address, sandbox, deny, list)
+            }
+            Err(_) => Err(TreeFault::NoFrame),
+        }
+    }
+
+    /// Loads a document into a frame below the top, as `Tab::navigate` does. Its queue is empty,
+    /// those of frames that go are gone, and the others stay.
+    pub fn navigate_frame(
+        &mut self,
+        at: Label,
+        address: Address,
+        keep_flag: bool,
+        list: &SuffixList,
+    ) -> Result<(), TreeFault>
+        requires { at.frame ≢ 0 }
+        ensures answer { let before = frames_at at.tab self.old.tabs in
+            Answers (λ _. frames_at at.tab self.new.tabs) TreeFault.NoMemory
+            (navigated list.now.rules at.frame (plain_address address) keep_flag before) result }
+        ensures decided { let before = frames_at at.tab self.old.tabs in
+            (why : TreeFault) → navigated list.now.rules at.frame (plain_address address)
+            keep_flag before ≡ Err why → result ≡ Err why }
+        ensures put { OnOk result (IsPutIn at.tab (Some at.frame) self.old.tabs self.new.tabs) }
+        ensures site { top_site (frames_at at.tab self.new.tabs)
+            ≡ top_site (frames_at at.tab self.old.tabs) }
+        ensures unchanged { OnErr result (self.new ≡ self.old) }
+        ensures room { (self.new.room ≡ self.old.room) × (self.new.sites ≡ self.old.sites) }
+        ensures kept { let made = frames_at at.tab self.new.tabs in
+            StayReadyBut (goes at.tab made (Some at.frame)) self.old self.new }
+    {
+        match place_of(self.tabs.as_slice(), at.tab) {
+            Ok(place) => self.tabs[place].navigate_frame(at.frame, address, keep_flag, list),
+            Err(_) => Err(TreeFault::NoFrame),
+        }
+    }
+
+    /// Removes a frame below the top, as `Tab::remove` does. The queues of the frames that go are
+    /// gone, and the others stay.
+    pub fn remove_frame(&mut self, at: Label) -> Result<(), NoFrame>
+        requires { at.frame ≢ 0 }
+        ensures removed { let before = frames_at at.tab self.old.tabs in
+            IsDoneAt at.frame before (frames_at at.tab self.new.tabs) (without at.frame before)
+            result }
+        ensures put { OnOk result (IsPutIn at.tab None self.old.tabs self.new.tabs) }
+        ensures site { top_site (frames_at at.tab self.new.tabs)
+            ≡ top_site (frames_at at.tab self.old.tabs) }
+        ensures unchanged { OnErr result (self.new ≡ self.old) }
+        ensures room { (self.new.room ≡ self.old.room) × (self.new.sites ≡ self.old.sites) }
+        ensures kept { let made = frames_at at.tab self.new.tabs in
+            StayReadyBut (goes at.tab made None) self.old self.new }
+    {
+        match place_of(self.tabs.as_slice(), at.tab) {
+            Ok(place) => self.tabs[place].remove_frame(at.frame),
+            Err(_) => Err(NoFrame),
+        }
+    }
+
+    /// Marks a document as activated, as `Tab::activate` does. Every queue stays.
+    pub fn activate(&mut self, at: Label, now: i64) -> Result<(), NoFrame>
+        ensures activated { let before = frames_at at.tab self.old.tabs in
+            IsDoneAt at.frame before (frames_at at.tab self.new.tabs)
+            (activated at.frame now before) result }
+        ensures put { OnOk result (IsPutIn at.tab None self.old.tabs self.new.tabs) }
+        ensures site { top_site (frames_at at.tab self.new.tabs)
+            ≡ top_site (frames_at at.tab self.old.tabs) }
+        ensures unchanged { OnErr result (self.new ≡ self.old) }
+        ensures room { (self.new.room ≡ self.old.room) × (self.new.sites ≡ self.old.sites) }
+        ensures kept { let made = frames_at at.tab self.new.tabs in
+            StayReadyBut (goes at.tab made None) self.old self.new }
+    {
+        match place_of(self.tabs.as_slice(), at.tab) {
+            Ok(place) => self.tabs[place].activate(at.frame, now),
+            Err(_) => Err(NoFrame),
+        }
+    }
+}

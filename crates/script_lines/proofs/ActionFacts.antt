@@ -8,7 +8,7 @@ use Rattle.origin_site.specs.Address.{PlainAddress}
 use Rattle.storage_events.specs.declared.event.AreaKind.TheVariants.{Local, Session}
 use Rattle.script_lines.specs.declared.words.Method.TheVariants as method
 use Rattle.script_lines.specs.declared.words.Prompt.TheVariants.{Grant, Deny}
-use Rattle.script_lines.specs.Script.{PlainAction, Open, Close, Go, Frame, Nav, Drop, Click, Set, Get}
+use Rattle.script_lines.specs.Script.{PlainAction, Open, Close, Go, Act, Frame, Nav, Drop, Click, Set, Get}
 use Rattle.script_lines.specs.Script.{Del, Clear, Len, Key, Events, Persisted, Estimate, Persist, Evict}
 use Rattle.script_lines.specs.Script.{PlainFault, BadField}
 use Rattle.script_lines.specs.Fields.{then_ok}
@@ -50,15 +50,15 @@ goes : line (codes "{\"do\":\"go\",\"tab\":1,\"url\":\"https://a.test/\",\"by\":
 unfolding table serde_json_on_literals url_on_literals
 goes = refl
 
-adds_a_frame : line (codes "{\"do\":\"frame\",\"tab\":1,\"frame\":2,\"url\":\"https://a.test/\",\"deny\":true}") ≡ Ok (Frame (label 1 2) 0 home None true)
+adds_a_frame : line (codes "{\"do\":\"frame\",\"tab\":1,\"frame\":2,\"url\":\"https://a.test/\",\"deny\":true}") ≡ Ok (Act (label 1 2) (Frame 0 home None true))
 unfolding table serde_json_on_literals url_on_literals
 adds_a_frame = refl
 
-navigates : line (codes "{\"do\":\"nav\",\"tab\":1,\"frame\":2,\"url\":\"https://a.test/\",\"by\":\"self\",\"method\":\"POST\"}") ≡ Ok (Nav (label 1 2) home true method.Post)
+navigates : line (codes "{\"do\":\"nav\",\"tab\":1,\"frame\":2,\"url\":\"https://a.test/\",\"by\":\"self\",\"method\":\"POST\"}") ≡ Ok (Act (label 1 2) (Nav home true method.Post))
 unfolding table serde_json_on_literals url_on_literals
 navigates = refl
 
-drops : line (codes "{\"do\":\"drop\",\"tab\":1,\"frame\":255}") ≡ Ok (Drop (label 1 255))
+drops : line (codes "{\"do\":\"drop\",\"tab\":1,\"frame\":255}") ≡ Ok (Act (label 1 255) Drop)
 unfolding table serde_json_on_literals
 drops = refl
 
@@ -66,11 +66,11 @@ drops_no_top_document : line (codes "{\"do\":\"drop\",\"tab\":1,\"frame\":0}") �
 unfolding table serde_json_on_literals
 drops_no_top_document = refl
 
-clicks : line (codes "{\"do\":\"click\",\"tab\":1}") ≡ Ok (Click (label 1 0))
+clicks : line (codes "{\"do\":\"click\",\"tab\":1}") ≡ Ok (Act (label 1 0) Click)
 unfolding table serde_json_on_literals
 clicks = refl
 
-sets_in_a_session : line (codes "{\"do\":\"set\",\"tab\":1,\"area\":\"session\",\"key\":\"k\",\"value\":\"\"}") ≡ Ok (Set (label 1 0) Session (codes "k") [])
+sets_in_a_session : line (codes "{\"do\":\"set\",\"tab\":1,\"area\":\"session\",\"key\":\"k\",\"value\":\"\"}") ≡ Ok (Act (label 1 0) (Set Session (codes "k") []))
 unfolding table serde_json_on_literals
 sets_in_a_session = refl
 
@@ -78,23 +78,23 @@ area_before_key : line (codes "{\"do\":\"set\",\"tab\":1,\"area\":\"shared\",\"k
 unfolding table serde_json_on_literals
 area_before_key = refl
 
-gets_in_a_frame : line (codes "{\"do\":\"get\",\"tab\":1,\"frame\":2,\"key\":\"k\"}") ≡ Ok (Get (label 1 2) Local (codes "k"))
+gets_in_a_frame : line (codes "{\"do\":\"get\",\"tab\":1,\"frame\":2,\"key\":\"k\"}") ≡ Ok (Act (label 1 2) (Get Local (codes "k")))
 unfolding table serde_json_on_literals
 gets_in_a_frame = refl
 
-deletes : line (codes "{\"do\":\"del\",\"tab\":1,\"area\":\"session\",\"key\":\"k\"}") ≡ Ok (Del (label 1 0) Session (codes "k"))
+deletes : line (codes "{\"do\":\"del\",\"tab\":1,\"area\":\"session\",\"key\":\"k\"}") ≡ Ok (Act (label 1 0) (Del Session (codes "k")))
 unfolding table serde_json_on_literals
 deletes = refl
 
-clears : line (codes "{\"do\":\"clear\",\"tab\":1}") ≡ Ok (Clear (label 1 0) Local)
+clears : line (codes "{\"do\":\"clear\",\"tab\":1}") ≡ Ok (Act (label 1 0) (Clear Local))
 unfolding table serde_json_on_literals
 clears = refl
 
-counts : line (codes "{\"do\":\"len\",\"tab\":1,\"area\":\"session\"}") ≡ Ok (Len (label 1 0) Session)
+counts : line (codes "{\"do\":\"len\",\"tab\":1,\"area\":\"session\"}") ≡ Ok (Act (label 1 0) (Len Session))
 unfolding table serde_json_on_literals
 counts = refl
 
-last_place : line (codes "{\"do\":\"key\",\"tab\":1,\"n\":4294967295}") ≡ Ok (Key (label 1 0) Local 4294967295)
+last_place : line (codes "{\"do\":\"key\",\"tab\":1,\"n\":4294967295}") ≡ Ok (Act (label 1 0) (Key Local 4294967295))
 unfolding table serde_json_on_literals
 last_place = refl
 
@@ -102,7 +102,7 @@ past_the_last_place : line (codes "{\"do\":\"key\",\"tab\":1,\"n\":4294967296}")
 unfolding table serde_json_on_literals
 past_the_last_place = refl
 
-takes_events : line (codes "{\"do\":\"events\",\"tab\":1,\"frame\":2}") ≡ Ok (Events (label 1 2))
+takes_events : line (codes "{\"do\":\"events\",\"tab\":1,\"frame\":2}") ≡ Ok (Act (label 1 2) Events)
 unfolding table serde_json_on_literals
 takes_events = refl
 
@@ -110,19 +110,19 @@ events_of_no_area : line (codes "{\"do\":\"events\",\"tab\":1,\"area\":\"local\"
 unfolding table serde_json_on_literals
 events_of_no_area = refl
 
-asks_the_mode : line (codes "{\"do\":\"persisted\",\"tab\":1}") ≡ Ok (Persisted (label 1 0))
+asks_the_mode : line (codes "{\"do\":\"persisted\",\"tab\":1}") ≡ Ok (Act (label 1 0) Persisted)
 unfolding table serde_json_on_literals
 asks_the_mode = refl
 
-asks_the_weight : line (codes "{\"do\":\"estimate\",\"tab\":1}") ≡ Ok (Estimate (label 1 0))
+asks_the_weight : line (codes "{\"do\":\"estimate\",\"tab\":1}") ≡ Ok (Act (label 1 0) Estimate)
 unfolding table serde_json_on_literals
 asks_the_weight = refl
 
-persists : line (codes "{\"do\":\"persist\",\"tab\":1,\"answer\":\"grant\"}") ≡ Ok (Persist (label 1 0) Grant)
+persists : line (codes "{\"do\":\"persist\",\"tab\":1,\"answer\":\"grant\"}") ≡ Ok (Act (label 1 0) (Persist Grant))
 unfolding table serde_json_on_literals
 persists = refl
 
-persist_is_denied : line (codes "{\"do\":\"persist\",\"tab\":1,\"answer\":\"deny\"}") ≡ Ok (Persist (label 1 0) Deny)
+persist_is_denied : line (codes "{\"do\":\"persist\",\"tab\":1,\"answer\":\"deny\"}") ≡ Ok (Act (label 1 0) (Persist Deny))
 unfolding table serde_json_on_literals
 persist_is_denied = refl
 

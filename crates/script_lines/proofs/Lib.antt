@@ -8,3 +8,7 @@ pub mod ReplyLemmas
 pub mod FaultLemmas
 pub mod PairLemmas
 pub mod NameLemmas
+pub mod QuoteLemmas
+pub mod ListLemmas
+pub mod FlatLemmas
+pub mod PlaceLemmas

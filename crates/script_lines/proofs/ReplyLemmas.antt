@@ -4,7 +4,7 @@ use Rattle.serde_json.specs.Data.{Data, string, object}
 use Rattle.serde_json.specs.Find.{is_float, of_integer}
 use Rattle.serde_json.specs.View.{items_of}
 use Rattle.serde_json.specs.Written.{has_float, items_have_float}
-use Rattle.storage_events.specs.Event.{EventView}
+use Rattle.storage_events.specs.Event.{PlainEvent}
 use Rattle.script_lines.specs.Reply.{PlainBody, PlainReply, Plain, Now, Kept, Load, Text, Number}
 use Rattle.script_lines.specs.Reply.{Truth, Events, Cookie, SetOne, Estimate, Cleared}
 use Rattle.script_lines.specs.Reply.{event_data, text_or_null, site_data, reply_members, reply_data}
@@ -17,10 +17,10 @@ text_has_no_float : (text : Option (List ℕ)) → has_float (text_or_null text)
 text_has_no_float (Some text) = refl
 text_has_no_float None = refl
 
-event_has_no_float : (event : EventView) → has_float (event_data event) ≡ false
+event_has_no_float : (event : PlainEvent) → has_float (event_data event) ≡ false
 event_has_no_float event = rw (text_has_no_float event.key, text_has_no_float event.after, text_has_no_float event.before) refl
 
-events_have_no_float : (events : List EventView) → items_have_float (items_of (map event_data events)) ≡ false
+events_have_no_float : (events : List PlainEvent) → items_have_float (items_of (map event_data events)) ≡ false
 events_have_no_float [] = refl
 events_have_no_float (event ∷ events) = rw (event_has_no_float event) (events_have_no_float events)
 

@@ -7,7 +7,7 @@ use Rattle.std.specs.Str.{is_utf8, chars}
 use Rattle.url.proofs.OnLiterals.{url_on_literals}
 use Rattle.serde_json.proofs.OnLiterals.{serde_json_on_literals}
 use Rattle.serde_json.specs.Read.{read}
-use Rattle.script_lines.specs.Script.{PlainAction, Tick, Open, Set, Get, PlainFault, NotJson}
+use Rattle.script_lines.specs.Script.{PlainAction, Tick, Open, Act, Set, Get, PlainFault, NotJson}
 use Rattle.script_lines.specs.Script.{UnknownAction, BadField, LineTooLong, TooLong, NotUtf8}
 use Rattle.script_lines.specs.Fields.{then_ok}
 use Rattle.script_lines.specs.Actions.{table}
@@ -41,11 +41,11 @@ unfolding table serde_json_on_literals
 ticks_too_far = refl
 
 -- members may stand in any order, and of two of one name the later counts
-sets : line (codes "{\"value\":\"v\",\"key\":\"k\",\"tab\":1,\"do\":\"set\",\"tab\":65535}") ≡ Ok (Set (label 65535 0) Local (codes "k") (codes "v"))
+sets : line (codes "{\"value\":\"v\",\"key\":\"k\",\"tab\":1,\"do\":\"set\",\"tab\":65535}") ≡ Ok (Act (label 65535 0) (Set Local (codes "k") (codes "v")))
 unfolding table serde_json_on_literals
 sets = refl
 
-gets : line (codes " {\"do\":\"get\",\"tab\":2,\"key\":\"\"}\r") ≡ Ok (Get (label 2 0) Local [])
+gets : line (codes " {\"do\":\"get\",\"tab\":2,\"key\":\"\"}\r") ≡ Ok (Act (label 2 0) (Get Local []))
 unfolding table serde_json_on_literals
 gets = refl
 

@@ -3,7 +3,7 @@
 use Rattle.std.specs.Prelude.{ℕ, false, List, [], ◌∷◌, codes, None}
 use Rattle.script_lines.specs.Script.{Tick, Open, Close, Go, Frame, Nav, Drop, Click, Set, Get}
 use Rattle.script_lines.specs.Script.{Del, Clear, Len, Key, Events, Persisted, Estimate, Persist}
-use Rattle.script_lines.specs.Script.{Evict}
+use Rattle.script_lines.specs.Script.{Evict, Act}
 use Rattle.script_lines.specs.Fields.{built, required, defaulted, whole, any_text, truth, site_name}
 use Rattle.script_lines.specs.Fields.{loader, navigator, prompt_answer, consent, cut_list, optional}
 use Rattle.script_lines.specs.Rows.{Row, later, label, document_row, area_row, name_row, tab}
@@ -48,7 +48,7 @@ frame_row = record {
       ∷ defaulted built (codes "sandbox") (optional any_text) None
       ∷ defaulted built (codes "deny") truth false ∷ head ∷ [];
   action = λ (tab, (frame, (parent, (url, (sandbox, (deny, _)))))).
-      Frame (label tab frame) parent url sandbox deny;
+      Act (label tab frame) (Frame parent url sandbox deny);
 }
 
 abbrev pub nav_row : Row
@@ -56,14 +56,15 @@ nav_row = record {
   mark = built;
   fields = tab ∷ inner_frame ∷ url ∷ defaulted built (codes "by") navigator false
       ∷ method_field ∷ head ∷ [];
-  action = λ (tab, (frame, (url, (by_self, (method, _))))). Nav (label tab frame) url by_self method;
+  action = λ (tab, (frame, (url, (by_self, (method, _))))).
+      Act (label tab frame) (Nav url by_self method);
 }
 
 abbrev pub drop_row : Row
 drop_row = record {
   mark = built;
   fields = tab ∷ inner_frame ∷ [];
-  action = λ (tab, (frame, _)). Drop (label tab frame);
+  action = λ (tab, (frame, _)). Act (label tab frame) Drop;
 }
 
 abbrev pub click_row : Row
@@ -76,7 +77,7 @@ abbrev pub set_row : Row
 set_row = record {
   mark = built;
   fields = tab ∷ frame ∷ area ∷ key ∷ required built (codes "value") any_text ∷ [];
-  action = λ (tab, (frame, (area, (key, (value, _))))). Set (label tab frame) area key value;
+  action = λ (tab, (frame, (area, (key, (value, _))))). Act (label tab frame) (Set area key value);
 }
 
 abbrev pub get_row : Row
@@ -95,7 +96,7 @@ abbrev pub key_row : Row
 key_row = record {
   mark = built;
   fields = tab ∷ frame ∷ area ∷ required built (codes "n") (whole 0 4294967295) ∷ [];
-  action = λ (tab, (frame, (area, (n, _)))). Key (label tab frame) area n;
+  action = λ (tab, (frame, (area, (n, _)))). Act (label tab frame) (Key area n);
 }
 
 abbrev pub events_row : Row
@@ -121,7 +122,7 @@ abbrev pub persist_row : Row
 persist_row = record {
   mark = built;
   fields = tab ∷ frame ∷ required built (codes "answer") consent ∷ [];
-  action = λ (tab, (frame, (answer, _))). Persist (label tab frame) answer;
+  action = λ (tab, (frame, (answer, _))). Act (label tab frame) (Persist answer);
 }
 
 abbrev pub evict_row : Row

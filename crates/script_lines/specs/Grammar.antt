@@ -13,6 +13,7 @@ use Rattle.serde_json.specs.Read.{read}
 use Rattle.case_tables.specs.Rows.{first_value}
 use Rattle.script_lines.specs.Script.{PlainAction, PlainLine, PlainScript, PlainFault, NotJson}
 use Rattle.script_lines.specs.Script.{UnknownAction, BadField, LineTooLong, TooLong, NotUtf8}
+use Rattle.script_lines.specs.declared.reader.TheConstants.{SCRIPT_LIMIT, LINE_LIMIT}
 use Rattle.script_lines.specs.Fields.{Field, Mark, built, not_built, built_fields, Meanings}
 use Rattle.script_lines.specs.Fields.{then_ok, fields_of}
 use Rattle.script_lines.specs.Rows.{Row, When}
@@ -20,11 +21,11 @@ use Rattle.script_lines.specs.Actions.{table}
 
 -- the most bytes of a script
 abbrev pub script_limit : ℕ
-script_limit = 16777216
+script_limit = SCRIPT_LIMIT
 
 -- the most bytes of a line without its end
 abbrev pub line_limit : ℕ
-line_limit = 1048576
+line_limit = LINE_LIMIT
 
 -- ---- actions
 
@@ -50,8 +51,8 @@ abbrev pub refused : ℕ → Option (List ℕ) → Result (Unit {0}) PlainFault
 refused number None = Ok tt
 refused number (Some name) = Err (BadField number name)
 
--- the action of a line by its fields, or the fault of the first bad member: the first bad one of the
--- fields, else the first that is not known
+-- the action of a line by its fields, or the fault of the first bad member: the first bad one of
+-- the fields, else the first that is not known
 abbrev pub action_by_fields : ℕ → (fields : List Field) → (Meanings fields → PlainAction) → Data
     → Result PlainAction PlainFault
 action_by_fields number fields action line =
@@ -61,7 +62,8 @@ action_by_fields number fields action line =
 
 -- the action of a line by a row with this mark
 abbrev pub action_by_mark : ℕ → (mark : Mark) (fields : List Field)
-    → When mark (Meanings (built_fields fields) → PlainAction) → Data → Result PlainAction PlainFault
+    → When mark (Meanings (built_fields fields) → PlainAction) → Data
+    → Result PlainAction PlainFault
 action_by_mark number built fields action line =
     action_by_fields number (built_fields fields) action line
 action_by_mark number not_built fields action line = Err (UnknownAction number)

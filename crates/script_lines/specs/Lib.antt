@@ -11,3 +11,5 @@ pub mod Plain
 -- What private functions compute. No public clause rests on it.
 pub mod Names
 pub mod Pieces
+pub mod Flat
+pub mod JsonLine

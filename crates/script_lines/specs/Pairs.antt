@@ -1,7 +1,8 @@
 -- The lists of pairs that a line's members may be: header fields, and cuts of the power.
--- Source: RFC 9110, "Field Names" and "Field Values", for names as the crate `http_header` has them.
--- Our own choice: a list has at most 64 pairs, and a value lacks U+0000, U+000A and U+000D alone. The
--- calls of cuts rise.
+-- Source: RFC 9110, "Field Names" and "Field Values", for names as the crate `http_header` has
+-- them.
+-- Our own choice: a list has at most 64 pairs, and a value lacks U+0000, U+000A and U+000D alone.
+-- The calls of cuts rise.
 use Rattle.std.specs.Prelude.{ℕ, ◌+◌, Bool, true, not, ◌||◌, ◌&&◌, ◌==◌, nat_le, List, [], ◌∷◌, length}
 use Rattle.std.specs.Prelude.{Option, Some, None, option_and_then, if◌then◌else◌}
 use Rattle.std.specs.List.{list_any}
@@ -10,11 +11,12 @@ use Rattle.http_header.specs.FieldName.{is_field_name}
 use Rattle.serde_json.specs.Data.{Data, Items, no_items, item}
 use Rattle.serde_json.specs.Find.{as_array, as_str}
 use Rattle.script_lines.specs.Script.{PlainHeadPair}
+use Rattle.script_lines.specs.declared.pairs.TheConstants.{MOST_PAIRS}
 use Rattle.script_lines.specs.Words.{number_of}
 
 -- the most pairs of a list
 abbrev pub most_pairs : ℕ
-most_pairs = 64
+most_pairs = MOST_PAIRS
 
 -- the first two values, where there are no more
 abbrev pub two_in : Items → Option (Data × Data)
@@ -56,7 +58,8 @@ head_pair None value = None
 
 -- the pair of texts that a value is
 abbrev pub head_pair_of : Data → Option PlainHeadPair
-head_pair_of value = option_and_then (λ (name, value). head_pair (as_str name) (as_str value)) (two_of value)
+head_pair_of value = option_and_then
+    (λ (name, value). head_pair (as_str name) (as_str value)) (two_of value)
 
 -- a byte that a header's value must not have: U+0000, a line feed, a carriage return
 abbrev pub ends_a_value : ℕ → Bool
@@ -77,7 +80,8 @@ cut_by None pick = None
 
 -- the cut that a value is
 abbrev pub cut_of : Data → Option Cut
-cut_of value = option_and_then (λ (call, pick). cut_by (number_of call) (number_of pick)) (two_of value)
+cut_of value = option_and_then
+    (λ (call, pick). cut_by (number_of call) (number_of pick)) (two_of value)
 
 -- whether the calls of cuts rise, each of them at least this one
 unfoldable pub rise_from : ℕ → List Cut → Bool

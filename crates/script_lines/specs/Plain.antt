@@ -1,4 +1,5 @@
 -- What contracts see of the types of this crate: the bytes of texts, the items of lists.
+-- Source: none; it says how contracts see types of this crate.
 use Rattle.std.specs.Prelude.{◌≡◌, ◌⊎◌, map, option_map, string_bytes, Result, Ok, Err, MatchResult}
 use Rattle.std.specs.Prelude.{ℕ, List, Option}
 use Rattle.agent_base.specs.Streams.{Gives}
@@ -38,21 +39,22 @@ action_of (action.Open tab url opener noopener method) =
 action_of (action.Close tab) = plain.Close tab
 action_of (action.Go tab url by_page method) = plain.Go tab (plain_address url) by_page method
 action_of (action.Frame at parent url sandbox deny) =
-    plain.Frame at parent (plain_address url) (option_map string_bytes sandbox) deny
-action_of (action.Nav at url by_self method) = plain.Nav at (plain_address url) by_self method
-action_of (action.Drop at) = plain.Drop at
-action_of (action.Click at) = plain.Click at
+    plain.Act at (plain.Frame parent (plain_address url) (option_map string_bytes sandbox) deny)
+action_of (action.Nav at url by_self method) =
+    plain.Act at (plain.Nav (plain_address url) by_self method)
+action_of (action.Drop at) = plain.Act at plain.Drop
+action_of (action.Click at) = plain.Act at plain.Click
 action_of (action.Set at area key value) =
-    plain.Set at area (string_bytes key) (string_bytes value)
-action_of (action.Get at area key) = plain.Get at area (string_bytes key)
-action_of (action.Del at area key) = plain.Del at area (string_bytes key)
-action_of (action.Clear at area) = plain.Clear at area
-action_of (action.Len at area) = plain.Len at area
-action_of (action.Key at area n) = plain.Key at area n
-action_of (action.Events at) = plain.Events at
-action_of (action.Persisted at) = plain.Persisted at
-action_of (action.Estimate at) = plain.Estimate at
-action_of (action.Persist at answer) = plain.Persist at answer
+    plain.Act at (plain.Set area (string_bytes key) (string_bytes value))
+action_of (action.Get at area key) = plain.Act at (plain.Get area (string_bytes key))
+action_of (action.Del at area key) = plain.Act at (plain.Del area (string_bytes key))
+action_of (action.Clear at area) = plain.Act at (plain.Clear area)
+action_of (action.Len at area) = plain.Act at (plain.Len area)
+action_of (action.Key at area n) = plain.Act at (plain.Key area n)
+action_of (action.Events at) = plain.Act at plain.Events
+action_of (action.Persisted at) = plain.Act at plain.Persisted
+action_of (action.Estimate at) = plain.Act at plain.Estimate
+action_of (action.Persist at answer) = plain.Act at (plain.Persist answer)
 action_of (action.Evict site) = plain.Evict (plain_site site)
 
 -- a line

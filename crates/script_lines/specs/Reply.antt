@@ -7,7 +7,8 @@ use Rattle.serde_json.specs.Find.{of_integer}
 use Rattle.serde_json.specs.View.{items_of}
 use Rattle.serde_json.specs.Written.{compact_text}
 use Rattle.origin_site.specs.Site.{PlainSite, site_text}
-use Rattle.storage_events.specs.Event.{EventView}
+use Rattle.storage_events.specs.Event.{PlainEvent}
+use Rattle.script_lines.specs.declared.reply.TheConstants.{QUOTA}
 use Rattle.storage_events.specs.declared.event.AreaKind.{AreaKind}
 use Rattle.storage_events.specs.declared.event.AreaKind.TheVariants.{Local, Session}
 
@@ -20,7 +21,7 @@ pub data PlainBody : Type 0 where
   Text : (value : Option (List ℕ)) → PlainBody
   Number : (value : ℕ) → PlainBody
   Truth : (value : Bool) → PlainBody
-  Events : (events : List EventView) (lost : ℕ) → PlainBody
+  Events : (events : List PlainEvent) (lost : ℕ) → PlainBody
   Cookie : (cookie : List ℕ) → PlainBody
   SetOne : («set» : List ℕ) → PlainBody
   Estimate : (usage : ℕ) → PlainBody
@@ -34,7 +35,7 @@ pub record PlainReply : Type 0 where
 
 -- the quota that an estimate tells, in bytes
 abbrev pub told_quota : ℕ
-told_quota = 5242880
+told_quota = QUOTA
 
 -- ---- values
 
@@ -57,7 +58,7 @@ area_text Local = codes "local"
 area_text Session = codes "session"
 
 -- a storage event
-abbrev pub event_data : EventView → Data
+abbrev pub event_data : PlainEvent → Data
 event_data event = object (
     member (codes "area") (string (area_text event.area)) (
     member (codes "key") (text_or_null event.key) (
@@ -66,7 +67,7 @@ event_data event = object (
     member (codes "url") (string event.url) no_members)))))
 
 -- a list of storage events
-abbrev pub events_data : List EventView → Data
+abbrev pub events_data : List PlainEvent → Data
 events_data events = array (items_of (map event_data events))
 
 -- ---- members, in byte order of their names
@@ -110,7 +111,8 @@ reply_members name site (Events events lost) =
     (member (codes "is") (string (codes "ok")) (member (codes "lost") (number (unsigned lost))
     (member (codes "site") site no_members))))
 reply_members name site (Cookie cookie) = one_before name site (codes "cookie") (string cookie)
-reply_members name site (SetOne «set») = one_between name site (codes "set") (texts_data («set» ∷ []))
+reply_members name site (SetOne «set») =
+    one_between name site (codes "set") (texts_data («set» ∷ []))
 reply_members name site (Estimate usage) =
     member (codes "do") (string name) (member (codes "is") (string (codes "ok"))
     (member (codes "quota") (number (unsigned told_quota)) (member (codes "site") site

@@ -6,7 +6,7 @@ use Rattle.agent_base.specs.declared.refusals.Label.{Label}
 use Rattle.storage_events.specs.declared.event.AreaKind.{AreaKind}
 use Rattle.storage_events.specs.declared.event.AreaKind.TheVariants.{Local}
 use Rattle.script_lines.specs.declared.words.Method.TheVariants as method
-use Rattle.script_lines.specs.Script.{PlainAction}
+use Rattle.script_lines.specs.Script.{PlainAction, DocumentAction, Act}
 use Rattle.script_lines.specs.Fields.{Field, Kind, Mark, built, not_built, required, defaulted}
 use Rattle.script_lines.specs.Fields.{built_fields, Meanings, whole, any_text, address_text}
 use Rattle.script_lines.specs.Fields.{method_name, header_list, area_name}
@@ -68,25 +68,25 @@ abbrev pub label : ℕ → ℕ → Label
 label tab frame = record { tab = tab; frame = frame }
 
 -- a document and nothing besides
-abbrev pub document_row : (Label → PlainAction) → Row
+abbrev pub document_row : DocumentAction → Row
 document_row action = record {
   mark = built;
   fields = tab ∷ frame ∷ [];
-  action = λ (tab, (frame, _)). action (label tab frame);
+  action = λ (tab, (frame, _)). Act (label tab frame) action;
 }
 
 -- an area of a document
-abbrev pub area_row : (Label → AreaKind → PlainAction) → Row
+abbrev pub area_row : (AreaKind → DocumentAction) → Row
 area_row action = record {
   mark = built;
   fields = tab ∷ frame ∷ area ∷ [];
-  action = λ (tab, (frame, (area, _))). action (label tab frame) area;
+  action = λ (tab, (frame, (area, _))). Act (label tab frame) (action area);
 }
 
 -- a name of an area
-abbrev pub name_row : (Label → AreaKind → List ℕ → PlainAction) → Row
+abbrev pub name_row : (AreaKind → List ℕ → DocumentAction) → Row
 name_row action = record {
   mark = built;
   fields = tab ∷ frame ∷ area ∷ key ∷ [];
-  action = λ (tab, (frame, (area, (key, _)))). action (label tab frame) area key;
+  action = λ (tab, (frame, (area, (key, _)))). Act (label tab frame) (action area key);
 }

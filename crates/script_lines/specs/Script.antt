@@ -1,4 +1,5 @@
 -- A script as contracts see it: its lines, or why it has none.
+-- Source: none; the script language is our own.
 use Rattle.std.specs.Prelude.{ℕ, Bool, List, Option}
 use Rattle.agent_base.specs.declared.refusals.Label.{Label}
 use Rattle.origin_site.specs.Address.{PlainAddress}
@@ -12,7 +13,39 @@ pub record PlainHeadPair : Type 0 where
   pub name : List ℕ
   pub value : List ℕ
 
--- what a line asks for. A document is named by its tab and frame, and has two areas.
+-- what a document does, or what is done to it. It has two areas, and is named beside the action.
+pub data DocumentAction : Type 0 where
+  -- the frame that is named is added below a parent, with the text of its `sandbox` attribute
+  Frame : (parent : ℕ) (url : PlainAddress) (sandbox : Option (List ℕ)) (deny : Bool)
+      → DocumentAction
+  -- its frame goes to another document, which its own document starts or its parent's
+  Nav : (url : PlainAddress) (by_self : Bool) (method : Method) → DocumentAction
+  -- its frame is removed
+  Drop : DocumentAction
+  -- a user clicks on it
+  Click : DocumentAction
+  -- a name of an area gets a value
+  Set : (area : AreaKind) (key value : List ℕ) → DocumentAction
+  -- what is the value of a name of an area?
+  Get : (area : AreaKind) (key : List ℕ) → DocumentAction
+  -- a name of an area is removed, with its value
+  Del : (area : AreaKind) (key : List ℕ) → DocumentAction
+  -- an area is emptied
+  Clear : (area : AreaKind) → DocumentAction
+  -- how many names has an area?
+  Len : (area : AreaKind) → DocumentAction
+  -- which name stands at this place of an area, from 0?
+  Key : (area : AreaKind) (n : ℕ) → DocumentAction
+  -- which storage events does it have, and how many were lost? It has none of them afterwards.
+  Events : DocumentAction
+  -- is its bucket persistent?
+  Persisted : DocumentAction
+  -- what does its local area weigh?
+  Estimate : DocumentAction
+  -- it asks for a persistent bucket, and the user answers this. No line has `Dismiss` here.
+  Persist : (answer : Prompt) → DocumentAction
+
+-- what a line asks for. A document is named by its tab and frame.
 pub data PlainAction : Type 0 where
   -- the clock is moved by so many seconds
   Tick : (s : ℕ) → PlainAction
@@ -24,37 +57,10 @@ pub data PlainAction : Type 0 where
   Close : (tab : ℕ) → PlainAction
   -- a tab goes to another top document, which its page starts or the user
   Go : (tab : ℕ) (url : PlainAddress) (by_page : Bool) (method : Method) → PlainAction
-  -- a frame is added below a parent, with the text of its `sandbox` attribute
-  Frame : (at : Label) (parent : ℕ) (url : PlainAddress) (sandbox : Option (List ℕ)) (deny : Bool)
-      → PlainAction
-  -- a frame goes to another document, which its own document starts or its parent's
-  Nav : (at : Label) (url : PlainAddress) (by_self : Bool) (method : Method) → PlainAction
-  -- a frame is removed
-  Drop : (at : Label) → PlainAction
-  -- a user clicks on a document
-  Click : (at : Label) → PlainAction
-  -- a name of an area gets a value
-  Set : (at : Label) (area : AreaKind) (key value : List ℕ) → PlainAction
-  -- what is the value of a name of an area?
-  Get : (at : Label) (area : AreaKind) (key : List ℕ) → PlainAction
-  -- a name of an area is removed, with its value
-  Del : (at : Label) (area : AreaKind) (key : List ℕ) → PlainAction
-  -- an area is emptied
-  Clear : (at : Label) (area : AreaKind) → PlainAction
-  -- how many names has an area?
-  Len : (at : Label) (area : AreaKind) → PlainAction
-  -- which name stands at this place of an area, from 0?
-  Key : (at : Label) (area : AreaKind) (n : ℕ) → PlainAction
-  -- which storage events has a document, and how many were lost? It has none of them afterwards.
-  Events : (at : Label) → PlainAction
-  -- is the bucket of a document persistent?
-  Persisted : (at : Label) → PlainAction
-  -- what does the local area of a document weigh?
-  Estimate : (at : Label) → PlainAction
-  -- a document asks for a persistent bucket, and the user answers this. No line has `Dismiss` here.
-  Persist : (at : Label) (answer : Prompt) → PlainAction
   -- the local areas under a top-level site are emptied, but for those of persistent buckets
   Evict : (site : PlainSite) → PlainAction
+  -- an action of a document
+  Act : (at : Label) (action : DocumentAction) → PlainAction
 
 -- a line that is not skipped, with its number, from 1
 pub record PlainLine : Type 0 where

@@ -243,7 +243,8 @@ impl Action {
 
 // A copy of a text, if there is one.
 fn copy_of_text(alloc: Global, text: &Option<String>) -> Result<Option<String>, NoMemory>
-    ensures { IfOk result (λ copy. option_map string_bytes copy ≡ option_map string_bytes text.now) }
+    ensures { IfOk result (λ copy. option_map string_bytes copy
+        ≡ option_map string_bytes text.now) }
 {
     match text {
         Some(text) => Ok(Some(String::from_str(alloc, text.as_str())?)),

@@ -1,15 +1,16 @@
 //! The actions of the table, each read by its row.
 ghost use Rattle.std.specs.Prelude.{◌≡◌, option_map};
-ghost use Rattle.serde_json.specs.View.{view};
 ghost use Rattle.script_lines.specs.Grammar as spec;
 ghost use Rattle.script_lines.specs.Grammar.{action_by, action_by_row, action_of_data};
 ghost use Rattle.script_lines.specs.Names.{row_of};
+ghost use Rattle.script_lines.specs.JsonLine.{data_of_line};
 ghost use Rattle.script_lines.specs.Plain.{Reads, action_of};
 
 use crate::fields::bad_field;
+use crate::json_line::JsonLine;
+use crate::json_value::JsonValue;
 use crate::{Action, ScriptFault, rows};
 use case_tables::Cases;
-use serde_json::Value;
 use std::alloc::Global;
 
 /// The rows of the table by their names.
@@ -73,17 +74,23 @@ const ACTIONS: [(&str, ActionName); 26] = [
 ];
 
 /// The action of a line that is JSON.
-pub fn read_action(alloc: Global, line: &Value, number: u32) -> Result<Action, ScriptFault>
-    ensures { Reads action_of (action_of_data number (view line.now)) result }
+pub fn read_action(alloc: Global, line: &JsonLine<'_>, number: u32) -> Result<Action, ScriptFault>
+    ensures { Reads action_of (action_of_data number (data_of_line line.now)) result }
 {
-    match line.get("do").and_then(Value::as_str) {
+    match line.get("do").and_then(JsonValue::as_str) {
         Some(name) => read_named(alloc, line, number, name),
         None => Err(bad_field(alloc, number, "do")),
     }
 }
 
-fn read_named(alloc: Global, line: &Value, number: u32, name: &str) -> Result<Action, ScriptFault>
-    ensures { Reads action_of (action_by number (spec.row_named name.now) (view line.now)) result }
+fn read_named(
+    alloc: Global,
+    line: &JsonLine<'_>,
+    number: u32,
+    name: &str,
+) -> Result<Action, ScriptFault>
+    ensures { Reads action_of
+        (action_by number (spec.row_named name.now) (data_of_line line.now)) result }
 {
     match action_named(name) {
         Some(action) => read_row(alloc, line, number, action),
@@ -100,11 +107,12 @@ fn action_named(name: &str) -> Option<ActionName>
 // A row that is not built has no arm here.
 fn read_row(
     alloc: Global,
-    line: &Value,
+    line: &JsonLine<'_>,
     number: u32,
     action: ActionName,
 ) -> Result<Action, ScriptFault>
-    ensures { Reads action_of (action_by_row number (row_of action) (view line.now)) result }
+    ensures { Reads action_of
+        (action_by_row number (row_of action) (data_of_line line.now)) result }
 {
     match action {
         ActionName::Tick => rows::tick(alloc, line, number),

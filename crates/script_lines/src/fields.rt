@@ -1,21 +1,18 @@
 //! The members of a line, each by the kind of its field.
 ghost use Rattle.std.specs.Prelude.{◌≡◌, ◌≤◌, ◌⊎◌, IfSome, None, Some, option_map, string_bytes};
-ghost use Rattle.serde_json.specs.View.{view};
 ghost use Rattle.origin_site.specs.Plain.{plain_address, plain_site};
+ghost use Rattle.script_lines.specs.Flat.{data_of};
+ghost use Rattle.script_lines.specs.JsonLine.{data_of_line};
 ghost use Rattle.script_lines.specs.Fields as spec;
 ghost use Rattle.script_lines.specs.Fields.{built, defaulted, field_of, required};
 ghost use Rattle.script_lines.specs.Plain.{Reads, fault_of};
 ghost use Rattle.script_lines.specs.Script as plain;
 
 use crate::ScriptFault;
-use crate::words::{
-    Method, Prompt, area_named, consent_named, loader_named, method_named, navigator_named,
-    prompt_named,
-};
+use crate::json_line::JsonLine;
+use crate::json_value::JsonValue;
 use origin_site::{Address, AddressFault, Site, SiteFault};
-use serde_json::Value;
 use std::alloc::Global;
-use storage_events::AreaKind;
 
 /// The fault of this member, or want of memory for its name.
 pub fn bad_field(alloc: Global, number: u32, name: &str) -> ScriptFault
@@ -30,11 +27,16 @@ pub fn bad_field(alloc: Global, number: u32, name: &str) -> ScriptFault
 // ---- numbers
 
 /// The number of a tab.
-pub fn tab_number(alloc: Global, line: &Value, number: u32, name: &str) -> Result<u16, ScriptFault>
+pub fn tab_number(
+    alloc: Global,
+    line: &JsonLine<'_>,
+    number: u32,
+    name: &str,
+) -> Result<u16, ScriptFault>
     ensures { let field = required built name.now (spec.whole 1 65535) in
-        Reads (λ n. n) (field_of number field (view line.now)) result }
+        Reads (λ n. n) (field_of number field (data_of_line line.now)) result }
 {
-    match line.get(name).and_then(Value::as_u64) {
+    match line.get(name).and_then(JsonValue::as_u64) {
         Some(n) if 1 <= n && n <= 65535 => Ok(n as u16),
         _ => Err(bad_field(alloc, number, name)),
     }
@@ -43,12 +45,12 @@ pub fn tab_number(alloc: Global, line: &Value, number: u32, name: &str) -> Resul
 /// The number of a tab, if there is one.
 pub fn optional_tab(
     alloc: Global,
-    line: &Value,
+    line: &JsonLine<'_>,
     number: u32,
     name: &str,
 ) -> Result<Option<u16>, ScriptFault>
     ensures { let field = defaulted built name.now (spec.optional (spec.whole 1 65535)) None in
-        Reads (λ n. n) (field_of number field (view line.now)) result }
+        Reads (λ n. n) (field_of number field (data_of_line line.now)) result }
 {
     let Some(value) = line.get(name) else {
         return Ok(None);
@@ -62,13 +64,13 @@ pub fn optional_tab(
 /// The number of a frame, from 0.
 pub fn frame_number(
     alloc: Global,
-    line: &Value,
+    line: &JsonLine<'_>,
     number: u32,
     name: &str,
     absent: u8,
 ) -> Result<u8, ScriptFault>
     ensures { let field = defaulted built name.now (spec.whole 0 255) absent in
-        Reads (λ n. n) (field_of number field (view line.now)) result }
+        Reads (λ n. n) (field_of number field (data_of_line line.now)) result }
 {
     let Some(value) = line.get(name) else {
         return Ok(absent);
@@ -80,11 +82,16 @@ pub fn frame_number(
 }
 
 /// The number of a frame that is not the top document.
-pub fn inner_frame(alloc: Global, line: &Value, number: u32, name: &str) -> Result<u8, ScriptFault>
+pub fn inner_frame(
+    alloc: Global,
+    line: &JsonLine<'_>,
+    number: u32,
+    name: &str,
+) -> Result<u8, ScriptFault>
     ensures { let field = required built name.now (spec.whole 1 255) in
-        Reads (λ n. n) (field_of number field (view line.now)) result }
+        Reads (λ n. n) (field_of number field (data_of_line line.now)) result }
 {
-    match line.get(name).and_then(Value::as_u64) {
+    match line.get(name).and_then(JsonValue::as_u64) {
         Some(n) if 1 <= n && n <= 255 => Ok(n as u8),
         _ => Err(bad_field(alloc, number, name)),
     }
@@ -93,23 +100,23 @@ pub fn inner_frame(alloc: Global, line: &Value, number: u32, name: &str) -> Resu
 /// A number from 0 to the last.
 pub fn whole_number(
     alloc: Global,
-    line: &Value,
+    line: &JsonLine<'_>,
     number: u32,
     name: &str,
     last: u32,
 ) -> Result<u32, ScriptFault>
     ensures { let field = required built name.now (spec.whole 0 last) in
-        Reads (λ n. n) (field_of number field (view line.now)) result }
+        Reads (λ n. n) (field_of number field (data_of_line line.now)) result }
 {
-    match line.get(name).and_then(Value::as_u64) {
+    match line.get(name).and_then(JsonValue::as_u64) {
         Some(n) if n <= last as u64 => Ok(n as u32),
         _ => Err(bad_field(alloc, number, name)),
     }
 }
 
 // The number within these bounds that a value is.
-fn whole_in(value: &Value, first: u64, last: u64) -> Option<u64>
-    ensures value { result ≡ spec.meaning (spec.whole first last) (view value.now) }
+fn whole_in(value: JsonValue<'_>, first: u64, last: u64) -> Option<u64>
+    ensures value { result ≡ spec.meaning (spec.whole first last) (data_of value.entry) }
     ensures bound { IfSome result (λ n. n ≤ last) }
 {
     match value.as_u64() {
@@ -121,11 +128,16 @@ fn whole_in(value: &Value, first: u64, last: u64) -> Option<u64>
 // ---- texts
 
 /// Any text.
-pub fn text(alloc: Global, line: &Value, number: u32, name: &str) -> Result<String, ScriptFault>
+pub fn text(
+    alloc: Global,
+    line: &JsonLine<'_>,
+    number: u32,
+    name: &str,
+) -> Result<String, ScriptFault>
     ensures { let field = required built name.now spec.any_text in
-        Reads string_bytes (field_of number field (view line.now)) result }
+        Reads string_bytes (field_of number field (data_of_line line.now)) result }
 {
-    match line.get(name).and_then(Value::as_str) {
+    match line.get(name).and_then(JsonValue::as_str) {
         Some(text) => Ok(String::from_str(alloc, text)?),
         None => Err(bad_field(alloc, number, name)),
     }
@@ -134,12 +146,12 @@ pub fn text(alloc: Global, line: &Value, number: u32, name: &str) -> Result<Stri
 /// Any text, if there is one.
 pub fn optional_text(
     alloc: Global,
-    line: &Value,
+    line: &JsonLine<'_>,
     number: u32,
     name: &str,
 ) -> Result<Option<String>, ScriptFault>
     ensures { let field = defaulted built name.now (spec.optional spec.any_text) None in
-        Reads (option_map string_bytes) (field_of number field (view line.now)) result }
+        Reads (option_map string_bytes) (field_of number field (data_of_line line.now)) result }
 {
     let Some(value) = line.get(name) else {
         return Ok(None);
@@ -151,11 +163,16 @@ pub fn optional_text(
 }
 
 /// The text of an address.
-pub fn address(alloc: Global, line: &Value, number: u32, name: &str) -> Result<Address, ScriptFault>
+pub fn address(
+    alloc: Global,
+    line: &JsonLine<'_>,
+    number: u32,
+    name: &str,
+) -> Result<Address, ScriptFault>
     ensures { let field = required built name.now spec.address_text in
-        Reads plain_address (field_of number field (view line.now)) result }
+        Reads plain_address (field_of number field (data_of_line line.now)) result }
 {
-    let Some(text) = line.get(name).and_then(Value::as_str) else {
+    let Some(text) = line.get(name).and_then(JsonValue::as_str) else {
         return Err(bad_field(alloc, number, name));
     };
     match Address::read(alloc, text) {
@@ -166,148 +183,21 @@ pub fn address(alloc: Global, line: &Value, number: u32, name: &str) -> Result<A
 }
 
 /// The text of a site.
-pub fn site(alloc: Global, line: &Value, number: u32, name: &str) -> Result<Site, ScriptFault>
+pub fn site(
+    alloc: Global,
+    line: &JsonLine<'_>,
+    number: u32,
+    name: &str,
+) -> Result<Site, ScriptFault>
     ensures { let field = required built name.now spec.site_name in
-        Reads plain_site (field_of number field (view line.now)) result }
+        Reads plain_site (field_of number field (data_of_line line.now)) result }
 {
-    let Some(text) = line.get(name).and_then(Value::as_str) else {
+    let Some(text) = line.get(name).and_then(JsonValue::as_str) else {
         return Err(bad_field(alloc, number, name));
     };
     match Site::read(alloc, text) {
         Ok(site) => Ok(site),
         Err(SiteFault::NoMemory) => Err(ScriptFault::NoMemory),
         Err(SiteFault::NotSite) => Err(bad_field(alloc, number, name)),
-    }
-}
-
-// ---- words
-
-/// A truth value.
-pub fn truth(
-    alloc: Global,
-    line: &Value,
-    number: u32,
-    name: &str,
-    absent: bool,
-) -> Result<bool, ScriptFault>
-    ensures { let field = defaulted built name.now spec.truth absent in
-        Reads (λ b. b) (field_of number field (view line.now)) result }
-{
-    let Some(value) = line.get(name) else {
-        return Ok(absent);
-    };
-    match value.as_bool() {
-        Some(answer) => Ok(answer),
-        None => Err(bad_field(alloc, number, name)),
-    }
-}
-
-/// The name of a method.
-pub fn method(
-    alloc: Global,
-    line: &Value,
-    number: u32,
-    name: &str,
-    absent: Method,
-) -> Result<Method, ScriptFault>
-    ensures { let field = defaulted built name.now spec.method_name absent in
-        Reads (λ m. m) (field_of number field (view line.now)) result }
-{
-    let Some(value) = line.get(name) else {
-        return Ok(absent);
-    };
-    match value.as_str().and_then(method_named) {
-        Some(method) => Ok(method),
-        None => Err(bad_field(alloc, number, name)),
-    }
-}
-
-/// The name of an area.
-pub fn area(
-    alloc: Global,
-    line: &Value,
-    number: u32,
-    name: &str,
-    absent: AreaKind,
-) -> Result<AreaKind, ScriptFault>
-    ensures { let field = defaulted built name.now spec.area_name absent in
-        Reads (λ a. a) (field_of number field (view line.now)) result }
-{
-    let Some(value) = line.get(name) else {
-        return Ok(absent);
-    };
-    match value.as_str().and_then(area_named) {
-        Some(area) => Ok(area),
-        None => Err(bad_field(alloc, number, name)),
-    }
-}
-
-/// Whether the page loads its tab anew, and not the user.
-pub fn loader(
-    alloc: Global,
-    line: &Value,
-    number: u32,
-    name: &str,
-    absent: bool,
-) -> Result<bool, ScriptFault>
-    ensures { let field = defaulted built name.now spec.loader absent in
-        Reads (λ b. b) (field_of number field (view line.now)) result }
-{
-    let Some(value) = line.get(name) else {
-        return Ok(absent);
-    };
-    match value.as_str().and_then(loader_named) {
-        Some(by_page) => Ok(by_page),
-        None => Err(bad_field(alloc, number, name)),
-    }
-}
-
-/// Whether a frame navigates itself, and not its parent.
-pub fn navigator(
-    alloc: Global,
-    line: &Value,
-    number: u32,
-    name: &str,
-    absent: bool,
-) -> Result<bool, ScriptFault>
-    ensures { let field = defaulted built name.now spec.navigator absent in
-        Reads (λ b. b) (field_of number field (view line.now)) result }
-{
-    let Some(value) = line.get(name) else {
-        return Ok(absent);
-    };
-    match value.as_str().and_then(navigator_named) {
-        Some(by_self) => Ok(by_self),
-        None => Err(bad_field(alloc, number, name)),
-    }
-}
-
-/// The answer to a prompt for storage access.
-pub fn prompt(alloc: Global, line: &Value, number: u32, name: &str) -> Result<Prompt, ScriptFault>
-    ensures { let field = required built name.now spec.prompt_answer in
-        Reads (λ p. p) (field_of number field (view line.now)) result }
-{
-    match line
-        .get(name)
-        .and_then(Value::as_str)
-        .and_then(prompt_named)
-    {
-        Some(answer) => Ok(answer),
-        None => Err(bad_field(alloc, number, name)),
-    }
-}
-
-/// The answer to a prompt for persistent storage.
-pub fn consent(alloc: Global, line: &Value, number: u32, name: &str) -> Result<Prompt, ScriptFault>
-    ensures { let field = required built name.now spec.consent in
-        Reads (λ p. p) (field_of number field (view line.now)) result }
-{
-    match line
-        .get(name)
-        .and_then(Value::as_str)
-        .and_then(consent_named)
-    {
-        Some(answer) => Ok(answer),
-        None => Err(bad_field(alloc, number, name)),
     }
 }

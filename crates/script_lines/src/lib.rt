@@ -8,19 +8,24 @@
 mod action;
 mod actions;
 mod fields;
+mod flat_object;
+mod json_line;
+mod json_text;
+mod json_value;
 mod members;
 mod pairs;
+mod printed_bodies;
+mod printed_lists;
 mod printer;
 mod reader;
 mod reply;
 mod rows;
 mod script;
-#[cfg(test)]
-mod tests;
+mod word_fields;
 mod words;
 
 pub use action::{Action, HeadPair};
-pub use printer::print;
+pub use printer::{print, print_into};
 pub use reply::{Reply, ReplyBody};
 pub use script::{Line, Script, ScriptFault};
 pub use words::{Method, Prompt};

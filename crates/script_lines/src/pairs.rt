@@ -6,12 +6,16 @@ ghost use Rattle.http_header.specs.FieldName.{is_field_name};
 ghost use Rattle.http_header.specs.Token.{is_token_byte};
 ghost use Rattle.serde_json.specs.Find.{get};
 ghost use Rattle.serde_json.specs.View.{items_view, view};
+ghost use Rattle.script_lines.specs.Flat.{data_of};
+ghost use Rattle.script_lines.specs.JsonLine.{data_of_line};
 ghost use Rattle.script_lines.specs.Fields as fields;
 ghost use Rattle.script_lines.specs.Fields.{built, defaulted, field_of, required};
 ghost use Rattle.script_lines.specs.Pairs as spec;
 ghost use Rattle.script_lines.specs.Plain.{Reads, head_pair_of};
 
 use crate::fields::bad_field;
+use crate::json_line::JsonLine;
+use crate::json_value::JsonValue;
 use crate::{HeadPair, ScriptFault};
 use agent_base::NoMemory;
 use disk_model::Cut;
@@ -19,15 +23,19 @@ use http_header::is_token_char;
 use serde_json::Value;
 use std::alloc::Global;
 
+// The most pairs of a list.
+const MOST_PAIRS: usize = 64;
+
 /// A list of header fields, which is empty where it is absent.
 pub fn header_list(
     alloc: Global,
-    line: &Value,
+    line: &JsonLine<'_>,
     number: u32,
     name: &str,
 ) -> Result<Vec<HeadPair>, ScriptFault>
     ensures { let field = defaulted built name.now fields.header_list [] in
-        Reads (λ v. map head_pair_of v.items) (field_of number field (view line.now)) result }
+        Reads (λ v. map head_pair_of v.items)
+        (field_of number field (data_of_line line.now)) result }
 {
     let Some(value) = line.get(name) else {
         return Ok(Vec::new(alloc));
@@ -40,15 +48,15 @@ pub fn header_list(
 }
 
 // The pairs of texts that a value is a list of, at most 64 of them.
-fn head_pairs(alloc: Global, value: &Value) -> Result<Option<Vec<HeadPair>>, NoMemory>
+fn head_pairs(alloc: Global, value: JsonValue<'_>) -> Result<Option<Vec<HeadPair>>, NoMemory>
     ensures { IfOk result (λ pairs. option_map (λ v. map head_pair_of v.items) pairs
-        ≡ spec.list_of spec.head_pair_of (view value.now)) }
+        ≡ spec.list_of spec.head_pair_of (data_of value.entry)) }
 {
     let Some(items) = value.as_array() else {
         return Ok(None);
     };
     match each_head_pair(alloc, items)? {
-        Some(pairs) if pairs.len() <= 64 => Ok(Some(pairs)),
+        Some(pairs) if pairs.len() <= MOST_PAIRS => Ok(Some(pairs)),
         _ => Ok(None),
     }
 }
@@ -159,12 +167,12 @@ fn ends_a_value(b: u8) -> bool
 /// A list of cuts, whose calls rise.
 pub fn cut_list(
     alloc: Global,
-    line: &Value,
+    line: &JsonLine<'_>,
     number: u32,
     name: &str,
 ) -> Result<Vec<Cut>, ScriptFault>
     ensures { let field = required built name.now fields.cut_list in
-        Reads (λ v. v.items) (field_of number field (view line.now)) result }
+        Reads (λ v. v.items) (field_of number field (data_of_line line.now)) result }
 {
     match cuts_at(alloc, line, name)? {
         Some(cuts) => Ok(cuts),
@@ -172,15 +180,15 @@ pub fn cut_list(
     }
 }
 
-fn cuts_at(alloc: Global, line: &Value, name: &str) -> Result<Option<Vec<Cut>>, NoMemory>
+fn cuts_at(alloc: Global, line: &JsonLine<'_>, name: &str) -> Result<Option<Vec<Cut>>, NoMemory>
     ensures { IfOk result (λ cuts. option_map (λ v. v.items) cuts
-        ≡ option_and_then (fields.meaning fields.cut_list) (get name.now (view line.now))) }
+        ≡ option_and_then (fields.meaning fields.cut_list) (get name.now (data_of_line line.now))) }
 {
-    let Some(items) = line.get(name).and_then(Value::as_array) else {
+    let Some(items) = line.get(name).and_then(JsonValue::as_array) else {
         return Ok(None);
     };
     match each_cut(alloc, items)? {
-        Some(cuts) if cuts.len() <= 64 && rise(&cuts) => Ok(Some(cuts)),
+        Some(cuts) if cuts.len() <= MOST_PAIRS && rise(&cuts) => Ok(Some(cuts)),
         _ => Ok(None),
     }
 }

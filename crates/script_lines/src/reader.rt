@@ -6,8 +6,6 @@ ghost use Rattle.std.specs.Prelude.{false, position, true, length, map, option_c
 ghost use Rattle.std.specs.Str.{is_utf8};
 ghost use Rattle.agent_base.specs.Counts.{Rose};
 ghost use Rattle.agent_base.specs.Streams.{Shortens};
-ghost use Rattle.serde_json.specs.Read.{read};
-ghost use Rattle.serde_json.specs.View.{view};
 ghost use Rattle.script_lines.specs.Grammar as spec;
 ghost use Rattle.script_lines.specs.Grammar.{action_of_bytes, json_of, line_of_bytes, lines_from};
 ghost use Rattle.script_lines.specs.Grammar.{lines_of, script_limit, script_of_bytes};
@@ -16,11 +14,19 @@ ghost use Rattle.script_lines.specs.Plain.{GaveScript, Reads, ReadsSource, actio
 ghost use Rattle.script_lines.specs.Plain.{line_of, script_of};
 
 use crate::actions::read_action;
+use crate::json_line::JsonLine;
 use crate::{Action, Line, Script, ScriptFault};
 use agent_base::{ReadAll, Source, read_all};
-use serde_json::Value;
+use json::Scratch;
+use memchr::memchr;
 use std::alloc::Global;
 use std::str;
+
+// The most bytes of a script.
+const SCRIPT_LIMIT: usize = 16_777_216;
+
+// The most bytes of a line without its end.
+const LINE_LIMIT: usize = 1_048_576;
 
 impl Script {
     /// Reads the script that the bytes of a source are, in time linear in their number. Of several
@@ -40,9 +46,12 @@ impl Script {
         ensures cause { IsErrOf result ScriptFault.ReadFault
             → Rose (S.faults source.old) (S.faults source.new) }
         ensures later { S.faults source.old ≤ S.faults source.new }
+        ensures still { MatchResult result (λ _. S.faults source.new ≡ S.faults source.old)
+            (λ why. (why ≡ ScriptFault.ReadFault)
+            ⊎ (S.faults source.new ≡ S.faults source.old)) }
         ensures rest { Shortens (S.left source.old) (S.left source.new) }
     {
-        match read_all(alloc, source, 16_777_216) {
+        match read_all(alloc, source, SCRIPT_LIMIT) {
             Ok(bytes) => script_in(alloc, &bytes),
             Err(ReadAll::TooLong) => Err(ScriptFault::TooLong),
             Err(ReadAll::Failed) => Err(ScriptFault::ReadFault),
@@ -64,11 +73,12 @@ fn read_lines(alloc: Global, bytes: &[u8]) -> Result<Vec<Line>, ScriptFault>
     ensures { Reads (λ v. map line_of v.items) (lines_from 1 (lines_of bytes.now)) result }
 {
     let mut lines = Vec::new(alloc);
+    let mut scratch = Scratch::new(alloc);
     let mut rest = bytes;
     let mut number = 1;
     'lines: loop {
         let (line, later) = next_line(rest);
-        push_some(&mut lines, read_line(alloc, line, number)?)?;
+        push_some(&mut lines, read_line(alloc, line, number, &mut scratch)?)?;
         match later {
             Some(later) => rest = later,
             None => return Ok(lines),
@@ -104,16 +114,21 @@ fn push_some(lines: &mut Vec<Line>, line: Option<Line>) -> Result<(), ScriptFaul
 fn line_end(bytes: &[u8]) -> Option<usize>
     ensures { result ≡ position (λ b. b == 10) bytes.now }
 {
-    bytes.iter().position(|b| *b == b'\n')
+    memchr(b'\n', bytes)
 }
 
-fn read_line(alloc: Global, line: &[u8], number: u32) -> Result<Option<Line>, ScriptFault>
+fn read_line(
+    alloc: Global,
+    line: &[u8],
+    number: u32,
+    scratch: &mut Scratch,
+) -> Result<Option<Line>, ScriptFault>
     ensures { Reads (option_map line_of) (line_of_bytes number line.now) result }
 {
     if is_blank(line) {
         return Ok(None);
     }
-    let action = action_in(alloc, line, number)?;
+    let action = action_in(alloc, line, number, scratch)?;
     Ok(Some(Line { number, action }))
 }
 
@@ -123,16 +138,21 @@ fn is_blank(line: &[u8]) -> bool
     line.iter().all(|b| matches!(*b, b' ' | b'\t' | b'\r'))
 }
 
-fn action_in(alloc: Global, line: &[u8], number: u32) -> Result<Action, ScriptFault>
+fn action_in(
+    alloc: Global,
+    line: &[u8],
+    number: u32,
+    scratch: &mut Scratch,
+) -> Result<Action, ScriptFault>
     ensures { Reads action_of (action_of_bytes number line.now) result }
 {
-    if line.len() > 1_048_576 {
+    if line.len() > LINE_LIMIT {
         return Err(ScriptFault::LineTooLong(number));
     }
     let Some(text) = utf8_text(line) else {
         return Err(ScriptFault::NotUtf8(number));
     };
-    let value = read_json(alloc, text, number)?;
+    let value = JsonLine::read(alloc, text, number, scratch)?;
     read_action(alloc, &value, number)
 }
 
@@ -143,15 +163,5 @@ fn utf8_text(line: &[u8]) -> Option<&str>
     match str::from_utf8(line) {
         Ok(text) => Some(text),
         Err(_) => None,
-    }
-}
-
-fn read_json(alloc: Global, text: &str, number: u32) -> Result<Value, ScriptFault>
-    ensures { Reads view (json_of number (read text.now)) result }
-{
-    match Value::from_str(alloc, text) {
-        Ok(value) => Ok(value),
-        Err(e) if e.is_memory() => Err(ScriptFault::NoMemory),
-        Err(_) => Err(ScriptFault::NotJson(number)),
     }
 }

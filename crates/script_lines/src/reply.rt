@@ -9,6 +9,9 @@ use origin_site::Site;
 use std::alloc::Global;
 use storage_events::Event;
 
+/// The quota that an estimate tells, in bytes.
+pub const QUOTA: u64 = 5_242_880;
+
 /// What a reply answers. Every body but `Plain` answers `ok`.
 #[derive(Debug, Drop, PartialEq, Eq)]
 pub enum ReplyBody {

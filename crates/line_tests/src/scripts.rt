@@ -1,0 +1,189 @@
+//! Scripts from outside: the actions of their lines, and their first faults.
+use agent_base::MemSource;
+use script_lines::{Line, Script, ScriptFault};
+use std::alloc::Global;
+use std::test::Fail;
+
+// What reading these bytes answers.
+pub fn script_of(alloc: Global, bytes: Vec<u8>) -> Result<Script, ScriptFault> {
+    let mut source = MemSource::new(bytes, Vec::new(alloc));
+    Script::read(alloc, &mut source)
+}
+
+// The message of a fault, through a copy of it.
+pub fn message_of(alloc: Global, why: &ScriptFault) -> Result<String, Fail> {
+    let copy = why.copy(alloc)?;
+    Ok(format!(in alloc; "{copy}")?)
+}
+
+// The message of the first fault of a text, and nothing where it is a script.
+fn fault_of(alloc: Global, text: &[u8]) -> Result<String, Fail> {
+    let bytes = Vec::from_slice(alloc, text)?;
+    match script_of(alloc, bytes) {
+        Ok(_) => Ok(String::new(alloc)),
+        Err(why) => message_of(alloc, &why),
+    }
+}
+
+const FAULTS: [(&[u8], &[u8]); 25] = [
+    (b"x", b"script line 1: not json"),
+    (
+        b"{\"do\":\"tick\",\"s\":1}\n\nx",
+        b"script line 3: not json",
+    ),
+    (
+        b"\n \t\r\n{\"do\":\"tock\",\"a\":1}\nx",
+        b"script line 3: unknown action",
+    ),
+    (b"[]\n", b"script line 1: bad field do"),
+    (b"{\"do\":1}", b"script line 1: bad field do"),
+    (
+        b"{\"do\":\"open\",\"tab\":0,\"z\":0}",
+        b"script line 1: bad field tab",
+    ),
+    (
+        b"{\"do\":\"open\",\"tab\":65536}",
+        b"script line 1: bad field tab",
+    ),
+    (
+        b"{\"do\":\"open\",\"tab\":1e0}",
+        b"script line 1: bad field tab",
+    ),
+    (
+        b"{\"do\":\"open\",\"tab\":1,\"url\":\"ftp://a\"}",
+        b"script line 1: bad field url",
+    ),
+    (
+        b"{\"do\":\"get\",\"tab\":1,\"z\":0}",
+        b"script line 1: bad field key",
+    ),
+    (
+        b"{\"do\":\"get\",\"tab\":1,\"key\":\"\",\"z\":0,\"a\":0}",
+        b"script line 1: bad field a",
+    ),
+    (
+        b"{\"do\":\"open\",\"tab\":1,\"url\":\"https://a.test\",\"head\":[]}",
+        b"script line 1: bad field head",
+    ),
+    (
+        b"{\"do\":\"set\",\"value\":1,\"key\":2,\"tab\":1}",
+        b"script line 1: bad field key",
+    ),
+    (
+        b"{\"do\":\"tick\",\"s\":1,\"z\":0,\"a\":0}",
+        b"script line 1: bad field a",
+    ),
+    (
+        b"{\"do\":\"tick\",\"s\":1.0}",
+        b"script line 1: bad field s",
+    ),
+    (b"{\"do\":\"tick\",\"s\":-0}", b"script line 1: bad field s"),
+    (
+        b"{\"do\":\"tick\",\"s\":null}",
+        b"script line 1: bad field s",
+    ),
+    (
+        b"{\"do\":\"tick\",\"s\":1000000001}",
+        b"script line 1: bad field s",
+    ),
+    (
+        b"{\"do\":\"tick\",\"s\":1,\"s\":\"1\"}",
+        b"script line 1: bad field s",
+    ),
+    (
+        b"{\"do\":\"cookie\",\"tab\":1}",
+        b"script line 1: unknown action",
+    ),
+    (
+        b"{\"do\":\"tick\",\"s\":1,\"\\n\":0}",
+        b"script line 1: bad field \n",
+    ),
+    (
+        b"{\"do\":\"get\",\"tab\":1,\"key\":\"\\ud800\"}",
+        b"script line 1: not json",
+    ),
+    (
+        b"\xef\xbb\xbf{\"do\":\"tick\",\"s\":1}",
+        b"script line 1: not json",
+    ),
+    (b"\n\"\xff\"", b"script line 2: not utf-8"),
+    (b"{\"do\":\"tick\",\"s\":1e400}", b"script line 1: not json"),
+];
+
+#[test]
+fn first_fault_of_a_script(rt: HostRuntime) -> Result<(), Fail> {
+    let alloc = rt.alloc();
+    for (text, want) in FAULTS {
+        let message = fault_of(alloc, text)?;
+        assert!(rt; message.as_bytes() == want, "{message}");
+    }
+    Ok(())
+}
+
+// A line's number and action.
+fn line_text(alloc: Global, line: &Line) -> Result<String, Fail> {
+    Ok(format!(in alloc; "{} {:?}", line.number, line.action)?)
+}
+
+// The same of each line.
+pub fn lines_text(alloc: Global, script: &Script) -> Result<String, Fail> {
+    let mut shown = String::new(alloc);
+    for line in &script.lines {
+        shown.push_str(line_text(alloc, line)?.as_str())?;
+        shown.push('\n')?;
+    }
+    Ok(shown)
+}
+
+// The lines of a script that a text is, through a copy of it.
+fn read_lines(alloc: Global, text: &[u8]) -> Result<String, Fail> {
+    let bytes = Vec::from_slice(alloc, text)?;
+    let script = script_of(alloc, bytes)?;
+    let copy = script.copy(alloc)?;
+    lines_text(alloc, &copy)
+}
+
+const LINES: &[u8] = b"{\"do\":\"open\",\"tab\":65535,\"url\":\"https://a.test\"}\r\n\n\
+    {\"key\":\"k\",\"do\":\"get\",\"tab\":1}";
+
+const ACTIONS: &str = "1 Open { tab: 65535, url: Address { text: \"https://a.test/\", \
+    https: true, ip: false, host: \"a.test\", port: 443, path: \"/\" }, opener: None, \
+    noopener: false, method: Get }\n\
+    3 Get { at: Label { tab: 1, frame: 0 }, area: Local, key: \"k\" }\n";
+
+#[test]
+fn lines_of_a_script(rt: HostRuntime) -> Result<(), Fail> {
+    let alloc = rt.alloc();
+    let shown = read_lines(alloc, LINES)?;
+    assert_eq!(rt; shown.as_str(), ACTIONS);
+    Ok(())
+}
+
+#[test]
+fn limit_of_a_line_to_its_last_byte(rt: HostRuntime) -> Result<(), Fail> {
+    let alloc = rt.alloc();
+    for (byte, count, want) in [
+        (b'x', 1_048_576, Some(ScriptFault::NotJson(1))),
+        (b'x', 1_048_577, Some(ScriptFault::LineTooLong(1))),
+        (b' ', 1_048_577, None),
+    ] {
+        let why = script_of(alloc, vec![in alloc; byte; count]?).err();
+        assert!(rt; why == want, "{count} times {byte}");
+    }
+    Ok(())
+}
+
+// A source of blanks whose second read fails.
+fn failing_source(alloc: Global) -> Result<MemSource, Fail> {
+    let fails = Vec::from_slice(alloc, &[2])?;
+    Ok(MemSource::new(vec![in alloc; b' '; 5000]?, fails))
+}
+
+#[test]
+fn source_fails_in_mid_stream(rt: HostRuntime) -> Result<(), Fail> {
+    let alloc = rt.alloc();
+    let mut source = failing_source(alloc)?;
+    let first = Script::read(alloc, &mut source).err();
+    assert!(rt; first == Some(ScriptFault::ReadFault));
+    Ok(())
+}

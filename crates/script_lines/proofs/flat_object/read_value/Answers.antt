@@ -1,0 +1,27 @@
+use Rattle.std.proofs.Common.{◌≡◌, ◌∷◌, option_map, ap, ◌∙◌, arith}
+use Rattle.json.specs.Token.{Token}
+use Rattle.json.specs.Json.{value}
+use Rattle.json.specs.Reads.{token_of}
+use Rattle.json.proofs.Grammar.{value_is}
+use Rattle.serde_json.specs.Data.{number}
+use Rattle.serde_json.specs.Read.{converted, of_json}
+use Rattle.script_lines.proofs.flat_object.read_value.Goals as goal
+
+pub returns-in-String-clause-value : goal.returns-in-String-clause-value
+returns-in-String-clause-value c =
+    let first : c.args.reader.now ≡ token_of c.in-Some.token ∷ c.next.new.self = c.in-Some.ensures.value in
+    let is : c.args.reader.now ≡ Token.string c.in-String.text.now ∷ c.next.new.self = grind (arith, first) in
+    ap (converted of_json) (ap (value 126) is ∙ value_is 126 _)
+
+pub returns-in-Bool-clause-value : goal.returns-in-Bool-clause-value
+returns-in-Bool-clause-value c =
+    let first : c.args.reader.now ≡ token_of c.in-Some.token ∷ c.next.new.self = c.in-Some.ensures.value in
+    let is : c.args.reader.now ≡ Token.boolean c.in-Bool.truth ∷ c.next.new.self = grind (arith, first) in
+    ap (converted of_json) (ap (value 126) is ∙ value_is 126 _)
+
+pub returns-in-Some-whole_number-clause-value : goal.returns-in-Some-whole_number-clause-value
+returns-in-Some-whole_number-clause-value c =
+    let first : c.args.reader.now ≡ token_of c.in-Some.token ∷ c.next.new.self = c.in-Some.ensures.value in
+    let is : c.args.reader.now ≡ Token.number c.in-Number.text.now ∷ c.next.new.self = grind (arith, first) in
+    ap (converted of_json) (ap (value 126) is ∙ value_is 126 _)
+    ∙ ap (λ read. option_map (λ d. (d, c.next.new.self)) (option_map number read)) c.in-Some-whole_number.ensures

@@ -16,7 +16,7 @@ use Rattle.live_state.specs.Tabs.{made_tab}
 use Rattle.script_lines.specs.declared.words.Prompt.TheVariants.{Grant, Deny, Dismiss}
 use Rattle.script_lines.specs.Reply.{Plain, Truth, Cleared}
 use Rattle.agent_model.specs.Partition.{Areas, Holdings, no_holdings, area_of}
-use Rattle.agent_model.specs.SiteEvent.{answers}
+use Rattle.agent_model.specs.Done.{SharedCells, no_shared_cells, answers}
 use Rattle.agent_model.specs.Buckets.{is_persistent, made_persistent, persist_by, persist, is_evicted, areas_taken, evict}
 use Rattle.agent_model.proofs.KeptLemmas as kept
 use Rattle.agent_model.proofs.StandardFacts.{site, a, b, widget_key}
@@ -28,22 +28,22 @@ use Rattle.agent_model.proofs.StorageFacts.{shows_a, key_a, writer, pairs}
 abbrev plain_http : PlainAddress
 plain_http = record { text = codes "http://a.test/"; https = false; ip = false; host = a; port = 80; path = codes "/" }
 
-insecure : (held : Holdings) → persist (made_tab 1 (opened [] plain_http) None None) Grant writer held ≡ answers (Plain (codes "insecure")) held
-insecure held = refl
+insecure : (cells : SharedCells) (held : Holdings) → persist (made_tab 1 (opened [] plain_http) None None) Grant writer cells held ≡ answers (Plain (codes "insecure")) cells held
+insecure cells held = refl
 
 -- a grant makes a bucket persistent, and without one it stays as it is
 best_effort : is_persistent key_a no_holdings ≡ false
 unfolding no_holdings
 best_effort = ap is_some (get-empty key_order key_a)
 
-granted : persist (shows_a 1) Grant writer no_holdings ≡ answers (Truth true) (made_persistent key_a no_holdings)
-granted = ap (λ before. persist_by before true writer no_holdings) best_effort
+granted : persist (shows_a 1) Grant writer no_shared_cells no_holdings ≡ answers (Truth true) no_shared_cells (made_persistent key_a no_holdings)
+granted = ap (λ before. persist_by before true writer no_shared_cells no_holdings) best_effort
 
-denied : persist (shows_a 1) Deny writer no_holdings ≡ answers (Truth false) no_holdings
-denied = ap (λ before. persist_by before false writer no_holdings) best_effort
+denied : persist (shows_a 1) Deny writer no_shared_cells no_holdings ≡ answers (Truth false) no_shared_cells no_holdings
+denied = ap (λ before. persist_by before false writer no_shared_cells no_holdings) best_effort
 
-dismissed : persist (shows_a 1) Dismiss writer no_holdings ≡ answers (Truth false) no_holdings
-dismissed = ap (λ before. persist_by before false writer no_holdings) best_effort
+dismissed : persist (shows_a 1) Dismiss writer no_shared_cells no_holdings ≡ answers (Truth false) no_shared_cells no_holdings
+dismissed = ap (λ before. persist_by before false writer no_shared_cells no_holdings) best_effort
 
 -- a persistent one stays persistent whatever the answer
 abbrev kept_a : Holdings
@@ -52,8 +52,8 @@ kept_a = made_persistent key_a no_holdings
 persistent : is_persistent key_a kept_a ≡ true
 persistent = ap is_some (get-insert key_order_total no_holdings.persistent key_a tt key_a)
 
-denied_late : persist (shows_a 1) Deny writer kept_a ≡ answers (Truth true) kept_a
-denied_late = ap (λ before. persist_by before false writer kept_a) persistent
+denied_late : persist (shows_a 1) Deny writer no_shared_cells kept_a ≡ answers (Truth true) no_shared_cells kept_a
+denied_late = ap (λ before. persist_by before false writer no_shared_cells kept_a) persistent
 
 -- ---- evict
 
@@ -81,16 +81,16 @@ mode key =
     at false = refl
 
 -- what is left of an area of a key under `https://a.test`
-left : (key : PlainKey) → area_of Local 1 key (evict (site a) before).held ≡ cond (not (same_plain_site (site a) key.top && not (is_persistent key before))) (get_cell key_order filled key) []
+left : (key : PlainKey) → area_of Local 1 key (evict (site a) no_shared_cells before).held ≡ cond (not (same_plain_site (site a) key.top && not (is_persistent key before))) (get_cell key_order filled key) []
 left key = kept.kept_cell key_order key_order_total key_order_same filled (λ k. not (is_evicted (site a) before k)) key
 
-own_is_taken : area_of Local 1 key_a (evict (site a) before).held ≡ []
+own_is_taken : area_of Local 1 key_a (evict (site a) no_shared_cells before).held ≡ []
 own_is_taken = left key_a ∙ ap (λ is. cond (not (not is)) (get_cell key_order filled key_a) []) (mode key_a)
 
-persistent_stays : area_of Local 1 (widget_key a true) (evict (site a) before).held ≡ get_cell key_order filled (widget_key a true)
+persistent_stays : area_of Local 1 (widget_key a true) (evict (site a) no_shared_cells before).held ≡ get_cell key_order filled (widget_key a true)
 persistent_stays = left (widget_key a true) ∙ ap (λ is. cond (not (not is)) (get_cell key_order filled (widget_key a true)) []) (mode (widget_key a true))
 
-other_stays : area_of Local 1 (widget_key b true) (evict (site a) before).held ≡ get_cell key_order filled (widget_key b true)
+other_stays : area_of Local 1 (widget_key b true) (evict (site a) no_shared_cells before).held ≡ get_cell key_order filled (widget_key b true)
 other_stays = left (widget_key b true)
 
 -- one area is counted
@@ -109,7 +109,7 @@ one_taken =
     taken : PlainKey → Bool
     taken = is_evicted (site a) before
 
-counted : (evict (site a) before).body ≡ Cleared 1
+counted : (evict (site a) no_shared_cells before).body ≡ Cleared 1
 counted =
     ap (λ n. Cleared (min n (2 ^ 32 - 1)))
     (ap finite.len one_taken ∙ len-insert key_order_total nothing key_a full

@@ -8,9 +8,10 @@ use Rattle.unwinding.proofs.EpochReplies.{lines_replies}
 use Rattle.suffix_list.specs.Suffix.{Rule}
 use Rattle.origin_site.specs.Site.{PlainSite, same_plain_site, site_of_address}
 use Rattle.origin_site.proofs.SameLemmas.{same_plain_site-Decides}
+use Rattle.storage_key.specs.Context.{is_of}
 use Rattle.live_state.specs.Tabs.{PlainTab}
 use Rattle.script_lines.specs.Reply.{reply_text}
-use Rattle.script_lines.specs.Script.{PlainAction, Open, Close, Go}
+use Rattle.script_lines.specs.Script.{PlainAction, Tick, Open, Close, Go, Evict, Act}
 use Rattle.agent_model.specs.Partition.{tab_named}
 use Rattle.agent_model.specs.SiteEvent.{Leaves, Copies, Closes, TimedEvent, Answer}
 use Rattle.agent_model.specs.Sessions.{has_session}
@@ -18,10 +19,10 @@ use Rattle.agent_model.specs.SiteStep.{site_step, close_at}
 use Rattle.agent_model.specs.Lines.{AgentWorld, site_at, timed}
 use Rattle.agent_model.specs.SideEvents.{where_so, copies, leaves, closes, side_event}
 use Rattle.agent_model.specs.TheMachine.{machine, beginning}
-use Rattle.agent_model.specs.Isolation.{IsIsolated, HasIsolatedLines, replies_to, answers_of, local_script, site_run, is_of, text_of, lines_of_site, lines_alone, printed}
+use Rattle.agent_model.specs.Isolation.{IsIsolated, HasIsolatedLines, replies_to, answers_of, local_script, site_run, text_of, lines_of_site, lines_alone, printed}
 
 -- every world is sound
-abbrev IsSound : AgentWorld → Type 0
+abbrev pub IsSound : AgentWorld → Type 0
 IsSound world = Unit {0}
 
 module _ (rules : List Rule) (w : AgentWorld) (s : PlainSite) where
@@ -29,7 +30,7 @@ module _ (rules : List Rule) (w : AgentWorld) (s : PlainSite) where
   abbrev IsQuietHere : TimedEvent → Type 0
   IsQuietHere e = IsQuiet (machine rules) w.cells (w.partition s) e
 
-  without_reply : (e : TimedEvent) → (site_step rules (w.partition s) tt e).reply ≡ None → (site_step rules (w.partition s) tt e).changes ≡ [] → IsQuietHere e
+  without_reply : (e : TimedEvent) → (site_step rules (w.partition s) w.cells e).reply ≡ None → (site_step rules (w.partition s) w.cells e).changes ≡ [] → IsQuietHere e
   unfolding machine
   without_reply e reply changes = record { names_none = refl; sweeps_none = refl; no_reply = reply; no_changes = changes }
 
@@ -43,9 +44,7 @@ module _ (rules : List Rule) (w : AgentWorld) (s : PlainSite) where
   copies_quiet : (tab : ℕ) (opener : Option ℕ) (noopener : Bool) (here : Option PlainSite) (e : TimedEvent)
       → copies w tab opener noopener here s ≡ Some e → IsQuietHere e
   unfolding site_step
-  copies_quiet tab (Some opener) false None e is = so_quiet _ (timed w (Copies opener tab)) e (λ so. without_reply (timed w (Copies opener tab)) refl refl) is
-  copies_quiet tab (Some opener) false (Some here) e is = cc
-  copies_quiet tab (Some opener) true here e is = cc
+  copies_quiet tab (Some opener) noopener here e is = so_quiet _ (timed w (Copies opener tab)) e (λ so. without_reply (timed w (Copies opener tab)) refl refl) is
   copies_quiet tab None noopener here e is = cc
 
   leaves_quiet : (tab : ℕ) (here : Option PlainSite) (target : PlainSite) (e : TimedEvent) → leaves w tab here target s ≡ Some e → IsQuietHere e
@@ -58,19 +57,21 @@ module _ (rules : List Rule) (w : AgentWorld) (s : PlainSite) where
   unfolding site_step
   close_quiet tab None is so =
       without_reply (timed w (Closes tab))
-      (ap (λ (t : Option PlainTab). (close_at tab t (w.partition s)).reply) is) (ap (λ (t : Option PlainTab). (close_at tab t (w.partition s)).changes) is)
+      (ap (λ (t : Option PlainTab). (close_at tab t w.cells (w.partition s)).reply) is) (ap (λ (t : Option PlainTab). (close_at tab t w.cells (w.partition s)).changes) is)
   close_quiet tab (Some closed) is so = absurd (true≢false (sym so))
 
   closes_quiet : (tab : ℕ) (here : Option PlainSite) (e : TimedEvent) → closes w tab here s ≡ Some e → IsQuietHere e
   closes_quiet tab None e is = cc
   closes_quiet tab (Some here) e is = so_quiet _ (timed w (Closes tab)) e (close_quiet tab (tab_named tab (w.partition s).held) refl) is
 
-quiet : (rules : List Rule) (w : AgentWorld) (l : PlainAction) (s : PlainSite) (e : TimedEvent) → side_event rules w l s ≡ Some e → IsQuietHere rules w s e
+pub quiet : (rules : List Rule) (w : AgentWorld) (l : PlainAction) (s : PlainSite) (e : TimedEvent) → side_event rules w l s ≡ Some e → IsQuietHere rules w s e
 unfolding side_event
 quiet rules w (Open tab url opener noopener method) s e is = copies_quiet rules w s tab opener noopener (site_at tab w.rest.places) e is
 quiet rules w (Go tab url by_page method) s e is = leaves_quiet rules w s tab (site_at tab w.rest.places) (site_of_address rules url) e is
 quiet rules w (Close tab) s e is = closes_quiet rules w s tab (site_at tab w.rest.places) e is
-quiet rules w action s e is = cc
+quiet rules w (Tick seconds) s e is = cc
+quiet rules w (Evict site) s e is = cc
+quiet rules w (Act at action) s e is = cc
 
 pub facts : (rules : List Rule) → Facts (machine rules) IsSound
 unfolding machine

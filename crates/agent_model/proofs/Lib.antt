@@ -1,32 +1,18 @@
 -- Maps whose keys pass a test.
 pub mod KeptLemmas
--- What one site has of what is held for all sites, before and after each action.
+-- What writes and copies leave.
 pub mod HoldingsLemmas
-pub mod DocumentLemmas
-pub mod AreaLemmas
-pub mod TabLemmas
-pub mod BucketLemmas
 pub mod SessionLemmas
-pub mod TopLemmas
-pub mod TopKeptLemmas
--- What a line makes of the world.
-pub mod PlacedLemmas
-pub mod ActLemmas
-pub mod ActPlacedLemmas
-pub mod WorldLemmas
-pub mod WorldBeginningLemmas
-pub mod WorldActLemmas
-pub mod WorldCloseLemmas
-pub mod WorldLoadLemmas
-pub mod WorldOpenLemmas
 -- The law.
 pub mod Isolated
+mod SiteRunLemmas
+pub mod ToldLemmas
+pub mod OwnLemmas
+pub mod LocalScriptLemmas
 -- Values worked out by hand.
-mod StandardFacts
+pub mod StandardFacts
 mod OpenerFacts
-mod StorageFacts
+pub mod StorageFacts
 mod BucketFacts
 mod SessionFacts
-mod HeldFacts
-mod RunFacts
-mod GivenFacts
+mod ToldFacts

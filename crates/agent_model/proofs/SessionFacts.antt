@@ -8,12 +8,12 @@ use Rattle.std.specs.FinMap.{get-empty, get-insert}
 use Rattle.unwinding.specs.FiniteCells.{list_of, get_cell, set_cell}
 use Rattle.storage_key.specs.Key.{PlainKey}
 use Rattle.storage_events.specs.declared.event.AreaKind.TheVariants.{Session}
-use Rattle.agent_model.specs.Partition.{Holdings, no_holdings, session_order, tab_named, area_of, with_area}
+use Rattle.agent_model.specs.Partition.{Holdings, no_holdings, is_under, session_order, tab_named, area_of, with_area}
+use Rattle.agent_model.specs.Done.{no_shared_cells}
 use Rattle.agent_model.specs.SiteEvent.{Closes}
 use Rattle.agent_model.specs.Sessions.{is_of_tab, has_session, close, copy_sessions}
 use Rattle.agent_model.specs.Lines.{AgentWorld, no_places, timed}
 use Rattle.agent_model.specs.SideEvents.{closes, where_so}
-use Rattle.agent_model.specs.HeldAt.{is_under}
 use Rattle.agent_model.proofs.KeptLemmas as kept
 use Rattle.agent_model.proofs.HoldingsLemmas.{session_order_total, session_order_same}
 use Rattle.agent_model.proofs.SessionLemmas.{get_copied}
@@ -59,7 +59,7 @@ others_keep key held = left_in 2 key held
 
 -- a site that the tab is not at hears of the closing where it has a session area of the tab
 abbrev world_of : Holdings → AgentWorld
-world_of held = record { partition = λ s. record { site = s; held = held }; cells = tt; rest = record { now = 7; places = no_places } }
+world_of held = record { partition = λ s. record { site = s; held = held }; cells = no_shared_cells; rest = record { now = 7; places = no_places } }
 
 has_one : has_session 1 sessions_one ≡ true
 has_one = at (has_session 1 sessions_one) refl

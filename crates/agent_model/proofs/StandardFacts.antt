@@ -12,12 +12,11 @@ use Rattle.frame_tree.specs.Calls.{opened}
 use Rattle.frame_tree.specs.Document.{loaded}
 use Rattle.frame_tree.specs.Sandbox.{both, sandbox_of, unrestricted}
 use Rattle.frame_tree.specs.declared.tab.TreeFault.TheVariants.{NoFrame, FrameExists}
-use Rattle.live_state.specs.Documents.{key_of_frame}
+use Rattle.frame_tree.specs.Keys.{key_of_frame}
 use Rattle.script_lines.specs.declared.words.Method.TheVariants as method
-use Rattle.script_lines.specs.Script.{Frame, Nav, Drop}
 use Rattle.agent_model.specs.Partition.{Holdings, without_tab}
 use Rattle.agent_model.specs.SiteEvent.{SiteEvent, TimedEvent, Arrives, Leaves, Opens, Goes}
-use Rattle.agent_model.specs.Frames.{frames_after}
+use Rattle.agent_model.specs.Frames.{frames_added, frames_navigated, frames_removed}
 use Rattle.agent_model.specs.Lines.{SiteOccurrence, User, Page, opening, going}
 use Rattle.agent_model.specs.SideEvents.{leaves}
 use Rattle.agent_model.specs.Rest.{clock_after}
@@ -79,6 +78,15 @@ sent : going [] (beginning 7) 1 (address a) true method.Get (Some (site b)) ≡ 
 unfolding beginning
 sent = refl
 
+-- the user's own going is same-site, whatever site the tab was at, and each load carries its method
+gone : going [] (beginning 7) 1 (address a) false method.Post (Some (site b)) ≡ occurs_at a (Arrives Goes 1 (address a) method.Post true)
+unfolding beginning
+gone = refl
+
+posted : opening [] (beginning 7) 1 (address a) method.Post (Some User) None ≡ occurs_at a (Arrives Opens 1 (address a) method.Post true)
+unfolding beginning
+posted = refl
+
 -- it leaves its old site, and no other; and it leaves none where it stays
 leaves_old : leaves (beginning 7) 1 (Some (site b)) (site a) (site b) ≡ Some (at_seven (Leaves 1))
 unfolding beginning
@@ -109,7 +117,7 @@ abbrev pub shown : List ℕ → Option (List ℕ) → List PlainFrame
 shown top sandbox = record { frame = 0; parent = 0; document = loaded [] unrestricted false (address top) }
     ∷ record { frame = 1; parent = 0; document = loaded [] (both unrestricted (sandbox_of sandbox)) false (address widget) } ∷ []
 
-framed : frames_after [] 0 (Frame (at_frame 1 1) 0 (address widget) None false) (opened [] (address a)) ≡ Ok (shown a None)
+framed : frames_added [] (at_frame 1 1) 0 (address widget) None false (opened [] (address a)) ≡ Ok (shown a None)
 framed = refl
 
 abbrev pub widget_key : List ℕ → Bool → PlainKey
@@ -132,17 +140,17 @@ absent : key_of_frame 2 (shown a None) ≡ None
 absent = refl
 
 -- the top document neither navigates nor is dropped
-top_stays : frames_after [] 0 (Nav (at_frame 1 0) (address b) true method.Get) (shown a None) ≡ Err NoFrame
+top_stays : frames_navigated [] (at_frame 1 0) (address b) (shown a None) ≡ Err NoFrame
 top_stays = refl
 
-top_kept : frames_after [] 0 (Drop (at_frame 1 0)) (shown a None) ≡ Err NoFrame
+top_kept : frames_removed (at_frame 1 0) (shown a None) ≡ Err NoFrame
 top_kept = refl
 
-dropped : frames_after [] 0 (Drop (at_frame 1 1)) (shown a None) ≡ Ok (opened [] (address a))
+dropped : frames_removed (at_frame 1 1) (shown a None) ≡ Ok (opened [] (address a))
 dropped = refl
 
-drop_of_none : frames_after [] 0 (Drop (at_frame 1 2)) (shown a None) ≡ Err NoFrame
+drop_of_none : frames_removed (at_frame 1 2) (shown a None) ≡ Err NoFrame
 drop_of_none = refl
 
-number_taken : frames_after [] 0 (Frame (at_frame 1 1) 0 (address b) None false) (shown a None) ≡ Err FrameExists
+number_taken : frames_added [] (at_frame 1 1) 0 (address b) None false (shown a None) ≡ Err FrameExists
 number_taken = refl

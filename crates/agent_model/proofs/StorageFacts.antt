@@ -10,23 +10,23 @@ use Rattle.origin_site.specs.Origin.{origin_of_address}
 use Rattle.storage_key.specs.Key.{PlainKey, key_order}
 use Rattle.storage_key.proofs.OrderLemmas.{key_order_total, key_order_same}
 use Rattle.frame_tree.specs.Calls.{opened}
-use Rattle.frame_tree.specs.Document.{loaded}
-use Rattle.frame_tree.specs.Sandbox.{unrestricted}
+use Rattle.frame_tree.specs.Document.{PlainDocument, loaded}
+use Rattle.frame_tree.specs.Sandbox.{both, sandbox_of, unrestricted}
 use Rattle.local_area.specs.Area.{Pair, quota, area_get, area_put, area_remove, area_weight}
 use Rattle.local_area.specs.Put.{put_answer}
 use Rattle.storage_events.specs.declared.event.AreaKind.{AreaKind}
 use Rattle.storage_events.specs.declared.event.AreaKind.TheVariants.{Local, Session}
-use Rattle.storage_events.specs.Event.{EventView}
+use Rattle.storage_events.specs.Event.{PlainEvent}
 use Rattle.live_state.specs.Tabs.{PlainTab, made_tab}
 use Rattle.script_lines.specs.Reply as reply
 use Rattle.agent_model.specs.Partition.{Holdings, Tabs, no_holdings, tab_named, with_tab, area_of, with_area}
-use Rattle.agent_model.specs.SiteEvent.{Done, answers, ok}
-use Rattle.agent_model.specs.Documents.{Keyed, with_key, told_tab}
+use Rattle.agent_model.specs.Done.{SharedCells, Effect, no_shared_cells, answers, ok}
+use Rattle.agent_model.specs.Documents.{Keyed, with_document, with_key, told_tab}
 use Rattle.agent_model.specs.AreaActions.{change_event, write, store, set_by, set_item, remove_by, remove_item, clear_area}
 use Rattle.agent_model.specs.Queues.{take_events}
 use Rattle.agent_model.proofs.KeptLemmas as kept
 use Rattle.agent_model.proofs.HoldingsLemmas.{with_area_tabs}
-use Rattle.agent_model.proofs.StandardFacts.{address, site, at_frame, a, shown}
+use Rattle.agent_model.proofs.StandardFacts.{address, site, at_frame, a, shown, widget}
 
 -- ---- names
 
@@ -62,48 +62,52 @@ local_pairs = get_set key_order key_order_total key_order_same key_a key_a pairs
 
 -- ---- who may act
 
-acts : (action : Keyed → Holdings → Done) (held : Holdings) → with_key (at_frame 1 0) (shows_a 1) action held ≡ action writer held
-acts action held = refl
+acts : (action : Keyed → Effect) → with_key (at_frame 1 0) (shows_a 1) action ≡ action writer
+acts action = refl
 
 abbrev sandboxed : PlainTab
 sandboxed = made_tab 1 (shown a (Some [])) None None
 
-opaque : (action : Keyed → Holdings → Done) (held : Holdings) → with_key (at_frame 1 1) sandboxed action held ≡ answers (reply.Plain (codes "security")) held
-opaque action held = refl
+opaque : (action : Keyed → Effect) → with_key (at_frame 1 1) sandboxed action ≡ answers (reply.Plain (codes "security"))
+opaque action = refl
 
-absent : (action : Keyed → Holdings → Done) (held : Holdings) → with_key (at_frame 1 2) sandboxed action held ≡ answers (reply.Plain (codes "no-frame")) held
-absent action held = refl
+absent : (action : Keyed → Effect) → with_key (at_frame 1 2) sandboxed action ≡ answers (reply.Plain (codes "no-frame"))
+absent action = refl
+
+-- what asks for no key is done by an opaque document, too
+keyless : (action : PlainDocument → Effect) → with_document (at_frame 1 1) sandboxed action ≡ action (loaded [] (both unrestricted (sandbox_of (Some []))) false (address widget))
+keyless action = refl
 
 -- ---- changes and their events
 
 -- a value that is there already changes nothing and is told to nobody
-same_value : set_item Local k v writer (written Local) ≡ answers ok (written Local)
-same_value = ap (λ found. set_by (put_answer k v found) Local writer k v (area_put k v found) (written Local)) local_pairs
+same_value : set_item Local k v writer no_shared_cells (written Local) ≡ answers ok no_shared_cells (written Local)
+same_value = ap (λ found. set_by (put_answer k v found) Local writer k v (area_put k v found) no_shared_cells (written Local)) local_pairs
 
 -- another value is an event with both
-other_value : set_item Local k k writer (written Local)
-    ≡ write Local writer (record { name = k; value = k } ∷ []) (record { area = Local; key = Some k; before = Some v; after = Some k; url = codes "https://a.test/" }) (written Local)
-other_value = ap (λ found. set_by (put_answer k k found) Local writer k k (area_put k k found) (written Local)) local_pairs
+other_value : set_item Local k k writer no_shared_cells (written Local)
+    ≡ write Local writer (record { name = k; value = k } ∷ []) (record { area = Local; key = Some k; before = Some v; after = Some k; url = codes "https://a.test/" }) no_shared_cells (written Local)
+other_value = ap (λ found. set_by (put_answer k k found) Local writer k k (area_put k k found) no_shared_cells (written Local)) local_pairs
 
 -- so is a removal, and that of an absent name is none
-removed : remove_item Local k writer (written Local)
-    ≡ write Local writer [] (record { area = Local; key = Some k; before = Some v; after = None; url = codes "https://a.test/" }) (written Local)
+removed : remove_item Local k writer no_shared_cells (written Local)
+    ≡ write Local writer [] (record { area = Local; key = Some k; before = Some v; after = None; url = codes "https://a.test/" }) no_shared_cells (written Local)
 removed =
-    ap (λ found. remove_by (area_get k found) Local writer k (written Local)) local_pairs
-    ∙ ap (λ found. write Local writer (area_remove k found) (change_event Local writer (Some k) (Some v) None) (written Local)) local_pairs
+    ap (λ found. remove_by (area_get k found) Local writer k no_shared_cells (written Local)) local_pairs
+    ∙ ap (λ found. write Local writer (area_remove k found) (change_event Local writer (Some k) (Some v) None) no_shared_cells (written Local)) local_pairs
 
-removed_none : remove_item Local v writer (written Local) ≡ answers ok (written Local)
-removed_none = ap (λ found. remove_by (area_get v found) Local writer v (written Local)) local_pairs
+removed_none : remove_item Local v writer no_shared_cells (written Local) ≡ answers ok no_shared_cells (written Local)
+removed_none = ap (λ found. remove_by (area_get v found) Local writer v no_shared_cells (written Local)) local_pairs
 
 -- five mebibytes are stored, and one byte more is not
-fits : (heavy : List Pair) (event : EventView) (held : Holdings) → area_weight heavy ≡ 5242880 → store Local writer heavy event held ≡ write Local writer heavy event held
-fits heavy event held weighs = ap (λ weight. cond (nat_lt quota weight) (answers (reply.Plain (codes "quota")) held) (write Local writer heavy event held)) weighs
+fits : (heavy : List Pair) (event : PlainEvent) (cells : SharedCells) (held : Holdings) → area_weight heavy ≡ 5242880 → store Local writer heavy event cells held ≡ write Local writer heavy event cells held
+fits heavy event cells held weighs = ap (λ weight. cond (nat_lt quota weight) (answers (reply.Plain (codes "quota")) cells held) (write Local writer heavy event cells held)) weighs
 
-over : (heavy : List Pair) (event : EventView) (held : Holdings) → area_weight heavy ≡ 5242881 → store Local writer heavy event held ≡ answers (reply.Plain (codes "quota")) held
-over heavy event held weighs = ap (λ weight. cond (nat_lt quota weight) (answers (reply.Plain (codes "quota")) held) (write Local writer heavy event held)) weighs
+over : (heavy : List Pair) (event : PlainEvent) (cells : SharedCells) (held : Holdings) → area_weight heavy ≡ 5242881 → store Local writer heavy event cells held ≡ answers (reply.Plain (codes "quota")) cells held
+over heavy event cells held weighs = ap (λ weight. cond (nat_lt quota weight) (answers (reply.Plain (codes "quota")) cells held) (write Local writer heavy event cells held)) weighs
 
 -- a clear of an empty area is an event
-abbrev cleared : AreaKind → EventView
+abbrev cleared : AreaKind → PlainEvent
 cleared kind = record { area = kind; key = None; before = None; after = None; url = codes "https://a.test/" }
 
 abbrev shows_a_told : ℕ → PlainTab
@@ -115,26 +119,26 @@ tab_one = get-insert nat_cmp_total (with_tab 2 (shows_a 2) no_holdings).tabs 1 (
 tab_two : tab_named 2 two_tabs ≡ Some (shows_a 2)
 tab_two = get-insert nat_cmp_total (with_tab 2 (shows_a 2) no_holdings).tabs 1 (shows_a 1) 2 ∙ get-insert nat_cmp_total no_holdings.tabs 2 (shows_a 2) 2
 
-after_clear : (kind : AreaKind) (number : ℕ) → tab_named number (clear_area kind writer two_tabs).held ≡ option_map (told_tab kind writer (cleared kind) number) (tab_named number two_tabs)
+after_clear : (kind : AreaKind) (number : ℕ) → tab_named number (clear_area kind writer no_shared_cells two_tabs).held ≡ option_map (told_tab kind writer (cleared kind) number) (tab_named number two_tabs)
 after_clear kind number =
     kept.get_mapped nat_cmp nat_cmp_total nat_cmp-IsAntisymmetric (told_tab kind writer (cleared kind)) (with_area kind 1 key_a [] two_tabs).tabs number
     ∙ ap (λ (tabs : Tabs). option_map (told_tab kind writer (cleared kind) number) (finite.get tabs number)) (with_area_tabs kind 1 key_a [] two_tabs)
 
 -- the other tab hears of a local area
-hears : tab_named 2 (clear_area Local writer two_tabs).held ≡ Some (shows_a_told 2)
+hears : tab_named 2 (clear_area Local writer no_shared_cells two_tabs).held ≡ Some (shows_a_told 2)
 hears = after_clear Local 2 ∙ ap (option_map (told_tab Local writer (cleared Local) 2)) tab_two
 
 -- the writer does not
-hears_not : tab_named 1 (clear_area Local writer two_tabs).held ≡ Some (shows_a 1)
+hears_not : tab_named 1 (clear_area Local writer no_shared_cells two_tabs).held ≡ Some (shows_a 1)
 hears_not = after_clear Local 1 ∙ ap (option_map (told_tab Local writer (cleared Local) 1)) tab_one
 
 -- and of a session area nobody hears in another tab
-session_apart : tab_named 2 (clear_area Session writer two_tabs).held ≡ Some (shows_a 2)
+session_apart : tab_named 2 (clear_area Session writer no_shared_cells two_tabs).held ≡ Some (shows_a 2)
 session_apart = after_clear Session 2 ∙ ap (option_map (told_tab Session writer (cleared Session) 2)) tab_two
 
 -- events are given once
-taken : (held : Holdings) → take_events (at_frame 2 0) (shows_a_told 2) held ≡ answers (reply.Events (cleared Local ∷ []) 0) (with_tab 2 (shows_a 2) held)
-taken held = refl
+taken : (cells : SharedCells) (held : Holdings) → take_events (at_frame 2 0) (shows_a_told 2) cells held ≡ answers (reply.Events (cleared Local ∷ []) 0) cells (with_tab 2 (shows_a 2) held)
+taken cells held = refl
 
-taken_twice : (held : Holdings) → take_events (at_frame 2 0) (shows_a 2) held ≡ answers (reply.Events [] 0) (with_tab 2 (shows_a 2) held)
-taken_twice held = refl
+taken_twice : (cells : SharedCells) (held : Holdings) → take_events (at_frame 2 0) (shows_a 2) cells held ≡ answers (reply.Events [] 0) cells (with_tab 2 (shows_a 2) held)
+taken_twice cells held = refl

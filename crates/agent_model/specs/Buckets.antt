@@ -6,9 +6,9 @@
 -- a prompt stands in the script. An estimate counts the local area alone. An eviction is asked for,
 -- and takes the local areas of all best-effort buckets under a site at once; no document is told.
 -- Its count has 32 bits and stays at its last value.
-use Rattle.std.specs.Prelude.{◌-◌, ◌^◌, Bool, true, false, not, ◌&&◌, min, codes, if◌then◌else◌}
+use Rattle.std.specs.Prelude.{ℕ, ◌-◌, ◌^◌, Bool, true, false, not, ◌&&◌, min, codes, if◌then◌else◌}
 use Rattle.std.specs.FinMap as finite
-use Rattle.origin_site.specs.Site.{PlainSite, same_plain_site}
+use Rattle.origin_site.specs.Site.{PlainSite}
 use Rattle.storage_key.specs.Key.{PlainKey}
 use Rattle.frame_tree.specs.Calls.{is_https_chain}
 use Rattle.local_area.specs.Area.{area_weight}
@@ -17,8 +17,8 @@ use Rattle.live_state.specs.Tabs.{PlainTab}
 use Rattle.script_lines.specs.declared.words.Prompt.{Prompt}
 use Rattle.script_lines.specs.declared.words.Prompt.TheVariants as prompt
 use Rattle.script_lines.specs.Reply.{Plain, Truth, Estimate, Cleared}
-use Rattle.agent_model.specs.Partition.{Areas, Holdings}
-use Rattle.agent_model.specs.SiteEvent.{Done, answers}
+use Rattle.agent_model.specs.Partition.{Areas, Holdings, is_under}
+use Rattle.agent_model.specs.Done.{Effect, answers}
 use Rattle.agent_model.specs.Documents.{Keyed}
 use Rattle.agent_model.specs.AreaActions.{pairs_of}
 
@@ -27,12 +27,13 @@ abbrev pub is_persistent : PlainKey → Holdings → Bool
 is_persistent key held = finite.contains_key held.persistent key
 
 -- `persisted`
-abbrev pub get_mode : Keyed → Holdings → Done
-get_mode reader held = answers (Truth (is_persistent reader.key held)) held
+abbrev pub get_mode : Keyed → Effect
+get_mode reader cells held = answers (Truth (is_persistent reader.key held)) cells held
 
 -- the bytes of the names and values of a document's local area
-abbrev pub get_usage : Keyed → Holdings → Done
-get_usage reader held = answers (Estimate (area_weight (pairs_of Local reader held))) held
+abbrev pub get_usage : Keyed → Effect
+get_usage reader cells held =
+    answers (Estimate (area_weight (pairs_of Local reader held))) cells held
 
 -- ---- persist
 
@@ -47,23 +48,24 @@ abbrev pub made_persistent : PlainKey → Holdings → Holdings
 made_persistent key held = record held { persistent = finite.insert held.persistent key tt }
 
 -- a bucket that is persistent stays so, and another becomes so by a grant
-abbrev pub persist_by : Bool → Bool → Keyed → Holdings → Done
-persist_by true granted asker held = answers (Truth true) held
-persist_by false true asker held = answers (Truth true) (made_persistent asker.key held)
-persist_by false false asker held = answers (Truth false) held
+abbrev pub persist_by : Bool → Bool → Keyed → Effect
+persist_by true granted asker cells held = answers (Truth true) cells held
+persist_by false true asker cells held =
+    answers (Truth true) cells (made_persistent asker.key held)
+persist_by false false asker cells held = answers (Truth false) cells held
 
 -- `persist`, which is for secure contexts alone
-abbrev pub persist : PlainTab → Prompt → Keyed → Holdings → Done
-persist tab answer asker held =
+abbrev pub persist : PlainTab → Prompt → Keyed → Effect
+persist tab answer asker cells held =
     if is_https_chain asker.at.frame tab.frames
-    then persist_by (is_persistent asker.key held) (is_grant answer) asker held
-    else answers (Plain (codes "insecure")) held
+    then persist_by (is_persistent asker.key held) (is_grant answer) asker cells held
+    else answers (Plain (codes "insecure")) cells held
 
 -- ---- eviction
 
 -- an eviction of a site takes the local area of this key
 abbrev pub is_evicted : PlainSite → Holdings → PlainKey → Bool
-is_evicted site held key = same_plain_site site key.top && not (is_persistent key held)
+is_evicted site held key = is_under site key && not (is_persistent key held)
 
 -- the local areas that are left
 abbrev pub areas_left : PlainSite → Holdings → Areas
@@ -73,9 +75,15 @@ areas_left site held = finite.retain_keys held.areas (λ key. not (is_evicted si
 abbrev pub areas_taken : PlainSite → Holdings → Areas
 areas_taken site held = finite.retain_keys held.areas (is_evicted site held)
 
--- the local areas of the best-effort buckets under a site are emptied, and those counted that were
--- not empty
-abbrev pub evict : PlainSite → Holdings → Done
-evict site held =
-    answers (Cleared (min (finite.len (areas_taken site held)) (2 ^ 32 - 1)))
-    (record held { areas = areas_left site held })
+-- what is held without the local areas of the best-effort buckets under a site
+abbrev pub without_evicted : PlainSite → Holdings → Holdings
+without_evicted site held = record held { areas = areas_left site held }
+
+-- how many of these areas were not empty
+abbrev pub evicted_count : PlainSite → Holdings → ℕ
+evicted_count site held = min (finite.len (areas_taken site held)) (2 ^ 32 - 1)
+
+-- the local areas of the best-effort buckets under a site are emptied and counted
+abbrev pub evict : PlainSite → Effect
+evict site cells held =
+    answers (Cleared (evicted_count site held)) cells (without_evicted site held)

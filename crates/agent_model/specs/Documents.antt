@@ -10,13 +10,13 @@ use Rattle.frame_tree.specs.Document.{PlainDocument}
 use Rattle.frame_tree.specs.Tree.{document_of}
 use Rattle.storage_events.specs.declared.event.AreaKind.{AreaKind}
 use Rattle.storage_events.specs.Audience.{hears}
-use Rattle.storage_events.specs.Event.{EventView}
-use Rattle.live_state.specs.Tabs.{PlainTab, PlainQueue}
-use Rattle.live_state.specs.Documents.{key_of_document, key_of_frame}
+use Rattle.storage_events.specs.Event.{PlainEvent}
+use Rattle.live_state.specs.Tabs.{PlainTab, PlainFrameQueue}
+use Rattle.frame_tree.specs.Keys.{key_of_document, key_of_frame}
 use Rattle.live_state.specs.Queues.{queue_told}
 use Rattle.script_lines.specs.Reply.{Plain}
-use Rattle.agent_model.specs.Partition.{Holdings, Tabs}
-use Rattle.agent_model.specs.SiteEvent.{Done, answers}
+use Rattle.agent_model.specs.Partition.{Tabs}
+use Rattle.agent_model.specs.Done.{Effect, answers}
 
 -- a document with a storage key: its tab and frame, itself, and the key
 pub record Keyed : Type 0 where
@@ -24,23 +24,26 @@ pub record Keyed : Type 0 where
   pub document : PlainDocument
   pub key : PlainKey
 
--- an action of a document by its storage key, and the refusal where it has none
-abbrev pub by_key : Label → PlainDocument → Option PlainKey → (Keyed → Holdings → Done) → Holdings
-    → Done
-by_key at document None action held = answers (Plain (codes "security")) held
-by_key at document (Some key) action held =
-    action (record { at = at; document = document; key = key }) held
+-- an action of a document that may not be there
+abbrev pub by_document : Option PlainDocument → (PlainDocument → Effect) → Effect
+by_document None action = answers (Plain (codes "no-frame"))
+by_document (Some document) action = action document
 
--- the same of a document that may not be there
-abbrev pub by_document : Label → PlainTab → Option PlainDocument → (Keyed → Holdings → Done)
-    → Holdings → Done
-by_document at tab None action held = answers (Plain (codes "no-frame")) held
-by_document at tab (Some document) action held =
-    by_key at document (key_of_document at.frame tab.frames document) action held
+-- an action of a frame's document, opaque or not
+abbrev pub with_document : Label → PlainTab → (PlainDocument → Effect) → Effect
+with_document at tab action = by_document (document_of at.frame tab.frames) action
+
+-- an action of a document by its storage key, and the refusal where it has none
+abbrev pub by_key : Label → PlainDocument → Option PlainKey → (Keyed → Effect) → Effect
+by_key at document None action = answers (Plain (codes "security"))
+by_key at document (Some key) action =
+    action (record { at = at; document = document; key = key })
 
 -- an action of a frame's document that is done with its storage key
-abbrev pub with_key : Label → PlainTab → (Keyed → Holdings → Done) → Holdings → Done
-with_key at tab action held = by_document at tab (document_of at.frame tab.frames) action held
+abbrev pub with_key : Label → PlainTab → (Keyed → Effect) → Effect
+with_key at tab action =
+    with_document at tab (λ document.
+    by_key at document (key_of_document at.frame tab.frames document) action)
 
 -- ---- who hears
 
@@ -56,16 +59,17 @@ hears_at kind writer number tab frame =
     hears_by kind writer (record { tab = number; frame = frame }) (key_of_frame frame tab.frames)
 
 -- a queue with the event, where its document hears of the change
-abbrev pub told_queue : AreaKind → Keyed → EventView → ℕ → PlainTab → PlainQueue → PlainQueue
+abbrev pub told_queue : AreaKind → Keyed → PlainEvent → ℕ → PlainTab → PlainFrameQueue
+    → PlainFrameQueue
 told_queue kind writer event number tab queue =
     if hears_at kind writer number tab queue.frame then queue_told (Some event) queue else queue
 
 -- a tab whose documents were told of a change
-abbrev pub told_tab : AreaKind → Keyed → EventView → ℕ → PlainTab → PlainTab
+abbrev pub told_tab : AreaKind → Keyed → PlainEvent → ℕ → PlainTab → PlainTab
 told_tab kind writer event number tab =
     record tab { queues = map (told_queue kind writer event number tab) tab.queues }
 
 -- every document of the audience is told of a change
-abbrev pub told : AreaKind → Keyed → EventView → Tabs → Tabs
+abbrev pub told : AreaKind → Keyed → PlainEvent → Tabs → Tabs
 told kind writer event tabs =
     finite.from_entries (map (λ e. (e.0, told_tab kind writer event e.0 e.1)) (finite.entries tabs))

@@ -2,18 +2,38 @@
 -- Source: HTML, "Navigables", "Navigation" and "Tracking user activation".
 -- Our own choice: an action that names a frame that is not there is refused. The top document is
 -- replaced by `go` and goes by `close`, and by nothing else.
-use Rattle.std.specs.Prelude.{ℕ, ◌==◌, false, pos, List, [], Option, Some, None, Result, Ok, Err, codes, if◌then◌else◌}
+use Rattle.std.specs.Prelude.{ℕ, ◌==◌, Bool, false, pos, List, [], Option, Some, None, Result, Ok, Err}
+use Rattle.std.specs.Prelude.{codes, if◌then◌else◌}
 use Rattle.suffix_list.specs.Suffix.{Rule}
+use Rattle.agent_base.specs.declared.refusals.Label.{Label}
+use Rattle.origin_site.specs.Address.{PlainAddress}
 use Rattle.frame_tree.specs.declared.tab.TreeFault.{TreeFault}
 use Rattle.frame_tree.specs.declared.tab.TreeFault.TheVariants as fault
 use Rattle.frame_tree.specs.Sandbox.{sandbox_of}
 use Rattle.frame_tree.specs.Tree.{PlainFrame, has_frame}
-use Rattle.frame_tree.specs.Calls as tree
+use Rattle.frame_tree.specs.Calls.{added, navigated, without, activated}
 use Rattle.live_state.specs.Tabs.{PlainTab, made_tab}
-use Rattle.script_lines.specs.Script.{PlainAction, Frame, Nav, Drop, Click}
-use Rattle.script_lines.specs.Reply.{PlainBody, Plain}
-use Rattle.agent_model.specs.Partition.{Holdings, with_tab}
-use Rattle.agent_model.specs.SiteEvent.{Done, answers}
+use Rattle.script_lines.specs.declared.words.Method.{Method}
+use Rattle.script_lines.specs.declared.words.Method.TheVariants as method
+use Rattle.script_lines.specs.Reply.{PlainBody, Plain, Load}
+use Rattle.agent_model.specs.Partition.{with_tab}
+use Rattle.agent_model.specs.Done.{Effect, answers, ok}
+
+-- ---- every action on frames
+
+-- the answer to a line that the frames refuse. None of them is refused for want of memory.
+abbrev pub refused_by : TreeFault → PlainBody
+refused_by fault.NoFrame = Plain (codes "no-frame")
+refused_by fault.FrameExists = Plain (codes "frame-exists")
+refused_by fault.NoMemory = Plain []
+
+-- a tab has these frames, and then this happens; or the line is refused. A frame whose document is
+-- replaced has an empty queue.
+abbrev pub on_frames : ℕ → PlainTab → (replaced : Option ℕ) → (List PlainFrame → Effect)
+    → Result (List PlainFrame) TreeFault → Effect
+on_frames number tab replaced next (Ok frames) cells held =
+    next frames cells (with_tab number (made_tab number frames replaced (Some tab)) held)
+on_frames number tab replaced next (Err why) cells held = answers (refused_by why) cells held
 
 -- the frames afterwards, where this one is among them
 abbrev pub where_there : ℕ → List PlainFrame → List PlainFrame → Result (List PlainFrame) TreeFault
@@ -23,38 +43,55 @@ where_there frame frames after = if has_frame frame frames then Ok after else Er
 abbrev pub where_below : ℕ → Result (List PlainFrame) TreeFault → Result (List PlainFrame) TreeFault
 where_below frame after = if frame == 0 then Err fault.NoFrame else after
 
--- what an action on frames makes of the frames of its tab, or why it is refused
-abbrev pub frames_after : List Rule → ℕ → PlainAction → List PlainFrame
+-- ---- loads of frames
+
+-- a frame loads an address at this moment, by this method, where its tab has these frames. The load
+-- sends no cookie and stores none.
+abbrev pub load : List Rule → ℕ → Label → PlainAddress → Method → List PlainFrame → Effect
+load rules now at url method frames = answers (Load None [])
+
+-- the frames after one was added, or why it is refused
+abbrev pub frames_added : List Rule → Label → ℕ → PlainAddress → Option (List ℕ) → Bool
+    → List PlainFrame → Result (List PlainFrame) TreeFault
+frames_added rules at parent url sandbox deny frames =
+    added rules parent at.frame url (sandbox_of sandbox) deny frames
+
+-- a frame is added, and loads its address
+abbrev pub add_frame : List Rule → ℕ → Label → ℕ → PlainAddress → Option (List ℕ) → Bool → PlainTab
+    → Effect
+add_frame rules now at parent url sandbox deny tab =
+    on_frames at.tab tab None (load rules now at url method.Get)
+    (frames_added rules at parent url sandbox deny tab.frames)
+
+-- the frames after one went to an address, or why it is refused
+abbrev pub frames_navigated : List Rule → Label → PlainAddress → List PlainFrame
     → Result (List PlainFrame) TreeFault
-frames_after rules now (Frame at parent url sandbox deny) frames =
-    tree.added rules parent at.frame url (sandbox_of sandbox) deny frames
-frames_after rules now (Nav at url by_self method) frames =
-    where_below at.frame (tree.navigated rules at.frame url false frames)
-frames_after rules now (Drop at) frames =
-    where_below at.frame (where_there at.frame frames (tree.without at.frame frames))
-frames_after rules now (Click at) frames =
-    where_there at.frame frames (tree.activated at.frame (pos now) frames)
-frames_after rules now action frames = Ok frames
+frames_navigated rules at url frames =
+    where_below at.frame (navigated rules at.frame url false frames)
 
--- the frame whose document an action replaces, so that its queue is empty afterwards
-abbrev pub fresh_frame : PlainAction → Option ℕ
-fresh_frame (Nav at url by_self method) = Some at.frame
-fresh_frame action = None
+-- a frame goes to an address
+abbrev pub navigate_frame : List Rule → ℕ → Label → PlainAddress → Method → PlainTab → Effect
+navigate_frame rules now at url method tab =
+    on_frames at.tab tab (Some at.frame) (load rules now at url method)
+    (frames_navigated rules at url tab.frames)
 
--- the answer to a line that the frames refuse
-abbrev pub refused_by : TreeFault → PlainBody
-refused_by fault.NoFrame = Plain (codes "no-frame")
-refused_by fault.FrameExists = Plain (codes "frame-exists")
-refused_by fault.NoMemory = Plain []
+-- ---- removals and clicks
 
--- the tab has these frames, or the line is refused
-abbrev pub done_by : ℕ → PlainTab → Option ℕ → PlainBody → Result (List PlainFrame) TreeFault
-    → Holdings → Done
-done_by number tab fresh body (Ok frames) held =
-    answers body (with_tab number (made_tab number frames fresh (Some tab)) held)
-done_by number tab fresh body (Err why) held = answers (refused_by why) held
+-- the frames after one was removed, or why it is refused
+abbrev pub frames_removed : Label → List PlainFrame → Result (List PlainFrame) TreeFault
+frames_removed at frames =
+    where_below at.frame (where_there at.frame frames (without at.frame frames))
 
--- an action on the frames of a tab, which answers this where it is not refused
-abbrev pub act_on_frames : List Rule → ℕ → PlainAction → ℕ → PlainTab → PlainBody → Holdings → Done
-act_on_frames rules now action number tab body held =
-    done_by number tab (fresh_frame action) body (frames_after rules now action tab.frames) held
+-- a frame is removed
+abbrev pub remove_frame : Label → PlainTab → Effect
+remove_frame at tab =
+    on_frames at.tab tab None (λ frames. answers ok) (frames_removed at tab.frames)
+
+-- the frames after a click at this moment, or why it is refused
+abbrev pub frames_clicked : ℕ → Label → List PlainFrame → Result (List PlainFrame) TreeFault
+frames_clicked now at frames = where_there at.frame frames (activated at.frame (pos now) frames)
+
+-- a user clicks on a document
+abbrev pub click : ℕ → Label → PlainTab → Effect
+click now at tab =
+    on_frames at.tab tab None (λ frames. answers ok) (frames_clicked now at tab.frames)

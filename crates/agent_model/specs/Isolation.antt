@@ -1,15 +1,18 @@
 -- The promise: the replies to a site are those of its own machine, given its local script alone.
 -- So two runs that give a site the same local script give it the same replies.
-use Rattle.std.specs.Prelude.{◌≡◌, ℕ, Bool, false, List, Option, Some, None, map, filter, flat_map}
+-- Source: none; these are the words of the promise.
+use Rattle.std.specs.Prelude.{◌≡◌, ℕ, List, Some, map, filter, flat_map}
 use Rattle.unwinding.specs.World.{SiteReply, replies, of_site}
 use Rattle.unwinding.specs.OneSite.{EpochScript, epoch_script, epoch_run}
 use Rattle.suffix_list.specs.Suffix.{Rule}
-use Rattle.origin_site.specs.Site.{PlainSite, same_plain_site}
+use Rattle.origin_site.specs.Site.{PlainSite}
+use Rattle.storage_key.specs.Context.{is_of}
 use Rattle.script_lines.specs.Script.{PlainAction}
 use Rattle.script_lines.specs.Reply.{PlainReply, reply_text}
 use Rattle.agent_model.specs.Partition.{Partition}
-use Rattle.agent_model.specs.SiteEvent.{TimedEvent, Answer, Nothing}
-use Rattle.agent_model.specs.TheMachine.{machine, beginning}
+use Rattle.agent_model.specs.Done.{SharedCells}
+use Rattle.agent_model.specs.SiteEvent.{TimedEvent, Answer}
+use Rattle.agent_model.specs.TheMachine.{Nothing, machine, beginning}
 
 -- the replies to the lines of a script, each with the site that it belongs to
 unfoldable pub replies_to : List Rule → ℕ → List PlainAction → List (SiteReply PlainSite Answer)
@@ -23,7 +26,7 @@ answers_of rules site told = of_site (machine rules) site told
 -- their moments, and no more
 pub record SiteScript : Type 0 where
   pub rules : List Rule
-  pub script : EpochScript Nothing Nothing Partition Nothing TimedEvent
+  pub script : EpochScript Nothing SharedCells Partition Nothing TimedEvent
 
 -- the local script of a site
 unfoldable pub local_script : List Rule → PlainSite → ℕ → List PlainAction → SiteScript
@@ -45,11 +48,6 @@ text_of told = flat_map (λ one. reply_text (printed one)) told
 -- the text of a run, from its rules, the moment at which it starts and the actions of its script
 unfoldable pub transcript : List Rule → ℕ → List PlainAction → List ℕ
 transcript rules start lines = text_of (replies_to rules start lines)
-
--- whether a reply belongs to a site
-abbrev pub is_of : PlainSite → Option PlainSite → Bool
-is_of site None = false
-is_of site (Some other) = same_plain_site site other
 
 -- the lines of a text of replies that belong to a site
 unfoldable pub lines_of_site : PlainSite → List (SiteReply PlainSite Answer) → List ℕ

@@ -2,7 +2,8 @@
 -- Source: HTML, "Navigables" (a tab that a page opens has that page's as its opener).
 -- Our own choice: a script names its tabs by numbers. A tab is at the site of its top document, and
 -- every line in it is an event of that site. A refused line is of no site.
-use Rattle.std.specs.Prelude.{ℕ, Bool, true, false, List, Option, Some, None, option_map, if◌then◌else◌}
+use Rattle.std.specs.Prelude.{ℕ, Bool, true, List, Option, Some, None, option_map}
+use Rattle.std.specs.Prelude.{if◌then◌else◌}
 use Rattle.std.specs.Ordering.{nat_cmp}
 use Rattle.std.specs.FinMap as map
 use Rattle.unwinding.specs.Machine.{World, Occurrence}
@@ -10,10 +11,11 @@ use Rattle.suffix_list.specs.Suffix.{Rule}
 use Rattle.origin_site.specs.Address.{PlainAddress}
 use Rattle.origin_site.specs.Site.{PlainSite, site_of_address, same_plain_site}
 use Rattle.script_lines.specs.declared.words.Method.{Method}
-use Rattle.script_lines.specs.Script.{PlainAction, Tick, Open, Close, Go, Evict}
+use Rattle.script_lines.specs.Script.{PlainAction, Tick, Open, Close, Go, Evict, Act}
 use Rattle.agent_model.specs.Partition.{Partition}
-use Rattle.agent_model.specs.SiteEvent.{SiteEvent, Acts, Arrives, Closes, Evicts, Opens, Goes, TimedEvent, Nothing}
-use Rattle.agent_model.specs.SiteStep.{tab_of}
+use Rattle.agent_model.specs.Done.{SharedCells}
+use Rattle.agent_model.specs.SiteEvent.{SiteEvent, Acts, Arrives, Closes, Evicts, Opens, Goes}
+use Rattle.agent_model.specs.SiteEvent.{TimedEvent}
 
 -- the site that each open tab is at
 abbrev pub Places : Type 0
@@ -27,11 +29,6 @@ no_places = map.empty
 abbrev pub site_at : ℕ → Places → Option PlainSite
 site_at tab places = map.get places tab
 
--- a tab with this place is at the site
-abbrev pub is_at : PlainSite → Option PlainSite → Bool
-is_at site None = false
-is_at site (Some here) = same_plain_site site here
-
 -- the places with this site at a tab
 abbrev pub placed : ℕ → PlainSite → Places → Places
 placed tab site places = map.insert places tab site
@@ -43,7 +40,7 @@ pub record Rest : Type 0 where
 
 -- the world of all sites
 abbrev pub AgentWorld : Type 0
-AgentWorld = World PlainSite Nothing Partition Rest
+AgentWorld = World PlainSite SharedCells Partition Rest
 
 -- an event, and the site at which it occurs
 abbrev pub SiteOccurrence : Type 0
@@ -113,4 +110,4 @@ main_event rules world action = of action
     of (Go tab url by_page method) = going rules world tab url by_page method (here tab)
     of (Close tab) = option_map (occurs world (Closes tab)) (here tab)
     of (Evict site) = Some (occurs world Evicts site)
-    of action = option_map (occurs world (Acts action)) (here (tab_of action))
+    of (Act at action) = option_map (occurs world (Acts at action)) (here at.tab)

@@ -3,17 +3,21 @@
 -- and "Web storage", where an area belongs to a storage key.
 -- Our own choice: storage is divided by the site of the top document first. A storage key has that
 -- site, so that the areas under a site are those whose key has it.
-use Rattle.std.specs.Prelude.{ℕ, List, Option}
+use Rattle.std.specs.Prelude.{ℕ, Bool, List, Option}
 use Rattle.std.specs.Ordering.{nat_cmp, ordering_then}
 use Rattle.std.specs.declared.cmp.Ordering.{Ordering}
 use Rattle.std.specs.FinMap as map
 use Rattle.unwinding.specs.FiniteCells.{Full, get_cell, set_cell}
-use Rattle.origin_site.specs.Site.{PlainSite}
+use Rattle.origin_site.specs.Site.{PlainSite, same_plain_site}
 use Rattle.storage_key.specs.Key.{PlainKey, key_order}
 use Rattle.local_area.specs.Area.{Pair}
 use Rattle.storage_events.specs.declared.event.AreaKind.{AreaKind}
 use Rattle.storage_events.specs.declared.event.AreaKind.TheVariants.{Local, Session}
 use Rattle.live_state.specs.Tabs.{PlainTab}
+
+-- a storage key has this top-level site
+abbrev pub is_under : PlainSite → PlainKey → Bool
+is_under site key = same_plain_site site key.top
 
 -- ---- areas
 

@@ -5,10 +5,10 @@
 use Rattle.std.specs.Prelude.{ℕ, ◌==◌, map, codes, if◌then◌else◌}
 use Rattle.agent_base.specs.declared.refusals.Label.{Label}
 use Rattle.frame_tree.specs.Tree.{has_frame}
-use Rattle.live_state.specs.Tabs.{PlainQueue, PlainTab, empty_queue, queue_of}
+use Rattle.live_state.specs.Tabs.{PlainFrameQueue, PlainTab, empty_queue, queue_of}
 use Rattle.script_lines.specs.Reply as reply
-use Rattle.agent_model.specs.Partition.{Holdings, with_tab}
-use Rattle.agent_model.specs.SiteEvent.{Done, answers}
+use Rattle.agent_model.specs.Partition.{with_tab}
+use Rattle.agent_model.specs.Done.{Effect, answers}
 
 -- a tab whose queue of one frame is empty
 abbrev pub with_taken : ℕ → PlainTab → PlainTab
@@ -16,12 +16,13 @@ with_taken frame tab =
     record tab { queues = map (λ q. if q.frame == frame then empty_queue frame else q) tab.queues }
 
 -- the events that wait for a document are given, and none is left
-abbrev pub take_queue : Label → PlainTab → PlainQueue → Holdings → Done
-take_queue at tab queue held =
-    answers (reply.Events queue.events queue.lost) (with_tab at.tab (with_taken at.frame tab) held)
+abbrev pub take_queue : Label → PlainTab → PlainFrameQueue → Effect
+take_queue at tab queue cells held =
+    answers (reply.Events queue.events queue.lost) cells
+    (with_tab at.tab (with_taken at.frame tab) held)
 
 -- the same, where the document is there. An opaque one never has any.
-abbrev pub take_events : Label → PlainTab → Holdings → Done
-take_events at tab held =
-    if has_frame at.frame tab.frames then take_queue at tab (queue_of at.frame tab.queues) held
-    else answers (reply.Plain (codes "no-frame")) held
+abbrev pub take_events : Label → PlainTab → Effect
+take_events at tab =
+    if has_frame at.frame tab.frames then take_queue at tab (queue_of at.frame tab.queues)
+    else answers (reply.Plain (codes "no-frame"))

@@ -3,11 +3,12 @@
 use Rattle.std.specs.Prelude.{ℕ, ◌+◌, min, pos, List, Option, Some, None, codes}
 use Rattle.std.specs.FinMap as map
 use Rattle.suffix_list.specs.Suffix.{Rule}
-use Rattle.script_lines.specs.Script.{PlainAction, Tick, Open, Close, Go}
+use Rattle.script_lines.specs.Script.{PlainAction, Tick, Open, Close, Go, Evict, Act}
 use Rattle.script_lines.specs.Reply.{PlainBody, Plain, Now}
 use Rattle.agent_model.specs.SiteEvent.{Answer}
-use Rattle.agent_model.specs.SiteStep.{action_name}
-use Rattle.agent_model.specs.Lines.{AgentWorld, Places, Rest, Starter, SiteOccurrence, main_event, opener_of, placed}
+use Rattle.agent_model.specs.ActionNames.{action_name}
+use Rattle.agent_model.specs.Lines.{AgentWorld, Places, Rest, Starter, SiteOccurrence}
+use Rattle.agent_model.specs.Lines.{main_event, opener_of, placed}
 
 -- the last second of the clock, 9999-12-31 23:59:59 UTC, in seconds since 1970
 abbrev pub last_moment : ℕ
@@ -22,14 +23,17 @@ abbrev pub open_refusal : Option Starter → PlainBody
 open_refusal None = Plain (codes "no-tab")
 open_refusal (Some starter) = Plain (codes "tab-exists")
 
--- the answer to a line that has no event
+-- the answer to a line that has no event. An eviction has one, so that its answer is never given.
 unfoldable pub refusal : AgentWorld → PlainAction → Answer
 refusal world action = record { name = action_name action; body = of action }
   where
     of : PlainAction → PlainBody
     of (Tick s) = Now (pos (clock_after world.rest.now s))
     of (Open tab url opener noopener method) = open_refusal (opener_of opener world.rest.places)
-    of action = Plain (codes "no-tab")
+    of (Close tab) = Plain (codes "no-tab")
+    of (Go tab url by_page method) = Plain (codes "no-tab")
+    of (Evict site) = Plain (codes "no-tab")
+    of (Act at acted) = Plain (codes "no-tab")
 
 -- the places after a load of a top document, where it happens
 abbrev pub places_after : Option SiteOccurrence → ℕ → Places → Places
@@ -52,4 +56,5 @@ rest_after rules world action = of action
         at (places_after (main_event rules world action) tab places)
     of (Go tab url by_page method) = at (places_after (main_event rules world action) tab places)
     of (Close tab) = at (map.remove places tab)
-    of action = world.rest
+    of (Evict site) = world.rest
+    of (Act at acted) = world.rest

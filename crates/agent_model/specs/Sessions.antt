@@ -9,18 +9,24 @@ use Rattle.std.specs.FinMap as finite
 use Rattle.suffix_list.specs.Suffix.{Rule}
 use Rattle.unwinding.specs.FiniteCells.{Full}
 use Rattle.origin_site.specs.Address.{PlainAddress}
-use Rattle.origin_site.specs.Site.{PlainSite, same_plain_site}
+use Rattle.origin_site.specs.Site.{PlainSite}
 use Rattle.local_area.specs.Area.{Pair}
 use Rattle.frame_tree.specs.Calls.{opened}
 use Rattle.live_state.specs.Tabs.{made_tab}
 use Rattle.script_lines.specs.Reply.{Load}
-use Rattle.agent_model.specs.Partition.{SessionKey, Holdings, with_tab, without_tab}
-use Rattle.agent_model.specs.SiteEvent.{Done, answers}
+use Rattle.script_lines.specs.declared.words.Method.{Method}
+use Rattle.agent_model.specs.Partition.{SessionKey, Holdings, is_under, with_tab, without_tab}
+use Rattle.agent_model.specs.Done.{Effect, answers}
 
 -- a tab shows this address alone, whatever it showed before
-abbrev pub arrive : List Rule → ℕ → PlainAddress → Holdings → Done
-arrive rules number url held =
-    answers (Load None []) (with_tab number (made_tab number (opened rules url) None None) held)
+abbrev pub show : List Rule → ℕ → PlainAddress → Holdings → Holdings
+show rules number url held = with_tab number (made_tab number (opened rules url) None None) held
+
+-- a tab reaches an address at this moment, by this method. The load sends no cookie, and stores
+-- none.
+abbrev pub arrive : List Rule → ℕ → ℕ → PlainAddress → Method → (same_site : Bool) → Effect
+arrive rules now number url method same_site cells held =
+    answers (Load None []) cells (show rules number url held)
 
 -- a session area belongs to a tab
 abbrev pub is_of_tab : ℕ → SessionKey → Bool
@@ -39,13 +45,14 @@ close number held =
 
 -- a session area is one of a tab, under a site
 abbrev pub is_copied : PlainSite → ℕ → SessionKey → Bool
-is_copied site from key = is_of_tab from key && same_plain_site site key.1.top
+is_copied site from key = is_of_tab from key && is_under site key.1
 
 -- a session area, for another tab
 abbrev pub for_tab : ℕ → SessionKey × Full Pair → SessionKey × Full Pair
 for_tab number entry = ((number, entry.0.1), entry.1)
 
--- a tab gets copies of another one's session areas under a site
+-- a tab gets copies of another one's session areas under a site. Of two entries with one key
+-- `from_entries` keeps the first, so that a copy stands in place of an area that the tab has.
 abbrev pub copy_sessions : PlainSite → (from to : ℕ) → Holdings → Holdings
 copy_sessions site from to held =
     let copied = finite.entries (finite.retain_keys held.sessions (is_copied site from)) in

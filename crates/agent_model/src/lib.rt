@@ -1,13 +1,34 @@
-//! The world of all sites, the machine of one site, and the law that ties them.
+//! The world of all sites, the machine of one site, and the laws that tie them.
 //!
-//! This crate is definitions: `specs/` says what a run replies. [`isolation`] has no body, and
-//! its contract is the law that the replies to a site are those of its own machine.
+//! This crate is definitions: `specs/` says what a run replies. Its functions have no body. By
+//! [`isolation`] the replies to a site are those of its own machine, given its local script; by
+//! [`local_scripts`] that script holds nothing of what documents do in tabs at other sites.
 #![tactic(auto)]
 
 ghost use Rattle.agent_model.specs.Isolation.{IsIsolated, HasIsolatedLines};
+ghost use Rattle.agent_model.specs.SiteRuns.{AreRunReplies, AreSiteAnswers};
+ghost use Rattle.agent_model.specs.LocalScripts.{GivesExactly, GivesByOwn, RefusedGivesNone};
+ghost use Rattle.agent_model.specs.LocalScripts.{OthersGiveNone, OthersLeftOut};
+ghost use Rattle.agent_model.specs.LocalScripts.{LinesWithoutOthers};
 
 /// The replies to a site are those of its own machine, given its local script alone.
 pub fn isolation()
     ensures answers { IsIsolated }
     ensures lines { HasIsolatedLines }
+{}
+
+/// The same of today's machine, which shares no cell: a site steps by its own events alone.
+pub fn site_runs()
+    ensures replies { AreRunReplies }
+    ensures answers { AreSiteAnswers }
+{}
+
+/// A site is given its own events alone. What documents do in tabs at other sites can be left out.
+pub fn local_scripts()
+    ensures exact { GivesExactly }
+    ensures own { GivesByOwn }
+    ensures refused { RefusedGivesNone }
+    ensures others { OthersGiveNone }
+    ensures left_out { OthersLeftOut }
+    ensures lines { LinesWithoutOthers }
 {}

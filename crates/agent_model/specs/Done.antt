@@ -1,0 +1,38 @@
+-- What an action makes of what is held, and what it answers.
+-- Source: none; these are the words of the machine.
+-- Our own choice: an action finds the shared cells beside what is held, and leaves both. No cell is
+-- shared between sites, and nothing is durable.
+use Rattle.std.specs.Prelude.{List, [], codes}
+use Rattle.script_lines.specs.Reply.{PlainBody, Plain}
+use Rattle.agent_model.specs.Partition.{Holdings}
+
+-- the cells that sites share
+abbrev pub SharedCells : Type 0
+SharedCells = Unit {0}
+
+-- none of them holds anything
+abbrev pub no_shared_cells : SharedCells
+no_shared_cells = tt
+
+-- a change of durable state
+pub data Change : Type 0 where
+
+-- what is held and what the shared cells are afterwards, the changes of durable state, and the
+-- answer
+pub record Done : Type 0 where
+  pub held : Holdings
+  pub cells : SharedCells
+  pub changes : List Change
+  pub body : PlainBody
+
+-- what an action makes of the shared cells and of what is held
+abbrev pub Effect : Type 0
+Effect = SharedCells → Holdings → Done
+
+-- an answer that is `ok` alone
+abbrev pub ok : PlainBody
+ok = Plain (codes "ok")
+
+-- an answer that leaves all as it is
+abbrev pub answers : PlainBody → Effect
+answers body cells held = record { held = held; cells = cells; changes = []; body = body }

@@ -1,0 +1,130 @@
+-- What short runs reply and what they give a site, worked out by hand.
+use Rattle.std.proofs.Common.{◌≡◌, false, refl, ap, sym, ◌∙◌, List, [], ◌∷◌, Some, None}
+use Rattle.std.specs.Prelude.{codes, option_map}
+use Rattle.std.specs.Cmp.{nat_cmp_total}
+use Rattle.std.specs.Ordering.{nat_cmp}
+use Rattle.std.specs.FinMap.{nat_cmp-IsAntisymmetric, get-empty, get-insert}
+use Rattle.unwinding.specs.FiniteCells.{list_of, get_cell}
+use Rattle.unwinding.proofs.FiniteCellsLemmas.{get_set}
+use Rattle.unwinding.specs.World.{SiteReply, replies}
+use Rattle.origin_site.specs.Site.{PlainSite}
+use Rattle.storage_key.specs.Key.{key_order}
+use Rattle.storage_key.proofs.OrderLemmas.{key_order_total, key_order_same}
+use Rattle.local_area.specs.Area.{area_get, area_put}
+use Rattle.local_area.specs.Put.{put_answer}
+use Rattle.storage_events.specs.declared.event.AreaKind.TheVariants.{Local}
+use Rattle.storage_events.specs.Event.{PlainEvent}
+use Rattle.script_lines.specs.declared.words.Method.TheVariants as method
+use Rattle.script_lines.specs.Reply.{Load, Text}
+use Rattle.script_lines.specs.Script.{PlainAction, DocumentAction, Open, Act, Set, Get}
+use Rattle.agent_model.specs.Partition.{Holdings, no_holdings, tab_named, area_of}
+use Rattle.agent_model.specs.Done.{Done, no_shared_cells, ok}
+use Rattle.agent_model.specs.SiteEvent.{Answer}
+use Rattle.agent_model.specs.Documents.{told_tab}
+use Rattle.agent_model.specs.AreaActions.{set_by, write}
+use Rattle.agent_model.specs.Sessions.{show}
+use Rattle.agent_model.specs.SiteStep.{act_in}
+use Rattle.agent_model.specs.Lines.{AgentWorld, Places, User, no_places, placed, site_at}
+use Rattle.agent_model.specs.TheMachine.{machine}
+use Rattle.agent_model.specs.Isolation.{replies_to}
+use Rattle.one_store.specs.WholeWorld.{whole_world, IsPlaced}
+use Rattle.agent_model.proofs.KeptLemmas as kept
+use Rattle.agent_model.proofs.StandardFacts.{address, site, at_frame, a}
+use Rattle.agent_model.proofs.StorageFacts.{shows_a, writer, key_a, k, v, pairs}
+use Rattle.one_store.proofs.ActPlacedLemmas.{act_placed}
+use Rattle.one_store.proofs.WorldLemmas.{LineMakes, told_at}
+use Rattle.one_store.proofs.WorldBeginningLemmas.{beginning_whole, beginning_placed}
+use Rattle.one_store.proofs.WorldActLemmas.{act_makes}
+use Rattle.one_store.proofs.WorldOpenLemmas.{open_makes, open_placed}
+
+-- the replies to a line and to those behind it
+then : (before after : AgentWorld) (action : PlainAction) (told : SiteReply PlainSite Answer) (lines : List PlainAction) → LineMakes [] before action after told
+    → replies (machine []) before (action ∷ lines) ≡ told ∷ replies (machine []) after lines
+then before after action told lines makes = λ i. makes.reply i ∷ replies (machine []) (makes.world i) lines
+
+-- ---- a value is set and read
+
+abbrev opens : PlainAction
+opens = Open 1 (address a) None false method.Get
+
+abbrev setting : DocumentAction
+setting = Set Local k v
+
+abbrev getting : DocumentAction
+getting = Get Local k
+
+abbrev sets : PlainAction
+sets = Act (at_frame 1 0) setting
+
+abbrev gets : PlainAction
+gets = Act (at_frame 1 0) getting
+
+-- what is held after each line
+abbrev at_a : Places
+at_a = placed 1 (site a) no_places
+
+abbrev opened_held : Holdings
+opened_held = show [] 1 (address a) no_holdings
+
+abbrev set_held : Holdings
+set_held = (act_in [] 7 (at_frame 1 0) setting (shows_a 1) no_shared_cells opened_held).held
+
+one_is_at_a : site_at 1 at_a ≡ Some (site a)
+one_is_at_a = get-insert nat_cmp_total no_places 1 (site a) 1
+
+one_shows_a : tab_named 1 opened_held ≡ Some (shows_a 1)
+one_shows_a = get-insert nat_cmp_total no_holdings.tabs 1 (shows_a 1) 1
+
+-- the area is empty, and then has the pair
+empty_area : area_of Local 1 key_a opened_held ≡ []
+unfolding get_cell no_holdings
+empty_area = ap list_of (get-empty key_order key_a)
+
+abbrev set_event : PlainEvent
+set_event = record { area = Local; key = Some k; before = None; after = Some v; url = codes "https://a.test/" }
+
+set_done : act_in [] 7 (at_frame 1 0) setting (shows_a 1) no_shared_cells opened_held ≡ write Local writer pairs set_event no_shared_cells opened_held
+set_done = ap (λ found. set_by (put_answer k v found) Local writer k v (area_put k v found) no_shared_cells opened_held) empty_area
+
+-- the page hears nothing of it
+still_shows_a : tab_named 1 set_held ≡ Some (shows_a 1)
+still_shows_a =
+    ap (λ (done : Done). tab_named 1 done.held) set_done
+    ∙ kept.get_mapped nat_cmp nat_cmp_total nat_cmp-IsAntisymmetric (told_tab Local writer set_event) opened_held.tabs 1
+    ∙ ap (option_map (told_tab Local writer set_event 1)) one_shows_a
+
+reads : (act_in [] 7 (at_frame 1 0) getting (shows_a 1) no_shared_cells set_held).body ≡ Text (Some v)
+reads =
+    ap (λ (done : Done). Text (area_get k (area_of Local 1 key_a done.held))) set_done
+    ∙ ap (λ found. Text (area_get k found)) (get_set key_order key_order_total key_order_same key_a key_a pairs opened_held.areas)
+
+nothing_open : site_at 1 no_places ≡ None
+unfolding no_places
+nothing_open = get-empty nat_cmp 1
+
+opened_placed : IsPlaced at_a opened_held
+opened_placed = open_placed [] 7 no_places no_shared_cells no_holdings 1 (address a) None false method.Get beginning_placed
+
+set_placed : IsPlaced at_a set_held
+set_placed = act_placed at_a no_shared_cells opened_held opened_placed (at_frame 1 0) (shows_a 1) one_shows_a [] 7 setting
+
+-- the replies of the run, each of the site that the tab is at
+last_line : replies (machine []) (whole_world 7 at_a no_shared_cells set_held) (gets ∷ []) ≡ told_at (site a) gets (Text (Some v)) ∷ []
+last_line =
+    then (whole_world 7 at_a no_shared_cells set_held) (whole_world 7 at_a no_shared_cells (act_in [] 7 (at_frame 1 0) getting (shows_a 1) no_shared_cells set_held).held) gets _ []
+    (act_makes [] 7 at_a no_shared_cells set_held set_placed (at_frame 1 0) getting (shows_a 1) still_shows_a (site a) one_is_at_a)
+    ∙ ap (λ body. told_at (site a) gets body ∷ []) reads
+
+last_two : replies (machine []) (whole_world 7 at_a no_shared_cells opened_held) (sets ∷ gets ∷ []) ≡ told_at (site a) sets ok ∷ told_at (site a) gets (Text (Some v)) ∷ []
+last_two =
+    then (whole_world 7 at_a no_shared_cells opened_held) (whole_world 7 at_a no_shared_cells set_held) sets _ (gets ∷ [])
+    (act_makes [] 7 at_a no_shared_cells opened_held opened_placed (at_frame 1 0) setting (shows_a 1) one_shows_a (site a) one_is_at_a)
+    ∙ λ i. told_at (site a) sets (set_done i).body ∷ last_line i
+
+set_and_read : replies_to [] 7 (opens ∷ sets ∷ gets ∷ []) ≡ told_at (site a) opens (Load None []) ∷ told_at (site a) sets ok ∷ told_at (site a) gets (Text (Some v)) ∷ []
+unfolding replies_to
+set_and_read =
+    ap (λ w. replies (machine []) w (opens ∷ sets ∷ gets ∷ [])) (sym (beginning_whole 7))
+    ∙ then (whole_world 7 no_places no_shared_cells no_holdings) (whole_world 7 at_a no_shared_cells opened_held) opens _ (sets ∷ gets ∷ [])
+    (open_makes [] 7 no_places no_shared_cells no_holdings 1 (address a) None false method.Get User refl nothing_open)
+    ∙ ap (λ more. told_at (site a) opens (Load None []) ∷ more) last_two

@@ -2,12 +2,12 @@
 use crate::shared::origin_at;
 use local_area::Put;
 use origin_site::Site;
-use page_storage::Storage;
 use std::alloc::Global;
 use std::process::Abort;
 use std::test::Fail;
 use storage_events::AreaKind;
 use storage_key::StorageKey;
+use web_storage::Storage;
 
 // Where an area is: an address, and the site above it.
 type Place = (&'static str, &'static str);
@@ -37,7 +37,7 @@ fn put(
     let key = key_of(alloc, at)?;
     let name = String::from_str(alloc, "k")?;
     let value = String::from_str(alloc, value)?;
-    let put = storage.put(kind, tab, key, name, value);
+    let put = storage.put(kind, tab, &key, name, value);
     Ok(matches!(&put, Ok(Put::Added)))
 }
 
@@ -76,9 +76,10 @@ fn check_value(
 
 // Removes that name from the local area of tab 1, and clears the session area.
 fn is_emptied(alloc: Global, storage: &mut Storage, at: Place) -> Result<bool, Fail> {
-    let removed = storage.remove(AreaKind::Local, 1, key_of(alloc, at)?, "k");
-    let cleared = storage.clear(AreaKind::Session, 1, key_of(alloc, at)?);
-    Ok(matches!(&removed, Ok(Some(_))) && cleared.is_ok())
+    let key = key_of(alloc, at)?;
+    let removed = storage.remove(AreaKind::Local, 1, &key, "k");
+    storage.clear(AreaKind::Session, 1, &key);
+    Ok(removed.is_some())
 }
 
 // Areas once `A` has a pair of each kind in tab 1, with the values there.
@@ -120,7 +121,7 @@ fn is_persisted(
 ) -> Result<bool, Fail> {
     let key = key_of(alloc, at)?;
     let other = key_of(alloc, other)?;
-    let persisted = storage.persist(key.copy(alloc)?);
+    let persisted = storage.persist(&key);
     Ok(persisted.is_ok() && storage.is_persistent(&key) && !storage.is_persistent(&other))
 }
 
@@ -163,6 +164,60 @@ fn copies_are_of_one_site(rt: HostRuntime) -> Result<(), Fail> {
     assert!(rt; copied(&mut storage, &Site::read(alloc, "https://a.test")?));
     for (tab, at, want) in [(1, A, "v"), (1, B, "v"), (2, A, "v"), (2, B, "")] {
         check_value(&rt, alloc, &storage, AreaKind::Session, tab, at, want)?;
+    }
+    Ok(())
+}
+
+// Thousands of pairs, each with a name of its own, in one area.
+fn fill(
+    alloc: Global,
+    storage: &mut Storage,
+    kind: AreaKind,
+    key: &StorageKey,
+) -> Result<bool, Fail> {
+    let mut done = true;
+    for n in 0..3_000u32 {
+        let name = format!(in alloc; "{n}")?;
+        let value = String::from_str(alloc, "v")?;
+        done = done && storage.put(kind, 1, key, name, value).is_ok();
+    }
+    Ok(done)
+}
+
+// Thousands of tabs, each with an area of its own under one key.
+fn fill_tabs(alloc: Global, storage: &mut Storage, key: &StorageKey) -> Result<bool, Fail> {
+    let mut done = true;
+    for tab in 0..3_000u16 {
+        let name = String::from_str(alloc, "k")?;
+        let value = String::from_str(alloc, "v")?;
+        done = done
+            && storage
+                .put(AreaKind::Session, tab, key, name, value)
+                .is_ok();
+    }
+    Ok(done)
+}
+
+#[test]
+fn thousands_are_kept_in_each_kind_of_area(rt: HostRuntime) -> Result<(), Fail> {
+    let alloc = rt.alloc();
+    let mut storage = Storage::new(alloc);
+    let key = key_of(alloc, A)?;
+    for kind in [AreaKind::Local, AreaKind::Session] {
+        assert!(rt; fill(alloc, &mut storage, kind, &key)?);
+    }
+    assert!(rt; fill_tabs(alloc, &mut storage, &key)?);
+    for (kind, tab, want) in [
+        (AreaKind::Local, 1, 3_000),
+        (AreaKind::Session, 1, 3_001),
+        (AreaKind::Session, 2_999, 1),
+        (AreaKind::Session, 3_000, 0),
+    ] {
+        let len = match storage.area(kind, tab, &key) {
+            Some(area) => area.len(),
+            None => 0,
+        };
+        assert_eq!(rt; len, want, "in tab {tab}");
     }
     Ok(())
 }

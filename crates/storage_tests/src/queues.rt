@@ -1,19 +1,19 @@
 //! A full queue, and an audience with ample memory.
-use agent_base::Label;
-use std::alloc::{AllocError, Global};
-use std::rc::RcStr;
+use agent_base::{Label, NoMemory};
+use std::alloc::Global;
 use std::test::Fail;
 use storage_events::{AreaKind, Event, Queue, audience};
 
 // A name that was given a value.
-fn stored(alloc: Global) -> Result<Event, AllocError> {
-    Ok(Event {
-        area: AreaKind::Local,
-        key: Some(RcStr::from_str(alloc, "k")?),
-        before: None,
-        after: Some(RcStr::from_str(alloc, "v")?),
-        url: RcStr::from_str(alloc, "https://a.test/")?,
-    })
+fn stored(alloc: Global) -> Result<Event, NoMemory> {
+    Event::new(
+        alloc,
+        AreaKind::Local,
+        Some("k"),
+        None,
+        Some("v"),
+        "https://a.test/",
+    )
 }
 
 // A queue after 1,025 pushes, with ample memory.

@@ -1,31 +1,26 @@
 //! A caller of the loan, and each call that takes memory with ample memory.
-ghost use Rattle.std.specs.Prelude.{◌≡◌, OnOk, string_bytes};
-ghost use Rattle.key_map.specs.Entries.{map_put};
-ghost use Rattle.local_area.specs.Area.{area_put};
-ghost use Rattle.session_area.specs.Sessions.{areas_of, held_session, ChangesTab};
+ghost use Rattle.std.specs.Prelude.{IfNone};
+ghost use Rattle.session_area.specs.Sessions.{SameAreas};
 
-use agent_base::NoMemory;
 use local_area::{AreaFault, Put};
 use session_area::Sessions;
 use std::alloc::{AllocError, Global};
 use std::process::Abort;
 use std::test::Fail;
 
-// Puts a pair into the area of a tab and a key.
+// Puts a pair into the area that a tab has under a key.
 fn put<K: Ord + Drop>(
     sessions: &mut Sessions<K>,
     tab: u16,
-    key: K,
+    key: &K,
     name: String,
     value: String,
-) -> Result<Put, AreaFault>
-    ensures stored { OnOk result (ChangesTab tab
-        (map_put K.cmp key (area_put (string_bytes name) (string_bytes value) (held_session K.cmp tab key sessions.old))
-        (areas_of tab sessions.old)) sessions.old sessions.new) }
+) -> Option<Result<Put, AreaFault>>
+    ensures none { IfNone result (SameAreas sessions.old sessions.new) }
 {
     match sessions.area_mut(tab, key) {
-        Ok(area) => area.put(name, value),
-        Err(NoMemory) => Err(AreaFault::NoMemory),
+        Some(area) => Some(area.put(name, value)),
+        None => None,
     }
 }
 
@@ -35,9 +30,10 @@ fn three_areas(alloc: Global) -> Result<Sessions<u32>, AllocError> {
     for (key, value) in [(7, "v"), (3, "w"), (5, "x")] {
         let name = String::from_str(alloc, "k")?;
         let value = String::from_str(alloc, value)?;
-        if put(&mut sessions, 1, key, name, value).is_err() {
+        if sessions.reserve(1, key).is_err() {
             return Err(AllocError);
         }
+        let _ = put(&mut sessions, 1, &key, name, value);
     }
     Ok(sessions)
 }
@@ -79,5 +75,7 @@ fn copied_tab_goes_its_own_way(rt: HostRuntime) -> Result<(), Fail> {
     check_values(&rt, &sessions);
     check_keys(&rt, &sessions);
     assert!(rt; copy.area(1, &5).is_some());
+    sessions.drop_empty(2, &3);
+    assert!(rt; sessions.contains(2, &3));
     Ok(())
 }

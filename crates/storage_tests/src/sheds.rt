@@ -1,28 +1,24 @@
 //! A caller of the loan, and each call that takes memory with ample memory.
-ghost use Rattle.std.specs.Prelude.{◌≡◌, OnOk, OnErr, string_bytes};
-ghost use Rattle.local_area.specs.Area.{area_put};
-ghost use Rattle.buckets.specs.Shed.{held_area, mode_at, shed_put};
+ghost use Rattle.std.specs.Prelude.{◌≡◌, IfNone};
 
-use agent_base::NoMemory;
 use buckets::{Mode, Shed};
 use local_area::{AreaFault, Put};
 use std::alloc::{AllocError, Global};
 use std::process::Abort;
 use std::test::Fail;
 
-// Puts a pair into the area of a key.
+// Puts a pair into the area of a key that has a bucket.
 fn put<K: Ord + Drop>(
     shed: &mut Shed<K>,
-    key: K,
+    key: &K,
     name: String,
     value: String,
-) -> Result<Put, AreaFault>
-    ensures stored { OnOk result (shed.new ≡ shed_put K.cmp key (mode_at K.cmp key shed.old)
-        (area_put (string_bytes name) (string_bytes value) (held_area K.cmp key shed.old)) shed.old) }
+) -> Option<Result<Put, AreaFault>>
+    ensures none { IfNone result (shed.new ≡ shed.old) }
 {
     match shed.area_mut(key) {
-        Ok(area) => area.put(name, value),
-        Err(NoMemory) => Err(AreaFault::NoMemory),
+        Some(area) => Some(area.put(name, value)),
+        None => None,
     }
 }
 
@@ -32,18 +28,21 @@ fn shed_of(alloc: Global, keys: &[u32]) -> Result<Shed<u32>, AllocError> {
     for key in keys {
         let name = String::from_str(alloc, "k")?;
         let value = String::from_str(alloc, "v")?;
-        if put(&mut shed, *key, name, value).is_err() {
+        if shed.reserve(*key).is_err() {
             return Err(AllocError);
         }
+        let _ = put(&mut shed, key, name, value);
     }
     Ok(shed)
 }
 
 fn check_persisted(rt: &impl Abort, shed: &mut Shed<u32>) {
-    for (key, want) in [(5, Ok(true)), (5, Ok(false)), (9, Ok(true))] {
-        assert_eq!(rt; shed.persist(key), want, "at {key}");
+    for key in [9, 8] {
+        assert_eq!(rt; shed.reserve(key), Ok(()), "at {key}");
     }
-    assert_eq!(rt; shed.reserve(8), Ok(()));
+    for (key, want) in [(5, true), (5, false), (9, true), (4, false)] {
+        assert_eq!(rt; shed.persist(&key), want, "at {key}");
+    }
 }
 
 fn check_evictions(rt: &impl Abort, shed: &mut Shed<u32>) {
@@ -61,6 +60,8 @@ fn check_usages(rt: &impl Abort, shed: &Shed<u32>, copy: &Shed<u32>) {
         assert_eq!(rt; shed.usage(&key), usage, "at {key}");
         assert_eq!(rt; copy.usage(&key), copied, "in the copy at {key}");
     }
+    assert!(rt; !shed.contains(&8));
+    assert!(rt; shed.contains(&9));
     assert_eq!(rt; shed.mode(&9), Mode::Persistent);
     assert_eq!(rt; shed.mode(&1), Mode::BestEffort);
 }

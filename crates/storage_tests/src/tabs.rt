@@ -6,10 +6,9 @@ use crate::shared::list_of;
 use agent_base::Label;
 use frame_tree::{Sandbox, Tab};
 use live_state::Live;
-use origin_site::{Address, Site};
+use origin_site::Address;
 use std::alloc::Global;
 use std::process::Abort;
-use std::rc::RcStr;
 use std::test::Fail;
 use storage_events::{AreaKind, Event};
 use storage_key::StorageKey;
@@ -39,7 +38,7 @@ fn put(
     fresh: Option<u8>,
 ) -> Result<bool, Fail> {
     let made = tab_with(alloc, list, frames)?;
-    Ok(match live.reserve(tab) {
+    Ok(match live.reserve(tab, &made) {
         Ok(()) => {
             live.put_tab(tab, made, fresh);
             true
@@ -59,13 +58,7 @@ fn has_document(live: &Live, at: Label) -> bool
 
 // The clear of an area.
 fn cleared(alloc: Global) -> Result<Event, Fail> {
-    Ok(Event {
-        area: AreaKind::Local,
-        key: None,
-        before: None,
-        after: None,
-        url: RcStr::from_str(alloc, "https://a.test/")?,
-    })
+    Ok(Event::new(alloc, AreaKind::Local, None, None, None, "https://a.test/")?)
 }
 
 // Tells a document of a clear, if it is there and memory is ample.
@@ -126,6 +119,28 @@ fn check_documents(rt: &impl Abort, documents: &[(Label, StorageKey)]) {
     }
 }
 
+// How many documents hear of a write by a frame of tab 0.
+fn check_hearers(rt: &impl Abort, live: &Live) {
+    for (frame, area, count) in [
+        (0, AreaKind::Local, 2),
+        (0, AreaKind::Session, 0),
+        (3, AreaKind::Local, 5),
+        (3, AreaKind::Session, 1),
+    ] {
+        let Some(tab) = live.tab(0) else {
+            assert!(rt; false, "no tab");
+            return;
+        };
+        let Some(key) = tab.key(frame) else {
+            assert!(rt; false, "no key of frame {frame}");
+            return;
+        };
+        let hearers = live.hearers(area, Label { tab: 0, frame }, key);
+        let found = hearers.map(|to| to.len());
+        assert_eq!(rt; found, Ok(count), "{area:?} of frame {frame}");
+    }
+}
+
 #[test]
 fn tabs_by_number(rt: HostRuntime) -> Result<(), Fail> {
     let alloc = rt.alloc();
@@ -144,14 +159,7 @@ fn tabs_by_number(rt: HostRuntime) -> Result<(), Fail> {
         return Ok(());
     };
     check_documents(&rt, &documents);
-    for (text, count) in [("https://a.test", DOCUMENTS.len()), ("https://b.test", 0)] {
-        let site = Site::read(alloc, text)?;
-        let Ok(documents) = live.documents_under(&site) else {
-            assert!(rt; false, "no memory for the documents under {text}");
-            return Ok(());
-        };
-        assert_eq!(rt; documents.len(), count, "under {text}");
-    }
+    check_hearers(&rt, &live);
     Ok(())
 }
 

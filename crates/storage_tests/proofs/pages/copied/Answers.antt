@@ -1,7 +1,7 @@
 use Rattle.std.proofs.Common.{ap, ◌∙◌}
 use Rattle.std.specs.FinMap.{empty}
 use Rattle.agent_model.specs.Sessions.{has_session}
-use Rattle.page_storage.proofs.CloseLemmas.{none_after}
+use Rattle.web_storage.proofs.CloseLemmas.{none_after}
 use Rattle.storage_tests.proofs.pages.copied.Goals as goal
 
 pub copy_tab-requires : goal.copy_tab-requires

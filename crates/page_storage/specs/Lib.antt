@@ -1,5 +1,0 @@
--- What contracts cite.
-pub mod Stored
-pub mod Within
--- What private functions compute. No public clause rests on it.
-pub mod Evicting

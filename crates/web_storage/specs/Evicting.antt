@@ -1,0 +1,32 @@
+-- What an eviction of a site takes of local areas and leaves, the order of keys of the program, and
+-- tabs without session areas.
+use Rattle.std.specs.Prelude.{◌≡◌, ℕ, Bool, not, ◌&&◌, None}
+use Rattle.std.specs.FinMap as finite
+use Rattle.origin_site.specs.Site.{PlainSite}
+use Rattle.storage_key.specs.Plain.{plain_key}
+use Rattle.storage_key.specs.Key.{PlainKey, key_order}
+use Rattle.storage_key.specs.declared.key.StorageKey.{StorageKey}
+use Rattle.std.specs.declared.cmp.Ordering.{Ordering}
+use Rattle.agent_model.specs.Partition.{is_under}
+use Rattle.agent_model.specs.Partition.{Areas, Keys, SessionAreas}
+
+-- a key is under a site, and its bucket is not persistent
+abbrev pub is_taken : PlainSite → Keys → PlainKey → Bool
+is_taken site persistent key = is_under site key && not (finite.contains_key persistent key)
+
+-- the local areas that are left
+abbrev pub areas_left_by : PlainSite → Keys → Areas → Areas
+areas_left_by site persistent areas = finite.retain_keys areas
+    (λ key. not (is_taken site persistent key))
+
+-- the local areas that are taken
+abbrev pub areas_taken_by : PlainSite → Keys → Areas → Areas
+areas_taken_by site persistent areas = finite.retain_keys areas (is_taken site persistent)
+
+-- the order of keys of the program
+abbrev pub key_cmp : StorageKey → StorageKey → Ordering
+key_cmp a b = key_order (plain_key a) (plain_key b)
+
+-- a tab has no session area
+abbrev pub HasNone : ℕ → SessionAreas → Type 0
+HasNone tab sessions = (key : PlainKey) → finite.get sessions (tab, key) ≡ None

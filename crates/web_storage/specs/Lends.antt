@@ -1,0 +1,34 @@
+-- What the storage holds after a write through an area that it lent.
+use Rattle.std.specs.Prelude.{◌≡◌, ℕ, List, Option, OnSome, Result}
+use Rattle.std.specs.Borrow.{LendsSo, LendsSoOk, MutBor, Fml}
+use Rattle.storage_key.specs.Key.{PlainKey}
+use Rattle.local_area.specs.Area.{Pair}
+use Rattle.local_area.specs.contracts.area.Area as area
+use Rattle.storage_events.specs.declared.event.AreaKind.{AreaKind}
+use Rattle.agent_model.specs.Partition.{Tabs, with_area}
+use Rattle.web_storage.specs.Stored.{Entries, held_with}
+use Rattle.web_storage.specs.contracts.storage.Storage as storage
+
+-- the storage holds what it held, beside any open tabs
+abbrev pub HoldsSame : (old new : Entries) → Type 0
+HoldsSame old new = (tabs : Tabs) → held_with tabs new ≡ held_with tabs old
+
+-- the storage holds what it held, with these pairs in one area, beside any open tabs
+abbrev pub HoldsPairs : AreaKind → ℕ → PlainKey → List Pair → (old new : Entries) → Type 0
+HoldsPairs kind tab key pairs old new =
+    (tabs : Tabs) → held_with tabs new ≡ with_area kind tab key pairs (held_with tabs old)
+
+-- the storage ends with the last pairs behind r in the area, and holds what it held where memory
+-- is wanting
+abbrev pub LendsArea : {E : Type 0} → MutBor Entries → AreaKind → ℕ → PlainKey
+    → Result (MutBor (List Pair)) E → Fml
+LendsArea s kind tab key r =
+    LendsSoOk storage.the_row area.the_row s r
+    (λ n w. HoldsPairs kind tab key w s.now n) (λ n. HoldsSame s.now n)
+
+-- the same where an area that is there is lent, and nothing else
+abbrev pub LendsPresent : MutBor Entries → AreaKind → ℕ → PlainKey → Option (MutBor (List Pair))
+    → Fml
+LendsPresent s kind tab key r =
+    LendsSo storage.the_row area.the_row s r
+    (λ n w. OnSome r (HoldsPairs kind tab key w s.now n)) (λ n. HoldsSame s.now n)

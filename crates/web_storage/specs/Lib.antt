@@ -1,0 +1,5 @@
+-- What contracts cite.
+pub mod Stored
+pub mod Lends
+-- What private functions compute. No public clause rests on it.
+pub mod Evicting

@@ -1,0 +1,66 @@
+//! Local areas: room for a storage key in a shed, and evictions.
+ghost use Rattle.std.specs.Prelude.{◌≡◌, ◌-◌, ◌^◌, [], IfOk, OnOk, OnErr, filter, map, min, is_some, true, false};
+ghost use Rattle.std.specs.FinMap as finite;
+ghost use Rattle.std.specs.List.Sorted.{IsStrictlySortedBy};
+ghost use Rattle.std.specs.Map.{keys_of};
+ghost use Rattle.origin_site.specs.Plain.{plain_site};
+ghost use Rattle.unwinding.specs.FiniteCells.{get_cell};
+ghost use Rattle.storage_key.specs.Key.{key_order};
+ghost use Rattle.storage_key.specs.Plain.{plain_key};
+ghost use Rattle.key_map.specs.Entries.{map_get};
+ghost use Rattle.web_storage.specs.Stored.{areas_in, keys_in};
+ghost use Rattle.agent_model.specs.Partition.{is_under};
+ghost use Rattle.web_storage.specs.Evicting.{areas_left_by, areas_taken_by, key_cmp};
+
+use agent_base::NoMemory;
+use buckets::Shed;
+use origin_site::{Site, same_site};
+use std::alloc::Global;
+use storage_key::StorageKey;
+
+/// Makes room for a key in a shed. The key is copied only where it is new.
+pub fn reserve_local(
+    alloc: Global,
+    shed: &mut Shed<StorageKey>,
+    key: &StorageKey,
+) -> Result<(), NoMemory>
+    ensures areas { areas_in shed.new ≡ areas_in shed.old }
+    ensures modes { keys_in shed.new ≡ keys_in shed.old }
+    ensures there { OnOk result (is_some (map_get key_cmp key.now shed.new) ≡ true) }
+    ensures area { OnErr result (get_cell key_order (areas_in shed.old) (plain_key key.now) ≡ []) }
+    ensures mode { OnErr result (finite.contains_key (keys_in shed.old) (plain_key key.now)
+        ≡ false) }
+{
+    if shed.contains(key) {
+        return Ok(());
+    }
+    let key = key.copy(alloc)?;
+    shed.reserve(key)
+}
+
+/// Empties the local areas of the best-effort buckets under a site, and counts those that were not
+/// empty.
+pub fn evict_local(shed: &mut Shed<StorageKey>, site: &Site) -> Result<u32, NoMemory>
+    ensures evicted { OnOk result (areas_in shed.new
+        ≡ areas_left_by (plain_site site.now) (keys_in shed.old) (areas_in shed.old)) }
+    ensures count { let taken =
+        areas_taken_by (plain_site site.now) (keys_in shed.old) (areas_in shed.old) in
+        IfOk result (λ n. n ≡ min (finite.len taken) (2 ^ 32 - 1)) }
+    ensures modes { keys_in shed.new ≡ keys_in shed.old }
+    ensures unchanged { OnErr result (areas_in shed.new ≡ areas_in shed.old) }
+{
+    let keys = keys_under(shed, site)?;
+    Ok(shed.evict(keys.as_slice()))
+}
+
+// The keys under a site that have a bucket.
+fn keys_under(shed: &Shed<StorageKey>, site: &Site) -> Result<Vec<StorageKey>, NoMemory>
+    ensures keys { let all = map plain_key (keys_of shed.now) in
+        IfOk result (λ keys. map plain_key keys.items
+        ≡ filter (is_under (plain_site site.now)) all) }
+    ensures ordered { IsStrictlySortedBy key_cmp (keys_of shed.now) }
+{
+    let mut keys = shed.keys()?;
+    keys.retain(|key| same_site(site, &key.top));
+    Ok(keys)
+}

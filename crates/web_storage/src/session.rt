@@ -1,0 +1,53 @@
+//! Session areas: room for a tab and a storage key, and copies for another tab.
+ghost use Rattle.std.specs.Prelude.{◌≡◌, [], OnOk, OnErr};
+ghost use Rattle.unwinding.specs.FiniteCells.{get_cell};
+ghost use Rattle.storage_key.specs.Plain.{plain_key};
+ghost use Rattle.origin_site.specs.Plain.{plain_site};
+ghost use Rattle.agent_model.specs.Partition.{Holdings, session_order};
+ghost use Rattle.agent_model.specs.Sessions.{copy_sessions};
+ghost use Rattle.web_storage.specs.Evicting.{HasNone};
+ghost use Rattle.web_storage.specs.Stored.{sessions_in};
+
+use agent_base::NoMemory;
+use origin_site::{Site, same_site};
+use session_area::Sessions;
+use std::alloc::Global;
+use storage_key::StorageKey;
+
+/// Makes room for a tab and a key. The key is copied only where it is new.
+pub fn reserve_session(
+    alloc: Global,
+    sessions: &mut Sessions<StorageKey>,
+    tab: u16,
+    key: &StorageKey,
+) -> Result<(), NoMemory>
+    ensures sessions { sessions_in sessions.new ≡ sessions_in sessions.old }
+    ensures area { OnErr result
+        (get_cell session_order (sessions_in sessions.old) (tab, plain_key key.now) ≡ []) }
+{
+    if sessions.contains(tab, key) {
+        return Ok(());
+    }
+    let key = key.copy(alloc)?;
+    sessions.reserve(tab, key)
+}
+
+/// Copies the session areas that one tab has under a site to another tab, which has none.
+pub fn copy_areas(
+    sessions: &mut Sessions<StorageKey>,
+    site: &Site,
+    from: u16,
+    to: u16,
+) -> Result<(), NoMemory>
+    requires { HasNone to (sessions_in sessions.old) }
+    ensures copied { (held : Holdings) → held.sessions ≡ sessions_in sessions.old
+        → OnOk result (sessions_in sessions.new
+        ≡ (copy_sessions (plain_site site.now) from to held).sessions) }
+    ensures unchanged { OnErr result (sessions_in sessions.new ≡ sessions_in sessions.old) }
+{
+    // `clone_tab` asks that no area is there, and an empty one may be.
+    sessions.close(to);
+    let mut keys = sessions.keys(from)?;
+    keys.retain(|key| same_site(site, &key.top));
+    sessions.clone_tab(from, to, keys)
+}

@@ -1,0 +1,300 @@
+//! Local and session areas of all sites, by storage key.
+ghost use Rattle.std.specs.Prelude.{◌≡◌, ◌<◌, ◌↔◌, ◌⊎◌, [], Err, IfErr, IfOk, None, OnOk, OnErr, MatchOption, option_map, string_bytes, true, false};
+ghost use Rattle.std.specs.Borrow.{sem};
+ghost use Rattle.origin_site.specs.Plain.{plain_site};
+ghost use Rattle.storage_key.specs.Plain.{plain_key};
+ghost use Rattle.local_area.specs.Area.{area_get, area_put, area_remove, area_weight, quota};
+ghost use Rattle.local_area.specs.Put.{plain_put, put_answer};
+ghost use Rattle.storage_events.specs.declared.event.AreaKind.TheVariants.{Local};
+ghost use Rattle.agent_model.specs.Partition.{Tabs, area_of, no_holdings, with_area};
+ghost use Rattle.agent_model.specs.Buckets.{evicted_count, is_persistent, made_persistent};
+ghost use Rattle.agent_model.specs.Buckets.{without_evicted};
+ghost use Rattle.std.specs.FinMap as finite;
+ghost use Rattle.agent_model.specs.Sessions.{copy_sessions, has_session};
+ghost use Rattle.web_storage.specs.Stored.{held_with, without_areas};
+ghost use Rattle.web_storage.specs.Lends.{LendsArea, LendsPresent, HoldsSame, HoldsPairs};
+
+use crate::local::{evict_local, reserve_local};
+use crate::session::{copy_areas, reserve_session};
+use agent_base::NoMemory;
+use buckets::{Mode, Shed};
+use local_area::{Area, AreaFault, Put};
+use origin_site::Site;
+use session_area::Sessions;
+use std::alloc::Global;
+use std::marker::Model;
+use storage_events::AreaKind;
+use storage_key::StorageKey;
+
+/// The storage of all sites: local areas with the modes of their buckets, and the session areas of
+/// tabs.
+///
+/// An area that is empty and one that is absent are the same, and so are a best-effort bucket and
+/// none.
+#[derive(Debug, Drop)]
+pub struct Storage {
+    local: Shed<StorageKey>,
+    session: Sessions<StorageKey>,
+    alloc: Global,
+}
+
+impl Model for Storage {
+    ghost use Rattle.web_storage.specs.Stored.{Entries};
+
+    ghost Value = { Entries };
+
+    ghost view = { λ s. record { local = s.local; session = s.session } };
+}
+
+impl Storage {
+    /// No areas, and no bucket that is persistent.
+    pub fn new(alloc: Global) -> Storage
+        ensures empty { (tabs : Tabs) → held_with tabs result ≡ record no_holdings { tabs = tabs } }
+    {
+        Storage {
+            local: Shed::new(alloc),
+            session: Sessions::new(alloc),
+            alloc,
+        }
+    }
+
+    /// A storage that holds the same, over memory of its own.
+    pub fn copy(&self) -> Result<Storage, NoMemory>
+        ensures same { IfOk result (λ copy. HoldsSame self.now copy) }
+    {
+        let local = self.local.copy()?;
+        let session = self.session.copy()?;
+        Ok(Storage {
+            local,
+            session,
+            alloc: self.alloc,
+        })
+    }
+
+    /// The area of a document, by its tab and storage key. None is an empty one.
+    pub fn area(&self, kind: AreaKind, tab: u16, key: &StorageKey) -> Option<&Area>
+        ensures area { (tabs : Tabs)
+            → let pairs = area_of kind tab (plain_key key.now) (held_with tabs self.now) in
+            MatchOption result (pairs ≡ []) (λ area. area.now ≡ pairs) }
+    {
+        match kind {
+            AreaKind::Local => self.local.area(key),
+            AreaKind::Session => self.session.area(tab, key),
+        }
+    }
+
+    /// The area of a document, to be changed. An absent one begins empty.
+    ///
+    /// The key is copied only where it is new. Want of memory leaves what the storage holds, and
+    /// never comes where the area is there.
+    pub fn area_mut(
+        &mut self,
+        kind: AreaKind,
+        tab: u16,
+        key: &StorageKey,
+    ) -> Result<&mut Area, NoMemory>
+        ensures* writes_back { sem 𝓛 (LendsArea self.entry kind tab (plain_key key.now) result) }
+        ensures area { (tabs : Tabs)
+            → let pairs = area_of kind tab (plain_key key.now) (held_with tabs self.old) in
+            IfOk result (λ area. area.now ≡ pairs) }
+        ensures memory { (tabs : Tabs)
+            → let pairs = area_of kind tab (plain_key key.now) (held_with tabs self.old) in
+            OnErr result (pairs ≡ []) }
+    {
+        self.reserve(kind, tab, key)?;
+        match self.present_mut(kind, tab, key) {
+            Some(area) => Ok(area),
+            None => Err(NoMemory),
+        }
+    }
+
+    /// Gives a name a value in an area. A refusal leaves what the storage holds.
+    pub fn put(
+        &mut self,
+        kind: AreaKind,
+        tab: u16,
+        key: &StorageKey,
+        name: String,
+        value: String,
+    ) -> Result<Put, AreaFault>
+        ensures stored { (tabs : Tabs) → let before = held_with tabs self.old in
+            let here = area_of kind tab (plain_key key.now) before in
+            let pairs = area_put (string_bytes name) (string_bytes value) here in
+            OnOk result (held_with tabs self.new
+            ≡ with_area kind tab (plain_key key.now) pairs before) }
+        ensures answer { (tabs : Tabs)
+            → let pairs = area_of kind tab (plain_key key.now) (held_with tabs self.old) in
+            IfOk result (λ p. plain_put p
+            ≡ put_answer (string_bytes name) (string_bytes value) pairs) }
+        ensures quota { (tabs : Tabs)
+            → let pairs = area_of kind tab (plain_key key.now) (held_with tabs self.old) in
+            let after = area_weight (area_put (string_bytes name) (string_bytes value) pairs) in
+            (result ≡ Err (AreaFault.Quota after)) ↔ (quota < after) }
+        ensures causes { (tabs : Tabs)
+            → let pairs = area_of kind tab (plain_key key.now) (held_with tabs self.old) in
+            let after = area_weight (area_put (string_bytes name) (string_bytes value) pairs) in
+            IfErr result (λ e. (e ≡ AreaFault.Quota after) ⊎ (e ≡ AreaFault.NoMemory)) }
+        ensures memory { (tabs : Tabs)
+            → let pairs = area_of kind tab (plain_key key.now) (held_with tabs self.old) in
+            result ≡ Err AreaFault.NoMemory → area_get (string_bytes name) pairs ≡ None }
+        ensures unchanged { OnErr result (HoldsSame self.old self.new) }
+    {
+        match self.area_mut(kind, tab, key) {
+            Ok(area) => area.put(name, value),
+            Err(NoMemory) => Err(AreaFault::without_area(&name, &value)),
+        }
+    }
+
+    /// Takes a name out of an area, and answers the value that it had. It takes no memory.
+    pub fn remove(
+        &mut self,
+        kind: AreaKind,
+        tab: u16,
+        key: &StorageKey,
+        name: &str,
+    ) -> Option<String>
+        ensures value { (tabs : Tabs)
+            → let pairs = area_of kind tab (plain_key key.now) (held_with tabs self.old) in
+            option_map string_bytes result ≡ area_get name.now pairs }
+        ensures removed { (tabs : Tabs) → let before = held_with tabs self.old in
+            let pairs = area_remove name.now (area_of kind tab (plain_key key.now) before) in
+            held_with tabs self.new ≡ with_area kind tab (plain_key key.now) pairs before }
+    {
+        let value = self.take(kind, tab, key, name);
+        self.drop_empty(kind, tab, key);
+        value
+    }
+
+    /// Empties an area. It takes no memory.
+    pub fn clear(&mut self, kind: AreaKind, tab: u16, key: &StorageKey)
+        ensures cleared { HoldsPairs kind tab (plain_key key.now) [] self.old self.new }
+    {
+        match self.present_mut(kind, tab, key) {
+            Some(area) => area.clear(),
+            None => {}
+        }
+        self.drop_empty(kind, tab, key);
+    }
+
+    /// Whether the bucket of a key is persistent.
+    pub fn is_persistent(&self, key: &StorageKey) -> bool
+        ensures mode { (tabs : Tabs) → result
+            ≡ is_persistent (plain_key key.now) (held_with tabs self.now) }
+    {
+        match self.local.mode(key) {
+            Mode::Persistent => true,
+            Mode::BestEffort => false,
+        }
+    }
+
+    /// Makes the bucket of a key persistent. The key is copied only where it is new.
+    pub fn persist(&mut self, key: &StorageKey) -> Result<(), NoMemory>
+        ensures stored { (tabs : Tabs) → let before = held_with tabs self.old in
+            OnOk result (held_with tabs self.new ≡ made_persistent (plain_key key.now) before) }
+        ensures unchanged { OnErr result (HoldsSame self.old self.new) }
+        ensures area { (tabs : Tabs)
+            → let pairs = area_of Local 0 (plain_key key.now) (held_with tabs self.old) in
+            OnErr result (pairs ≡ []) }
+        ensures mode { (tabs : Tabs) → OnErr result
+            (is_persistent (plain_key key.now) (held_with tabs self.old) ≡ false) }
+    {
+        reserve_local(self.alloc, &mut self.local, key)?;
+        let _ = self.local.persist(key);
+        Ok(())
+    }
+
+    /// The bytes of the names and values of a key's local area.
+    pub fn usage(&self, key: &StorageKey) -> usize
+        ensures usage { (tabs : Tabs) → result
+            ≡ area_weight (area_of Local 0 (plain_key key.now) (held_with tabs self.now)) }
+    {
+        self.local.usage(key)
+    }
+
+    /// Empties the local areas of the best-effort buckets under a site, and counts those that were
+    /// not empty. Their documents are not told.
+    pub fn evict(&mut self, site: &Site) -> Result<u32, NoMemory>
+        ensures evicted { (tabs : Tabs) → let before = held_with tabs self.old in
+            OnOk result (held_with tabs self.new ≡ without_evicted (plain_site site.now) before) }
+        ensures count { (tabs : Tabs) → let before = held_with tabs self.old in
+            IfOk result (λ count. count ≡ evicted_count (plain_site site.now) before) }
+        ensures unchanged { (tabs : Tabs) → OnErr result
+            (held_with tabs self.new ≡ held_with tabs self.old) }
+    {
+        evict_local(&mut self.local, site)
+    }
+
+    /// Copies the session areas that one tab has under a site to another tab, which has none.
+    pub fn copy_tab(&mut self, site: &Site, from: u16, to: u16) -> Result<(), NoMemory>
+        requires { has_session to (held_with finite.empty self.old) ≡ false }
+        ensures copied { (tabs : Tabs) → let before = held_with tabs self.old in
+            OnOk result (held_with tabs self.new
+            ≡ copy_sessions (plain_site site.now) from to before) }
+        ensures unchanged { (tabs : Tabs) → OnErr result
+            (held_with tabs self.new ≡ held_with tabs self.old) }
+    {
+        copy_areas(&mut self.session, site, from, to)
+    }
+
+    /// Drops the session areas of a tab.
+    pub fn close(&mut self, tab: u16)
+        ensures closed { (tabs : Tabs) → let before = held_with tabs self.old in
+            held_with tabs self.new
+            ≡ record before { sessions = without_areas tab before.sessions } }
+    {
+        self.session.close(tab);
+    }
+}
+
+impl Storage {
+    // Makes room for an area.
+    fn reserve(&mut self, kind: AreaKind, tab: u16, key: &StorageKey) -> Result<(), NoMemory>
+        ensures same { HoldsSame self.old self.new }
+        ensures memory { (tabs : Tabs)
+            → let pairs = area_of kind tab (plain_key key.now) (held_with tabs self.old) in
+            OnErr result (pairs ≡ []) }
+    {
+        match kind {
+            AreaKind::Local => reserve_local(self.alloc, &mut self.local, key),
+            AreaKind::Session => reserve_session(self.alloc, &mut self.session, tab, key),
+        }
+    }
+
+    // An area that is there, to be changed.
+    fn present_mut(&mut self, kind: AreaKind, tab: u16, key: &StorageKey) -> Option<&mut Area>
+        ensures* writes_back { sem 𝓛 (LendsPresent self.entry kind tab (plain_key key.now) result) }
+        ensures area { (tabs : Tabs)
+            → let pairs = area_of kind tab (plain_key key.now) (held_with tabs self.old) in
+            MatchOption result (pairs ≡ []) (λ area. area.now ≡ pairs) }
+    {
+        match kind {
+            AreaKind::Local => self.local.area_mut(key),
+            AreaKind::Session => self.session.area_mut(tab, key),
+        }
+    }
+
+    // Takes a name out of an area that is there.
+    fn take(&mut self, kind: AreaKind, tab: u16, key: &StorageKey, name: &str) -> Option<String>
+        ensures value { (tabs : Tabs)
+            → let pairs = area_of kind tab (plain_key key.now) (held_with tabs self.old) in
+            option_map string_bytes result ≡ area_get name.now pairs }
+        ensures removed { (tabs : Tabs) → let before = held_with tabs self.old in
+            let pairs = area_remove name.now (area_of kind tab (plain_key key.now) before) in
+            held_with tabs self.new ≡ with_area kind tab (plain_key key.now) pairs before }
+    {
+        match self.present_mut(kind, tab, key) {
+            Some(area) => area.remove(name),
+            None => None,
+        }
+    }
+
+    // Drops what stands for an empty area.
+    fn drop_empty(&mut self, kind: AreaKind, tab: u16, key: &StorageKey)
+        ensures same { HoldsSame self.old self.new }
+    {
+        match kind {
+            AreaKind::Local => self.local.drop_fresh(key),
+            AreaKind::Session => self.session.drop_empty(tab, key),
+        }
+    }
+}

@@ -12,10 +12,11 @@ use Rattle.storage_events.specs.declared.event.AreaKind.{AreaKind}
 use Rattle.storage_events.specs.Audience.{audience, hears, same_label}
 use Rattle.frame_tree.specs.Tree.{PlainFrame, has_frame}
 use Rattle.live_state.specs.Tabs.{PlainTab, is_rising, tab_at}
-use Rattle.live_state.specs.Documents.{documents, documents_in, frame_numbers, key_of_document, key_of_frame, keyed}
+use Rattle.frame_tree.specs.Keys.{key_of_document, key_of_frame}
+use Rattle.live_state.specs.Documents.{documents, documents_in, frame_numbers, keyed}
 use Rattle.live_state.proofs.ListLemmas.{and_parts, is_some-find}
 use Rattle.agent_model.specs.Documents.{Keyed, hears_at, hears_by}
-use Rattle.agent_core.specs.Kept.{AreTrees, IsFrameTreeAt, are_numbered}
+use Rattle.agent_core.specs.FrameTrees.{AreTrees, IsFrameTreeAt, are_numbered}
 use Rattle.agent_core.proofs.LiveLemmas.{number_found}
 use Rattle.agent_core.proofs.MemberLemmas.{any_flat, any_kept, any_one, few_flat, find_is, numbers_have, numbers_rise, passes, tabs_rise}
 

@@ -1,8 +1,9 @@
 -- What each action leaves of the frames of a tab is a tree of numbered frames.
-use Rattle.std.proofs.Common.{◌≡◌, ◌==◌, ◌&&◌, ◌||◌, ◌++◌, ℕ, Bool, true, false, cond, not, List, [], ◌∷◌, map, Option, Some, None, Ok, Err, refl, ap, subst, ◌∙◌}
+use Rattle.std.proofs.Common.{◌≡◌, ◌==◌, ◌&&◌, ◌||◌, ◌++◌, ℕ, Bool, true, false, cond, not, List, [], ◌∷◌, map, Option, Some, None, Ok, Err, refl, ap, ◌∙◌}
 use Rattle.std.proofs.lemmas.Bool.{and_from}
 use Rattle.std.proofs.lemmas.List.Folds.{list_all-append}
 use Rattle.std.specs.Prelude.{Result, IfOk, pos, nat_lt, filter}
+use Rattle.agent_base.specs.declared.refusals.Label.{Label}
 use Rattle.suffix_list.specs.Suffix.{Rule}
 use Rattle.origin_site.specs.Address.{PlainAddress}
 use Rattle.origin_site.specs.Site.{site_of_address}
@@ -11,12 +12,11 @@ use Rattle.frame_tree.specs.declared.tab.TreeFault.TheVariants.{NoFrame, FrameEx
 use Rattle.frame_tree.specs.Sandbox.{PlainSandbox, sandbox_of}
 use Rattle.frame_tree.specs.Document.{PlainDocument, loaded_below, loaded_instead}
 use Rattle.frame_tree.specs.Tree.{PlainFrame, document_of, has_frame, is_on_chain, top_site, with_next}
-use Rattle.frame_tree.specs.Calls as tree
+use Rattle.frame_tree.specs.Calls as calls
 use Rattle.live_state.proofs.ListLemmas.{all_kept}
-use Rattle.script_lines.specs.Script.{PlainAction, Frame, Nav, Drop, Click}
-use Rattle.agent_model.specs.Frames.{frames_after, where_below, where_there}
-use Rattle.agent_model.proofs.TopKeptLemmas.{KeepsTop, frames_keep_top, opened_top}
-use Rattle.agent_core.specs.Kept.{IsFrameTree, adds_number, are_numbered}
+use Rattle.agent_model.specs.Frames.{frames_added, frames_navigated, frames_removed, frames_clicked, where_below, where_there}
+use Rattle.one_store.proofs.TopKeptLemmas.{KeepsTop, added_top, navigated_top, removed_top, clicked_top, opened_top}
+use Rattle.agent_core.specs.FrameTrees.{IsFrameTree, are_numbered}
 
 -- a list of frames whose numbers a frame can have
 abbrev IsNumbered : List PlainFrame → Type 0
@@ -37,7 +37,7 @@ numbered_kept p frames numbered = all_kept p (λ f. nat_lt f.frame 256) frames n
 
 module _ (frames : List PlainFrame) (numbered : IsNumbered frames) where
   numbered_added : (rules : List Rule) (parent frame : ℕ) (url : PlainAddress) (sandbox : PlainSandbox) (deny : Bool) → nat_lt frame 256 ≡ true
-      → IfOk (tree.added rules parent frame url sandbox deny frames) IsNumbered
+      → IfOk (calls.added rules parent frame url sandbox deny frames) IsNumbered
   numbered_added rules parent frame url sandbox deny low = at (document_of parent frames)
     where
       fresh : PlainDocument → PlainFrame
@@ -49,17 +49,17 @@ module _ (frames : List PlainFrame) (numbered : IsNumbered frames) where
           list_all-append (λ f. nat_lt f.frame 256) frames (fresh above ∷ [])
           ∙ and_from (are_numbered frames) (nat_lt frame 256 && true) numbered (ap (λ b. b && true) low)
 
-      at : (above : Option PlainDocument) → IfOk (tree.added_below above rules parent frame url sandbox deny frames) IsNumbered
+      at : (above : Option PlainDocument) → IfOk (calls.added_below above rules parent frame url sandbox deny frames) IsNumbered
       at None = tt
       at (Some above) = by_number above (has_frame frame frames)
 
-  numbered_navigated : (rules : List Rule) (frame : ℕ) (url : PlainAddress) → IfOk (tree.navigated rules frame url false frames) IsNumbered
+  numbered_navigated : (rules : List Rule) (frame : ℕ) (url : PlainAddress) → IfOk (calls.navigated rules frame url false frames) IsNumbered
   numbered_navigated rules frame url = at (document_of frame frames)
     where
-      at : (before : Option PlainDocument) → IfOk (tree.navigated_from before rules frame url false frames) IsNumbered
+      at : (before : Option PlainDocument) → IfOk (calls.navigated_from before rules frame url false frames) IsNumbered
       at None = tt
       at (Some before) =
-          numbered_marked (λ f. f.frame == frame) (λ d. loaded_instead rules false before url) (tree.without_below frame frames)
+          numbered_marked (λ f. f.frame == frame) (λ d. loaded_instead rules false before url) (calls.without_below frame frames)
           ∙ numbered_kept (λ f. (f.frame == frame) || not (is_on_chain frame f.frame frames)) frames numbered
 
   numbered_there : (frame : ℕ) (after : List PlainFrame) → IsNumbered after → IfOk (where_there frame frames after) IsNumbered
@@ -76,28 +76,39 @@ numbered_below frame after is = at (frame == 0)
     at true = tt
     at false = is
 
-pub frames_numbered : (rules : List Rule) (now : ℕ) (action : PlainAction) (frames : List PlainFrame) → adds_number action ≡ true → IsNumbered frames
-    → IfOk (frames_after rules now action frames) IsNumbered
-frames_numbered rules now (Frame at parent url sandbox deny) frames low numbered = numbered_added frames numbered rules parent at.frame url (sandbox_of sandbox) deny low
-frames_numbered rules now (Nav at url by_self method) frames low numbered =
-    numbered_below at.frame (tree.navigated rules at.frame url false frames) (numbered_navigated frames numbered rules at.frame url)
-frames_numbered rules now (Drop at) frames low numbered =
-    numbered_below at.frame (where_there at.frame frames (tree.without at.frame frames))
-    (numbered_there frames numbered at.frame (tree.without at.frame frames) (numbered_kept (λ f. not (is_on_chain at.frame f.frame frames)) frames numbered))
-frames_numbered rules now (Click at) frames low numbered =
-    numbered_there frames numbered at.frame (tree.activated at.frame (pos now) frames)
-    (numbered_marked (λ f. tree.is_activated at.frame (tree.origin_of at.frame frames) frames f) (tree.with_mark (Some (pos now))) frames ∙ numbered)
-frames_numbered rules now action frames low numbered = numbered
-
 -- ---- what is put
 
--- an action on the frames of a tab leaves a tree under the same site
-pub tree_after : (rules : List Rule) (now : ℕ) (action : PlainAction) (frames after : List PlainFrame) → adds_number action ≡ true → IsFrameTree frames
-    → frames_after rules now action frames ≡ Ok after → IsFrameTree after × (top_site after ≡ top_site frames)
-tree_after rules now action frames after low tree is =
-    let kept = subst (λ r. IfOk r (KeepsTop frames)) is (frames_keep_top rules now action frames tree.tree) in
-    (record { tree = kept.0; numbered = subst (λ r. IfOk r IsNumbered) is (frames_numbered rules now action frames low tree.numbered) }, kept.1)
+-- frames that a call left of those of a tab
+abbrev pub Leaves : List PlainFrame → Result (List PlainFrame) TreeFault → Type 0
+Leaves frames result = IfOk result (λ after. IsFrameTree after × (top_site after ≡ top_site frames))
+
+both : (frames : List PlainFrame) (result : Result (List PlainFrame) TreeFault) → IfOk result (KeepsTop frames) → IfOk result IsNumbered → Leaves frames result
+both frames (Ok after) top numbered = (record { tree = top.0; numbered = numbered }, top.1)
+both frames (Err why) top numbered = tt
+
+module _ (frames : List PlainFrame) (tree : IsFrameTree frames) where
+  pub tree_added : (rules : List Rule) (at : Label) (parent : ℕ) (url : PlainAddress) (sandbox : Option (List ℕ)) (deny : Bool) → nat_lt at.frame 256 ≡ true → Leaves frames (frames_added rules at parent url sandbox deny frames)
+  tree_added rules at parent url sandbox deny low =
+      both frames (frames_added rules at parent url sandbox deny frames) (added_top frames tree.tree rules at parent url sandbox deny)
+      (numbered_added frames tree.numbered rules parent at.frame url (sandbox_of sandbox) deny low)
+
+  pub tree_navigated : (rules : List Rule) (at : Label) (url : PlainAddress) → Leaves frames (frames_navigated rules at url frames)
+  tree_navigated rules at url =
+      both frames (frames_navigated rules at url frames) (navigated_top frames tree.tree rules at url)
+      (numbered_below at.frame (calls.navigated rules at.frame url false frames) (numbered_navigated frames tree.numbered rules at.frame url))
+
+  pub tree_removed : (at : Label) → Leaves frames (frames_removed at frames)
+  tree_removed at =
+      both frames (frames_removed at frames) (removed_top frames tree.tree at)
+      (numbered_below at.frame (where_there at.frame frames (calls.without at.frame frames))
+      (numbered_there frames tree.numbered at.frame (calls.without at.frame frames) (numbered_kept (λ f. not (is_on_chain at.frame f.frame frames)) frames tree.numbered)))
+
+  pub tree_clicked : (now : ℕ) (at : Label) → Leaves frames (frames_clicked now at frames)
+  tree_clicked now at =
+      both frames (frames_clicked now at frames) (clicked_top frames tree.tree now at)
+      (numbered_there frames tree.numbered at.frame (calls.activated at.frame (pos now) frames)
+      (numbered_marked (λ f. calls.is_activated at.frame (calls.origin_of at.frame frames) frames f) (calls.with_mark (Some (pos now))) frames ∙ tree.numbered))
 
 -- a tab that was just opened has a tree, under the site of its address
-pub tree_opened : (rules : List Rule) (url : PlainAddress) → IsFrameTree (tree.opened rules url) × (top_site (tree.opened rules url) ≡ Some (site_of_address rules url))
+pub tree_opened : (rules : List Rule) (url : PlainAddress) → IsFrameTree (calls.opened rules url) × (top_site (calls.opened rules url) ≡ Some (site_of_address rules url))
 tree_opened rules url = let top = opened_top rules url in (record { tree = top.0; numbered = refl }, top.1)

@@ -13,16 +13,16 @@ use Rattle.frame_tree.specs.Document.{PlainDocument}
 use Rattle.frame_tree.specs.Tree.{document_of}
 use Rattle.storage_events.specs.declared.event.AreaKind.{AreaKind}
 use Rattle.storage_events.specs.declared.event.AreaKind.TheVariants.{Local, Session}
-use Rattle.storage_events.specs.Event.{EventView}
+use Rattle.storage_events.specs.Event.{PlainEvent}
 use Rattle.local_area.specs.Area.{Pair, quota, area_remove, area_weight}
-use Rattle.local_area.specs.Put.{PutView, same, added, changed}
-use Rattle.live_state.specs.Documents.{key_of_document}
+use Rattle.local_area.specs.Put.{PlainPut, same, added, changed}
+use Rattle.frame_tree.specs.Keys.{key_of_document}
 use Rattle.live_state.specs.Tabs.{PlainTab}
 use Rattle.script_lines.specs.declared.words.Prompt.{Prompt}
 use Rattle.script_lines.specs.Reply.{Plain}
 use Rattle.agent_model.specs.Partition.{SessionKey, session_order, Holdings, with_area}
-use Rattle.agent_model.specs.SiteEvent.{Done, answers}
-use Rattle.agent_model.specs.Documents.{Keyed, by_key, by_document, with_key}
+use Rattle.agent_model.specs.Done.{Done, Effect, SharedCells, answers}
+use Rattle.agent_model.specs.Documents.{Keyed, by_document, by_key, with_key}
 use Rattle.agent_model.specs.AreaActions.{pairs_of, change_event, write, set_by, remove_by}
 use Rattle.agent_model.specs.Buckets.{is_persistent, is_grant, persist_by, persist}
 use Rattle.agent_model.proofs.KeptLemmas as kept
@@ -33,7 +33,7 @@ use Rattle.agent_core.proofs.OwnedLemmas.{SameAt}
 abbrev pub keyed_by : Label → PlainDocument → PlainKey → Keyed
 keyed_by label document key = record { at = label; document = document; key = key }
 
-module _ (held : Holdings) (tab : ℕ) where
+module _ (cells : SharedCells) (held : Holdings) (tab : ℕ) where
   -- an action that was done leaves the session areas of this tab
   abbrev pub Leaves : Done → Type 0
   Leaves done = SameAt tab held done.held
@@ -69,45 +69,45 @@ module _ (held : Holdings) (tab : ℕ) where
       abbrev writer : Keyed
       writer = keyed_by label document key
 
-      pub write_leaves : (pairs : List Pair) (event : EventView) → Leaves (write kind writer pairs event held)
+      pub write_leaves : (pairs : List Pair) (event : PlainEvent) → Leaves (write kind writer pairs event cells held)
       write_leaves pairs event = area_leaves kind label.tab key pairs apart
 
-      pub set_leaves : (answer : PutView) (name value : List ℕ) (pairs : List Pair) → Leaves (set_by answer kind writer name value pairs held)
+      pub set_leaves : (answer : PlainPut) (name value : List ℕ) (pairs : List Pair) → Leaves (set_by answer kind writer name value pairs cells held)
       set_leaves answer name value pairs = by answer
         where
-          stored : (b : Bool) (event : EventView) → Leaves (cond b (answers (Plain (codes "quota")) held) (write kind writer pairs event held))
+          stored : (b : Bool) (event : PlainEvent) → Leaves (cond b (answers (Plain (codes "quota")) cells held) (write kind writer pairs event cells held))
           stored true event = λ own. refl
           stored false event = write_leaves pairs event
 
-          by : (answer : PutView) → Leaves (set_by answer kind writer name value pairs held)
+          by : (answer : PlainPut) → Leaves (set_by answer kind writer name value pairs cells held)
           by same = λ own. refl
           by added = stored (nat_lt quota (area_weight pairs)) (change_event kind writer (Some name) None (Some value))
           by (changed before) = stored (nat_lt quota (area_weight pairs)) (change_event kind writer (Some name) (Some before) (Some value))
 
-      pub remove_leaves : (found : Option (List ℕ)) (name : List ℕ) → Leaves (remove_by found kind writer name held)
+      pub remove_leaves : (found : Option (List ℕ)) (name : List ℕ) → Leaves (remove_by found kind writer name cells held)
       remove_leaves None name = λ own. refl
       remove_leaves (Some before) name = write_leaves (area_remove name (pairs_of kind writer held)) (change_event kind writer (Some name) (Some before) None)
 
-    pub with_key_leaves : (open_tab : PlainTab) (action : Keyed → Holdings → Done)
-        → ((document : PlainDocument) (key : PlainKey) → Leaves (action (keyed_by label document key) held)) → Leaves (with_key label open_tab action held)
+    pub with_key_leaves : (open_tab : PlainTab) (action : Keyed → Effect)
+        → ((document : PlainDocument) (key : PlainKey) → Leaves (action (keyed_by label document key) cells held)) → Leaves (with_key label open_tab action cells held)
     with_key_leaves open_tab action each = by_found (document_of label.frame open_tab.frames)
       where
-        by_own : (document : PlainDocument) (key : Option PlainKey) → Leaves (by_key label document key action held)
+        by_own : (document : PlainDocument) (key : Option PlainKey) → Leaves (by_key label document key action cells held)
         by_own document None = λ own. refl
         by_own document (Some key) = each document key
 
-        by_found : (document : Option PlainDocument) → Leaves (by_document label open_tab document action held)
+        by_found : (document : Option PlainDocument) → Leaves (by_document document (λ document. by_key label document (key_of_document label.frame open_tab.frames document) action) cells held)
         by_found None = λ own. refl
         by_found (Some document) = by_own document (key_of_document label.frame open_tab.frames document)
 
-  pub persist_leaves : (open_tab : PlainTab) (answer : Prompt) (asker : Keyed) → Leaves (persist open_tab answer asker held)
+  pub persist_leaves : (open_tab : PlainTab) (answer : Prompt) (asker : Keyed) → Leaves (persist open_tab answer asker cells held)
   persist_leaves open_tab answer asker = at (is_https_chain asker.at.frame open_tab.frames)
     where
-      by : (before granted : Bool) → Leaves (persist_by before granted asker held)
+      by : (before granted : Bool) → Leaves (persist_by before granted asker cells held)
       by true granted = λ own. refl
       by false true = λ own. refl
       by false false = λ own. refl
 
-      at : (b : Bool) → Leaves (cond b (persist_by (is_persistent asker.key held) (is_grant answer) asker held) (answers (Plain (codes "insecure")) held))
+      at : (b : Bool) → Leaves (cond b (persist_by (is_persistent asker.key held) (is_grant answer) asker cells held) (answers (Plain (codes "insecure")) cells held))
       at true = by (is_persistent asker.key held) (is_grant answer)
       at false = λ own. refl

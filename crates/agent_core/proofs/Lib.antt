@@ -9,20 +9,18 @@ pub mod ActLemmas
 -- Who hears of a change, and what is sent to them.
 pub mod MemberLemmas
 pub mod AudienceLemmas
-pub mod KeyLemmas
 pub mod ToldLemmas
-pub mod HearerLemmas
 -- What is held after a change of an area.
 pub mod WriteLemmas
 -- The frames of each open tab.
 pub mod TreeLemmas
 pub mod FrameLemmas
+pub mod InPlaceLemmas
 -- Session areas belong to open tabs.
 pub mod OwnedLemmas
 pub mod LeavesLemmas
 pub mod ActOwnedLemmas
 -- Each line of the agent.
-pub mod InTabLemmas
 pub mod StandingLemmas
 pub mod RunsLemmas
 pub mod OpenRunsLemmas

@@ -15,7 +15,7 @@ use Rattle.live_state.specs.Tabs.{PlainTab, tab_at, with_tab, without_tab}
 use Rattle.live_state.proofs.ListLemmas.{find-kept}
 use Rattle.agent_model.specs.Lines.{Places, no_places, site_at}
 use Rattle.agent_model.proofs.KeptLemmas.{changed_at, get_changed}
-use Rattle.agent_core.specs.Standing.{placed_by, places_in, tabs_in}
+use Rattle.agent_core.specs.AgentState.{placed_by, places_in, tabs_in}
 
 -- ---- look-ups
 

@@ -6,26 +6,28 @@ use Rattle.origin_site.specs.Site.{PlainSite, site_of_address}
 use Rattle.frame_tree.specs.Tree.{top_site}
 use Rattle.live_state.specs.Queues.{frames_by}
 use Rattle.live_state.specs.Tabs.{PlainTab, is_open, tab_at}
-use Rattle.page_storage.specs.Stored.{Entries}
+use Rattle.web_storage.specs.Stored.{Entries}
 use Rattle.script_lines.specs.declared.reply.Reply.{Reply}
 use Rattle.script_lines.specs.declared.words.Method.{Method}
 use Rattle.script_lines.specs.Plain.{reply_of}
 use Rattle.script_lines.specs.Reply.{Plain, Load}
 use Rattle.script_lines.specs.Script.{PlainAction, Open}
 use Rattle.agent_model.specs.Partition.{Holdings}
-use Rattle.agent_model.specs.Sessions.{arrive, has_session}
+use Rattle.agent_model.specs.Done.{no_shared_cells}
+use Rattle.agent_model.specs.Sessions.{has_session, show}
 use Rattle.agent_model.specs.Isolation.{printed}
 use Rattle.agent_model.specs.Lines.{Places, Starter, User, Page, opener_of, placed}
-use Rattle.agent_model.specs.Whole.{whole_world}
-use Rattle.agent_model.proofs.PlacedLemmas.{placed_by_tabs}
-use Rattle.agent_model.proofs.WorldLoadLemmas.{arrive_placed}
-use Rattle.agent_model.proofs.WorldLemmas.{told_at, told_nowhere}
-use Rattle.agent_model.proofs.WorldOpenLemmas as model
-use Rattle.agent_model.proofs.WorldOpenLemmas.{copied_at, no_opener_makes, open_makes, taken_makes}
-use Rattle.agent_core.specs.Standing.{AgentState, IsStanding, held_in, places_in, world_of}
-use Rattle.agent_core.specs.Steps.{Runs, copied_under, is_there, with_copies}
+use Rattle.one_store.specs.WholeWorld.{whole_world}
+use Rattle.one_store.proofs.PlacedLemmas.{placed_by_tabs}
+use Rattle.one_store.proofs.WorldLoadLemmas.{show_placed}
+use Rattle.one_store.proofs.WorldLemmas.{told_at, told_nowhere}
+use Rattle.one_store.specs.Store as model
+use Rattle.one_store.specs.Store.{copied_at}
+use Rattle.one_store.proofs.WorldOpenLemmas.{no_opener_makes, open_makes, taken_makes}
+use Rattle.agent_core.specs.AgentState.{AgentState, IsStanding, held_in, places_in, world_of}
+use Rattle.agent_core.specs.Lines.{Runs, copied_under, is_there, with_copies}
 use Rattle.agent_core.proofs.LiveLemmas.{site_found, site_of}
-use Rattle.agent_core.proofs.OwnedLemmas.{AreCopies, copies_by, owned_arrived}
+use Rattle.agent_core.proofs.OwnedLemmas.{AreCopies, copies_by, owned_shown}
 use Rattle.agent_core.proofs.RunsLemmas.{replaced}
 use Rattle.agent_core.proofs.StandingLemmas.{closed_is, nowhere_is, place_is, runs_done, runs_refused, stands, tab_absent, tab_there, world_is}
 
@@ -76,7 +78,7 @@ module _ (old : AgentState) (standing : IsStanding old) where
     unfolding world_of
     runs_unopened method missing reply replies =
         runs_refused (line method) old reply (told_nowhere (line method) (Plain (codes "no-tab")))
-        (no_opener_makes old.rules old.now (places_in old.tabs) (held_in old) number url opener noopener method (no_starter opener missing)) replies
+        (no_opener_makes old.rules old.now (places_in old.tabs) no_shared_cells (held_in old) number url opener noopener method (no_starter opener missing)) replies
 
     pub runs_taken : (method : Method) → is_there opener old.tabs ≡ true → is_open number old.tabs ≡ true
         → (reply : Reply) → reply_of reply ≡ printed (told_nowhere (line method) (Plain (codes "tab-exists"))) → Runs (line method) old old (Ok reply)
@@ -86,12 +88,12 @@ module _ (old : AgentState) (standing : IsStanding old) where
         let tab = tab_there number old.tabs taken in
         let place = place_is old number standing tab.0 tab.1 in
         runs_refused (line method) old reply (told_nowhere (line method) (Plain (codes "tab-exists")))
-        (taken_makes old.rules old.now (places_in old.tabs) (held_in old) number url opener noopener method starter.0 place.0 starter.1 place.1) replies
+        (taken_makes old.rules old.now (places_in old.tabs) no_shared_cells (held_in old) number url opener noopener method starter.0 place.0 starter.1 place.1) replies
 
     -- ---- a tab is opened
 
     module _ (tabs : List PlainTab) (entries : Entries) (there : places_in tabs ≡ placed number (site_of_address old.rules url) (places_in old.tabs))
-        (has : held_in (replaced old tabs entries) ≡ (arrive old.rules number url (with_copies (copied_from noopener opener) number old.tabs (held_in old))).held) where
+        (has : held_in (replaced old tabs entries) ≡ (show old.rules number url (with_copies (copied_from noopener opener) number old.tabs (held_in old)))) where
       -- what is held when the tab arrives
       abbrev copied : Holdings
       copied = model.with_copies (places_in old.tabs) number opener noopener (held_in old)
@@ -99,14 +101,14 @@ module _ (old : AgentState) (standing : IsStanding old) where
       abbrev to : Places
       to = placed number (site_of_address old.rules url) (places_in old.tabs)
 
-      arrived : held_in (replaced old tabs entries) ≡ (arrive old.rules number url copied).held
-      arrived = has ∙ ap (λ held. (arrive old.rules number url held).held) (same_copies opener noopener number old.tabs (held_in old))
+      arrived : held_in (replaced old tabs entries) ≡ (show old.rules number url copied)
+      arrived = has ∙ ap (λ held. (show old.rules number url held)) (same_copies opener noopener number old.tabs (held_in old))
 
       pub standing_opened : IsStanding (replaced old tabs entries)
       standing_opened =
-          stands (replaced old tabs entries) to (arrive old.rules number url copied).held there arrived standing.in_time
-          (arrive_placed old.rules (places_in old.tabs) number url copied (placed_by_tabs (places_in old.tabs) (held_in old) copied copies.tabs standing.placed_all))
-          (owned_arrived old.rules number url (held_in old) copied standing.owned copies)
+          stands (replaced old tabs entries) to (show old.rules number url copied) there arrived standing.in_time
+          (show_placed old.rules (places_in old.tabs) number url copied (placed_by_tabs (places_in old.tabs) (held_in old) copied copies.tabs standing.placed_all))
+          (owned_shown old.rules number url (held_in old) copied standing.owned copies)
         where
           copies : AreCopies number (held_in old) copied
           copies = copies_by (places_in old.tabs) number opener noopener (held_in old)
@@ -116,7 +118,7 @@ module _ (old : AgentState) (standing : IsStanding old) where
       unfolding world_of
       runs_opened method opener_there free reply replies =
           let starter = starter_is opener opener_there in
-          runs_done (line method) old (replaced old tabs entries) refl reply (whole_world old.now to (arrive old.rules number url copied).held)
+          runs_done (line method) old (replaced old tabs entries) refl reply (whole_world old.now to no_shared_cells (show old.rules number url copied))
           (told_at (site_of_address old.rules url) (line method) (Load None []))
-          (open_makes old.rules old.now (places_in old.tabs) (held_in old) number url opener noopener method starter.0 starter.1 (nowhere_is number old.tabs free))
-          (world_is (replaced old tabs entries) to (arrive old.rules number url copied).held there arrived) replies
+          (open_makes old.rules old.now (places_in old.tabs) no_shared_cells (held_in old) number url opener noopener method starter.0 starter.1 (nowhere_is number old.tabs free))
+          (world_is (replaced old tabs entries) to (show old.rules number url copied) there arrived) replies

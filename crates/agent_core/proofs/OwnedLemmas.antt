@@ -13,17 +13,16 @@ use Rattle.origin_site.specs.Site.{PlainSite}
 use Rattle.storage_key.specs.Key.{PlainKey}
 use Rattle.frame_tree.specs.Calls.{opened}
 use Rattle.live_state.specs.Tabs.{PlainTab, made_tab}
-use Rattle.page_storage.proofs.CloseLemmas.{none_after}
-use Rattle.agent_model.specs.Partition.{SessionKey, session_order, Holdings, no_holdings, tab_named}
-use Rattle.agent_model.specs.Buckets.{evict}
-use Rattle.agent_model.specs.Sessions.{arrive, close, has_session, is_of_tab}
-use Rattle.agent_model.specs.HeldAt.{is_under}
+use Rattle.web_storage.proofs.CloseLemmas.{none_after}
+use Rattle.agent_model.specs.Partition.{SessionKey, session_order, Holdings, no_holdings, is_under, tab_named}
+use Rattle.agent_model.specs.Buckets.{without_evicted}
+use Rattle.agent_model.specs.Sessions.{close, show, has_session, is_of_tab}
 use Rattle.agent_model.proofs.KeptLemmas as kept
 use Rattle.agent_model.proofs.HoldingsLemmas.{session_order_total, session_order_same}
 use Rattle.agent_model.proofs.SessionLemmas.{get_copied}
-use Rattle.agent_model.proofs.WorldOpenLemmas.{copied_at, with_copies}
+use Rattle.one_store.specs.Store.{copied_at, with_copies}
 use Rattle.agent_model.specs.Lines.{Places, site_at}
-use Rattle.agent_core.specs.Standing.{AreOwned}
+use Rattle.agent_core.specs.AgentState.{AreOwned}
 
 -- ---- one tab
 
@@ -68,7 +67,7 @@ unfolding no_holdings
 owned_nothing = owned_by no_holdings (λ tab none key. get-empty session_order (tab, key))
 
 -- an eviction
-pub owned_evicted : (site : PlainSite) (held : Holdings) → AreOwned held → AreOwned (evict site held).held
+pub owned_evicted : (site : PlainSite) (held : Holdings) → AreOwned held → AreOwned (without_evicted site held)
 owned_evicted site held owned = owned
 
 -- ---- closings
@@ -117,14 +116,14 @@ copies_by places to (Some from) true held = no_copies to held
 copies_by places to None noopener held = no_copies to held
 
 -- a tab is opened, or goes to an address, after copies for it
-pub owned_arrived : (rules : List Rule) (number : ℕ) (url : PlainAddress) (held before : Holdings) → AreOwned held → AreCopies number held before → AreOwned (arrive rules number url before).held
-owned_arrived rules number url held before owned copies = owned_by (arrive rules number url before).held have
+pub owned_shown : (rules : List Rule) (number : ℕ) (url : PlainAddress) (held before : Holdings) → AreOwned held → AreCopies number held before → AreOwned (show rules number url before)
+owned_shown rules number url held before owned copies = owned_by (show rules number url before) have
   where
     at : (made : PlainTab) (tab : ℕ) (key : PlainKey) (b : Bool) → (tab == number) ≡ b → cond b (Some made) (tab_named tab before) ≡ None → get before.sessions (tab, key) ≡ None
     at made tab key true is none = cc
     at made tab key false apart none = copies.others tab apart key ∙ open_have held owned tab (ap (λ tabs. get tabs tab) (sym copies.tabs) ∙ none) key
 
-    have : OpenHave (arrive rules number url before).held
+    have : OpenHave (show rules number url before)
     have tab none key =
         let made : PlainTab = made_tab number (opened rules url) None None in
         at made tab key (tab == number) refl

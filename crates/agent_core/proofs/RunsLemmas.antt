@@ -1,36 +1,36 @@
 -- What a line makes of the agent: what it keeps afterwards, and that the line was run.
-use Rattle.std.proofs.Common.{◌≡◌, ℕ, Bool, true, List, [], Some, None, Ok, Err, refl}
+use Rattle.std.proofs.Common.{◌≡◌, ℕ, Bool, List, [], Some, None, Ok, Err, refl, sym, ap, subst, ◌∙◌}
 use Rattle.std.specs.Prelude.{Result, pos}
 use Rattle.std.specs.Result.{IsErr}
 use Rattle.std.specs.FinMap as finite
+use Rattle.agent_base.specs.declared.refusals.Label.{Label}
 use Rattle.agent_base.specs.declared.refusals.NoMemory.{NoMemory}
 use Rattle.origin_site.specs.Address.{PlainAddress}
 use Rattle.origin_site.specs.Site.{PlainSite, site_of_address}
 use Rattle.live_state.specs.Tabs.{PlainTab, tab_at}
-use Rattle.page_storage.specs.Stored.{Entries}
+use Rattle.web_storage.specs.Stored.{Entries}
 use Rattle.script_lines.specs.declared.reply.Reply.{Reply}
 use Rattle.script_lines.specs.declared.words.Method.{Method}
 use Rattle.script_lines.specs.Plain.{reply_of}
-use Rattle.script_lines.specs.Reply.{Load, Now}
-use Rattle.script_lines.specs.Script.{PlainAction, Tick, Close, Go, Evict}
+use Rattle.script_lines.specs.Reply.{Cleared, Load, Now}
+use Rattle.script_lines.specs.Script.{PlainAction, DocumentAction, Tick, Close, Go, Evict, Act}
 use Rattle.agent_model.specs.Partition.{Holdings}
-use Rattle.agent_model.specs.SiteEvent.{Done, ok}
-use Rattle.agent_model.specs.Buckets.{evict}
-use Rattle.agent_model.specs.Sessions.{arrive, close}
-use Rattle.agent_model.specs.SiteStep.{act_in, tab_of}
+use Rattle.agent_model.specs.Done.{Done, no_shared_cells, ok}
+use Rattle.agent_model.specs.Buckets.{evicted_count, without_evicted}
+use Rattle.agent_model.specs.Sessions.{close, show}
+use Rattle.agent_model.specs.SiteStep.{act_in}
 use Rattle.agent_model.specs.Isolation.{printed}
 use Rattle.agent_model.specs.Lines.{Places, placed, site_at}
 use Rattle.agent_model.specs.Rest.{clock_after}
-use Rattle.agent_model.specs.Whole.{whole_world}
-use Rattle.agent_model.proofs.ActLemmas.{acts}
-use Rattle.agent_model.proofs.ActPlacedLemmas.{act_placed}
-use Rattle.agent_model.proofs.WorldLemmas.{told_at, told_nowhere}
-use Rattle.agent_model.proofs.WorldActLemmas.{act_makes}
-use Rattle.agent_model.proofs.WorldCloseLemmas.{close_makes, close_placed, evict_makes, evict_placed, tick_makes}
-use Rattle.agent_model.proofs.WorldLoadLemmas.{go_makes, arrive_placed}
-use Rattle.agent_core.specs.Standing.{AgentState, IsStanding, held_in, places_in, world_of}
-use Rattle.agent_core.specs.Steps.{Runs}
-use Rattle.agent_core.proofs.OwnedLemmas.{no_copies, owned_arrived, owned_closed, owned_evicted}
+use Rattle.one_store.specs.WholeWorld.{whole_world}
+use Rattle.one_store.proofs.ActPlacedLemmas.{act_placed}
+use Rattle.one_store.proofs.WorldLemmas.{told_at, told_nowhere}
+use Rattle.one_store.proofs.WorldActLemmas.{act_makes}
+use Rattle.one_store.proofs.WorldCloseLemmas.{close_makes, close_placed, evict_makes, evict_placed, tick_makes}
+use Rattle.one_store.proofs.WorldLoadLemmas.{go_makes, show_placed}
+use Rattle.agent_core.specs.AgentState.{AgentState, IsStanding, held_in, places_in, world_of}
+use Rattle.agent_core.specs.Lines.{Runs}
+use Rattle.agent_core.proofs.OwnedLemmas.{no_copies, owned_shown, owned_closed, owned_evicted}
 use Rattle.agent_core.proofs.ActOwnedLemmas.{owned_acted}
 use Rattle.agent_core.proofs.StandingLemmas.{open_is, place_is, runs_done, runs_wanting, stands, world_is}
 
@@ -62,23 +62,25 @@ module _ (old : AgentState) (standing : IsStanding old) (tabs : List PlainTab) (
 
   -- ---- an action in an open tab
 
-  module _ (action : PlainAction) (tab : PlainTab) (found : tab_at (tab_of action) old.tabs ≡ Some tab) where
+  module _ (at : Label) (action : DocumentAction) (tab : PlainTab) (found : tab_at at.tab old.tabs ≡ Some tab) where
     abbrev done : Done
-    done = act_in old.rules old.now action tab before
+    done = act_in old.rules old.now at action tab no_shared_cells before
 
     module _ (there : places_in tabs ≡ places) (has : held_in new ≡ done.held) where
       pub standing_acted : IsStanding new
       standing_acted =
-          let open_tab = open_is old (tab_of action) tab found in
-          stands new places done.held there has standing.in_time (act_placed places before standing.placed_all old.rules old.now action tab open_tab)
-          (owned_acted old.rules old.now places before standing.placed_all standing.owned action tab open_tab)
+          let open_tab = open_is old at.tab tab found in
+          stands new places done.held there has standing.in_time (act_placed places no_shared_cells before standing.placed_all at tab open_tab old.rules old.now action)
+          (owned_acted old.rules old.now places no_shared_cells before standing.placed_all standing.owned at action tab open_tab)
 
-      pub runs_acted : acts action ≡ true → (site : PlainSite) → site_at (tab_of action) places ≡ Some site → (reply : Reply) → reply_of reply ≡ printed (told_at site action done.body) → Runs action old new (Ok reply)
+      pub runs_acted : (line : PlainAction) → line ≡ Act at action → (site : PlainSite) → site_at at.tab places ≡ Some site
+          → (reply : Reply) → reply_of reply ≡ printed (told_at site line done.body) → Runs line old new (Ok reply)
       unfolding world_of
-      runs_acted is site place reply replies =
-          runs_done action old new refl reply (whole_world old.now places done.held) (told_at site action done.body)
-          (act_makes old.rules old.now places before standing.placed_all action is tab (open_is old (tab_of action) tab found) site place)
-          (world_is new places done.held there has) replies
+      runs_acted line is site place reply replies =
+          subst (λ line. Runs line old new (Ok reply)) (sym is)
+          (runs_done (Act at action) old new refl reply (whole_world old.now places done.cells done.held) (told_at site (Act at action) done.body)
+          (act_makes old.rules old.now places no_shared_cells before standing.placed_all at action tab (open_is old at.tab tab found) site place)
+          (world_is new places done.held there has) (replies ∙ ap (λ line. printed (told_at site line done.body)) is))
 
   -- ---- a closing
 
@@ -92,19 +94,19 @@ module _ (old : AgentState) (standing : IsStanding old) (tabs : List PlainTab) (
         → (reply : Reply) → reply_of reply ≡ printed (told_at site (Close number) ok) → Runs (Close number) old new (Ok reply)
     unfolding world_of
     runs_closed site place reply replies =
-        runs_done (Close number) old new refl reply (whole_world old.now (finite.remove places number) (close number before)) (told_at site (Close number) ok)
-        (close_makes places before standing.placed_all number old.rules old.now site place)
+        runs_done (Close number) old new refl reply (whole_world old.now (finite.remove places number) no_shared_cells (close number before)) (told_at site (Close number) ok)
+        (close_makes places before standing.placed_all number old.rules old.now no_shared_cells site place)
         (world_is new (finite.remove places number) (close number before) there has) replies
 
   -- ---- a tab goes to an address
 
   module _ (number : ℕ) (url : PlainAddress) (there : places_in tabs ≡ placed number (site_of_address old.rules url) places)
-      (has : held_in new ≡ (arrive old.rules number url before).held) where
+      (has : held_in new ≡ (show old.rules number url before)) where
     pub standing_gone : IsStanding new
     standing_gone =
-        stands new (placed number (site_of_address old.rules url) places) (arrive old.rules number url before).held there has standing.in_time
-        (arrive_placed old.rules places number url before standing.placed_all)
-        (owned_arrived old.rules number url before before standing.owned (no_copies number before))
+        stands new (placed number (site_of_address old.rules url) places) (show old.rules number url before) there has standing.in_time
+        (show_placed old.rules places number url before standing.placed_all)
+        (owned_shown old.rules number url before before standing.owned (no_copies number before))
 
     pub runs_gone : (by_page : Bool) (method : Method) (tab : PlainTab) → tab_at number old.tabs ≡ Some tab
         → (reply : Reply) → reply_of reply ≡ printed (told_at (site_of_address old.rules url) (Go number url by_page method) (Load None [])) → Runs (Go number url by_page method) old new (Ok reply)
@@ -112,24 +114,24 @@ module _ (old : AgentState) (standing : IsStanding old) (tabs : List PlainTab) (
     runs_gone by_page method tab found reply replies =
         let target = site_of_address old.rules url in
         let place = place_is old number standing tab found in
-        runs_done (Go number url by_page method) old new refl reply (whole_world old.now (placed number target places) (arrive old.rules number url before).held)
-        (told_at target (Go number url by_page method) (Load None [])) (go_makes old.rules old.now places before number url by_page method place.0 place.1)
-        (world_is new (placed number target places) (arrive old.rules number url before).held there has) replies
+        runs_done (Go number url by_page method) old new refl reply (whole_world old.now (placed number target places) no_shared_cells (show old.rules number url before))
+        (told_at target (Go number url by_page method) (Load None [])) (go_makes old.rules old.now places no_shared_cells before number url by_page method place.0 place.1)
+        (world_is new (placed number target places) (show old.rules number url before) there has) replies
 
   -- ---- an eviction
 
-  module _ (site : PlainSite) (there : places_in tabs ≡ places) (has : held_in new ≡ (evict site before).held) where
+  module _ (site : PlainSite) (there : places_in tabs ≡ places) (has : held_in new ≡ (without_evicted site before)) where
     pub standing_evicted : IsStanding new
     standing_evicted =
-        stands new places (evict site before).held there has standing.in_time
-        (evict_placed old.rules old.now places before standing.placed_all site) (owned_evicted site before standing.owned)
+        stands new places (without_evicted site before) there has standing.in_time
+        (evict_placed old.rules old.now places no_shared_cells before standing.placed_all site) (owned_evicted site before standing.owned)
 
-    pub runs_evicted : (reply : Reply) → reply_of reply ≡ printed (told_at site (Evict site) (evict site before).body) → Runs (Evict site) old new (Ok reply)
+    pub runs_evicted : (reply : Reply) → reply_of reply ≡ printed (told_at site (Evict site) (Cleared (evicted_count site before))) → Runs (Evict site) old new (Ok reply)
     unfolding world_of
     runs_evicted reply replies =
-        runs_done (Evict site) old new refl reply (whole_world old.now places (evict site before).held)
-        (told_at site (Evict site) (evict site before).body) (evict_makes old.rules old.now places before site)
-        (world_is new places (evict site before).held there has) replies
+        runs_done (Evict site) old new refl reply (whole_world old.now places no_shared_cells (without_evicted site before))
+        (told_at site (Evict site) (Cleared (evicted_count site before))) (evict_makes old.rules old.now places no_shared_cells before site)
+        (world_is new places (without_evicted site before) there has) replies
 
 -- ---- a tick
 
@@ -141,4 +143,4 @@ module _ (old : AgentState) (s : ℕ) where
   unfolding world_of
   runs_ticked reply replies =
       runs_done (Tick s) old ticked refl reply (world_of ticked) (told_nowhere (Tick s) (Now (pos (clock_after old.now s))))
-      (tick_makes old.rules old.now (places_in old.tabs) (held_in old) s) refl replies
+      (tick_makes old.rules old.now (places_in old.tabs) no_shared_cells (held_in old) s) refl replies

@@ -5,23 +5,24 @@ use Rattle.unwinding.specs.World.{SiteReply}
 use Rattle.agent_base.specs.declared.refusals.NoMemory.{NoMemory}
 use Rattle.origin_site.specs.Site.{PlainSite}
 use Rattle.live_state.specs.Tabs.{PlainTab, is_open, tab_at}
-use Rattle.page_storage.specs.Stored.{held_with}
+use Rattle.web_storage.specs.Stored.{held_with}
 use Rattle.script_lines.specs.declared.reply.Reply.{Reply}
 use Rattle.script_lines.specs.Plain.{reply_of}
 use Rattle.script_lines.specs.Reply.{PlainBody, Plain}
-use Rattle.script_lines.specs.Script.{PlainAction}
+use Rattle.script_lines.specs.Script.{PlainAction, Tick, Open, Close, Go, Evict, Act}
 use Rattle.agent_model.specs.Partition.{Holdings, tab_named}
+use Rattle.agent_model.specs.Done.{no_shared_cells}
 use Rattle.agent_model.specs.SiteEvent.{Answer}
-use Rattle.agent_model.specs.SiteStep.{action_name, tab_of}
+use Rattle.agent_model.specs.ActionNames.{action_name}
 use Rattle.agent_model.specs.Isolation.{printed}
 use Rattle.agent_model.specs.Lines.{AgentWorld, Places, site_at}
 use Rattle.agent_model.specs.Rest.{last_moment}
-use Rattle.agent_model.specs.Whole.{IsPlaced, whole_world}
-use Rattle.agent_model.proofs.PlacedLemmas.{open_tab, site_of_tab}
-use Rattle.agent_model.proofs.WorldLemmas.{LineMakes, told_at, told_nowhere}
-use Rattle.agent_model.proofs.WorldActLemmas.{no_tab_makes, wants_tab}
-use Rattle.agent_core.specs.Standing.{AgentState, AreOwned, IsStanding, held_in, places_in, world_of}
-use Rattle.agent_core.specs.Steps.{Runs}
+use Rattle.one_store.specs.WholeWorld.{IsPlaced, whole_world}
+use Rattle.one_store.proofs.PlacedLemmas.{open_tab, site_of_tab}
+use Rattle.one_store.proofs.WorldLemmas.{LineMakes, told_at, told_nowhere}
+use Rattle.one_store.proofs.WorldActLemmas.{no_tab_acts, no_tab_closes, no_tab_goes}
+use Rattle.agent_core.specs.AgentState.{AgentState, AreOwned, IsStanding, held_in, places_in, world_of}
+use Rattle.agent_core.specs.Lines.{Runs}
 use Rattle.agent_core.proofs.LiveLemmas.{site_found, site_of, tab_found}
 
 -- ---- what it holds, told otherwise
@@ -37,9 +38,9 @@ module _ (state : AgentState) (places : Places) (held : Holdings) (there : place
       }
 
   -- and its world
-  pub world_is : world_of state ≡ whole_world state.now places held
+  pub world_is : world_of state ≡ whole_world state.now places no_shared_cells held
   unfolding world_of
-  world_is = λ i. whole_world state.now (there i) (has i)
+  world_is = λ i. whole_world state.now (there i) no_shared_cells (has i)
 
 -- ---- the tabs
 
@@ -110,16 +111,33 @@ module _ (action : PlainAction) (old new : AgentState) (rules : new.rules ≡ ol
   pub runs_wanting : (wanting : NoMemory) → world_of new ≡ world_of old → Runs action old new (Err wanting)
   runs_wanting wanting world = record { reply = tt; world = tt; rules = rules; unchanged = world }
 
--- the line was refused, and all stays
+-- ---- the line was refused, and all stays
+
+-- a line needs a tab that is nowhere
+abbrev pub NeedsTab : PlainAction → Places → Type 0
+NeedsTab (Tick s) places = ⊥
+NeedsTab (Open tab url opener noopener method) places = ⊥
+NeedsTab (Close tab) places = site_at tab places ≡ None
+NeedsTab (Go tab url by_page method) places = site_at tab places ≡ None
+NeedsTab (Evict site) places = ⊥
+NeedsTab (Act at action) places = site_at at.tab places ≡ None
+
+no_tab_makes : (state : AgentState) (action : PlainAction) → NeedsTab action (places_in state.tabs)
+    → LineMakes state.rules (world_of state) action (world_of state) (told_nowhere action (Plain (codes "no-tab")))
+unfolding world_of
+no_tab_makes state (Tick s) needs = absurd needs
+no_tab_makes state (Open tab url opener noopener method) needs = absurd needs
+no_tab_makes state (Close tab) needs = no_tab_closes state.rules state.now (places_in state.tabs) no_shared_cells (held_in state) tab needs
+no_tab_makes state (Go tab url by_page method) needs = no_tab_goes state.rules state.now (places_in state.tabs) no_shared_cells (held_in state) tab url by_page method needs
+no_tab_makes state (Evict site) needs = absurd needs
+no_tab_makes state (Act at action) needs = no_tab_acts state.rules state.now (places_in state.tabs) no_shared_cells (held_in state) at action needs
+
 module _ (action : PlainAction) (state : AgentState) where
   pub runs_refused : (reply : Reply) (told : SiteReply PlainSite Answer) → LineMakes state.rules (world_of state) action (world_of state) told
       → reply_of reply ≡ printed told → Runs action state state (Ok reply)
   runs_refused reply told makes is = runs_done action state state refl reply (world_of state) told makes refl is
 
   -- as no tab of its number is open
-  pub runs_without_tab : (reply : Reply) → wants_tab action ≡ true → site_at (tab_of action) (places_in state.tabs) ≡ None
+  pub runs_without_tab : (reply : Reply) → NeedsTab action (places_in state.tabs)
       → reply_of reply ≡ printed (told_nowhere action (Plain (codes "no-tab"))) → Runs action state state (Ok reply)
-  unfolding world_of
-  runs_without_tab reply wants none is =
-      runs_refused reply (told_nowhere action (Plain (codes "no-tab")))
-      (no_tab_makes state.rules state.now (places_in state.tabs) (held_in state) action wants none) is
+  runs_without_tab reply needs is = runs_refused reply (told_nowhere action (Plain (codes "no-tab"))) (no_tab_makes state action needs) is

@@ -7,17 +7,17 @@ use Rattle.std.specs.Ordering.{nat_cmp}
 use Rattle.std.specs.FinMap.{insert, nat_cmp-IsAntisymmetric, remove}
 use Rattle.agent_base.specs.declared.refusals.Label.{Label}
 use Rattle.origin_site.specs.Site.{PlainSite}
-use Rattle.storage_events.specs.Event.{EventView}
+use Rattle.storage_events.specs.Event.{PlainEvent}
 use Rattle.frame_tree.specs.Tree.{PlainFrame, top_site}
 use Rattle.frame_tree.proofs.ShapeLemmas.{flip_apart}
-use Rattle.live_state.specs.Tabs.{PlainQueue, PlainTab, empty_queue, made_tab, tab_at, tabs_put, with_tab, without_tab}
+use Rattle.live_state.specs.Tabs.{PlainFrameQueue, PlainTab, empty_queue, made_tab, tab_at, tabs_put, with_tab, without_tab}
 use Rattle.live_state.specs.Queues.{event_for, queue_told, sent, taken, with_queues}
 use Rattle.live_state.proofs.LabelLemmas.{after_take, taken-here, taken-others}
 use Rattle.live_state.proofs.ListLemmas.{find-map, map-agree}
 use Rattle.agent_model.specs.Lines.{placed, site_at}
 use Rattle.agent_model.specs.Queues.{with_taken}
 use Rattle.agent_model.proofs.KeptLemmas.{unchanged}
-use Rattle.agent_core.specs.Standing.{placed_by, places_in, tabs_in}
+use Rattle.agent_core.specs.AgentState.{placed_by, places_in, tabs_in}
 use Rattle.agent_core.proofs.LiveLemmas.{ChangesAt, number_found, placed_changed, places_changed, put_changes, site_found, site_of, tabs_changed, without_changes}
 
 -- ---- a tab is put, or closed
@@ -59,11 +59,11 @@ places_after_close number tabs = places_changed number None tabs (without_tab nu
 -- ---- queues
 
 -- a change of queues leaves the places
-places_keep : (change : Label → PlainQueue → PlainQueue) (tabs : List PlainTab) → places_in (map (with_queues change) tabs) ≡ places_in tabs
+places_keep : (change : Label → PlainFrameQueue → PlainFrameQueue) (tabs : List PlainTab) → places_in (map (with_queues change) tabs) ≡ places_in tabs
 places_keep change [] = refl
 places_keep change (tab ∷ tabs) = ap (placed_by tab.number (top_site tab.frames)) (places_keep change tabs)
 
-pub places_after_send : (events : List (Label × EventView)) (tabs : List PlainTab) → places_in (sent events tabs) ≡ places_in tabs
+pub places_after_send : (events : List (Label × PlainEvent)) (tabs : List PlainTab) → places_in (sent events tabs) ≡ places_in tabs
 places_after_send events tabs = places_keep (λ label queue. queue_told (event_for label events) queue) tabs
 
 -- ---- events are taken
@@ -72,13 +72,13 @@ pub places_after_take : (label : Label) (tabs : List PlainTab) → places_in (ta
 places_after_take label tabs = places_keep (after_take label) tabs
 
 -- the emptied queue of a frame, by the frame's number
-queues_taken : (frame : ℕ) (queues : List PlainQueue)
+queues_taken : (frame : ℕ) (queues : List PlainFrameQueue)
     → map (λ q. if q.frame == frame then empty_queue q.frame else q) queues ≡ map (λ q. if q.frame == frame then empty_queue frame else q) queues
 queues_taken frame queues =
     map-agree (λ q. if q.frame == frame then empty_queue q.frame else q) (λ q. if q.frame == frame then empty_queue frame else q) queues
     (λ q. at q (q.frame == frame) refl)
   where
-    at : (q : PlainQueue) (b : Bool) → (q.frame == frame) ≡ b → (if b then empty_queue q.frame else q) ≡ (if b then empty_queue frame else q)
+    at : (q : PlainFrameQueue) (b : Bool) → (q.frame == frame) ≡ b → (if b then empty_queue q.frame else q) ≡ (if b then empty_queue frame else q)
     at q true is = ap empty_queue ((Decides-eqb q.frame frame).0 is)
     at q false apart = refl
 

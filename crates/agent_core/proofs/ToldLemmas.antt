@@ -10,22 +10,23 @@ use Rattle.std.specs.FinMap.{nat_cmp-IsAntisymmetric, same_map}
 use Rattle.agent_base.specs.declared.refusals.Label.{Label}
 use Rattle.storage_events.specs.declared.event.AreaKind.{AreaKind}
 use Rattle.storage_events.specs.Audience.{same_label}
-use Rattle.storage_events.specs.Event.{EventView}
+use Rattle.storage_events.specs.Event.{PlainEvent}
 use Rattle.storage_events.specs.declared.event.Event.{Event}
-use Rattle.live_state.specs.Tabs.{PlainQueue, PlainTab, is_rising, tab_at}
+use Rattle.live_state.specs.Tabs.{PlainFrameQueue, PlainTab, is_rising, tab_at}
 use Rattle.live_state.specs.Queues.{plain_sent, event_for, label_of, queue_told, sent, with_queues}
 use Rattle.live_state.proofs.ListLemmas.{find-map}
 use Rattle.agent_model.specs.Documents.{Keyed, hears_at, told, told_queue, told_tab}
 use Rattle.agent_model.proofs.KeptLemmas.{get_mapped}
-use Rattle.agent_core.specs.Standing.{tabs_in}
-use Rattle.agent_core.specs.Kept.{AreTrees}
-use Rattle.agent_core.specs.Parts.{each_told, hearers}
+use Rattle.agent_core.specs.AgentState.{tabs_in}
+use Rattle.agent_core.specs.FrameTrees.{AreTrees}
+use Rattle.agent_core.specs.Documents.{each_told}
+use Rattle.live_state.specs.Hearers.{hearers}
 use Rattle.agent_core.proofs.LiveLemmas.{number_found, tab_found}
 use Rattle.agent_core.proofs.MemberLemmas.{passes}
 use Rattle.agent_core.proofs.AudienceLemmas.{in_audience}
 
 -- a document that is among them has the event
-event_sent : (label : Label) (event : EventView) (to : List Label)
+event_sent : (label : Label) (event : PlainEvent) (to : List Label)
     → event_for label (each_told event to) ≡ cond (list_any (λ l. same_label l label) to) (Some event) None
 event_sent label event [] = refl
 event_sent label event (l ∷ to) = at (same_label l label) (event_sent label event to)
@@ -37,20 +38,20 @@ event_sent label event (l ∷ to) = at (same_label l label) (event_sent label ev
     at false later = later
 
 -- events of the program that are such ones are for these documents
-pub labels_sent : (event : EventView) (to : List Label) (events : List (Label × Event)) → map plain_sent events ≡ each_told event to → map (λ e. e.0) events ≡ to
+pub labels_sent : (event : PlainEvent) (to : List Label) (events : List (Label × Event)) → map plain_sent events ≡ each_told event to → map (λ e. e.0) events ≡ to
 labels_sent event to events is =
     sym (map-map (λ e. e.0) plain_sent events) ∙ ap (map (λ e. e.0)) is ∙ map-map (λ e. e.0) (λ label. (label, event)) to ∙ map-id to
 
-module _ (kind : AreaKind) (writer : Keyed) (event : EventView) (tabs : List PlainTab) (rising : is_rising tabs ≡ true) (trees : AreTrees tabs) where
+module _ (kind : AreaKind) (writer : Keyed) (event : PlainEvent) (tabs : List PlainTab) (rising : is_rising tabs ≡ true) (trees : AreTrees tabs) where
   -- the documents that hear
   abbrev to : List Label
   to = hearers kind writer.at writer.key tabs
 
-  abbrev change : Label → PlainQueue → PlainQueue
+  abbrev change : Label → PlainFrameQueue → PlainFrameQueue
   change label queue = queue_told (event_for label (each_told event to)) queue
 
   module _ (tab : PlainTab) (is : tab_at tab.number tabs ≡ Some tab) where
-    queue_sent : (queue : PlainQueue) → change (label_of tab queue) queue ≡ told_queue kind writer event tab.number tab queue
+    queue_sent : (queue : PlainFrameQueue) → change (label_of tab queue) queue ≡ told_queue kind writer event tab.number tab queue
     queue_sent queue =
         ap (λ event. queue_told event queue) (event_sent (label_of tab queue) event to
         ∙ ap (λ b. cond b (Some event) None) (in_audience kind writer (label_of tab queue) tabs rising trees
@@ -61,7 +62,7 @@ module _ (kind : AreaKind) (writer : Keyed) (event : EventView) (tabs : List Pla
         at true = refl
         at false = refl
 
-    queues_sent : (queues : List PlainQueue) → map (λ queue. change (label_of tab queue) queue) queues ≡ map (told_queue kind writer event tab.number tab) queues
+    queues_sent : (queues : List PlainFrameQueue) → map (λ queue. change (label_of tab queue) queue) queues ≡ map (told_queue kind writer event tab.number tab) queues
     queues_sent [] = refl
     queues_sent (queue ∷ queues) = λ i. queue_sent queue i ∷ queues_sent queues i
 

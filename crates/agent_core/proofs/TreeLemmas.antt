@@ -3,12 +3,12 @@ use Rattle.std.proofs.Common.{◌==◌, ℕ, Bool, true, false, cond, List, map,
 use Rattle.std.specs.Prelude.{option_map}
 use Rattle.agent_base.specs.declared.refusals.Label.{Label}
 use Rattle.frame_tree.specs.Tree.{PlainFrame}
-use Rattle.storage_events.specs.Event.{EventView}
-use Rattle.live_state.specs.Tabs.{PlainQueue, PlainTab, made_tab, tab_at, tabs_put, with_tab, without_tab}
+use Rattle.storage_events.specs.Event.{PlainEvent}
+use Rattle.live_state.specs.Tabs.{PlainFrameQueue, PlainTab, made_tab, tab_at, tabs_put, with_tab, without_tab}
 use Rattle.live_state.specs.Queues.{event_for, queue_told, sent, taken, with_queues}
 use Rattle.live_state.proofs.LabelLemmas.{after_take}
 use Rattle.live_state.proofs.ListLemmas.{find-map}
-use Rattle.agent_core.specs.Kept.{AreTrees, IsFrameTree, IsFrameTreeAt}
+use Rattle.agent_core.specs.FrameTrees.{AreTrees, IsFrameTree, IsFrameTreeAt}
 use Rattle.agent_core.proofs.LiveLemmas.{ChangesAt, put_changes, without_changes}
 
 -- a change at one number
@@ -28,14 +28,14 @@ pub trees_after_close : (number : ℕ) (tabs : List PlainTab) → AreTrees tabs 
 trees_after_close number tabs trees = trees_changed number None tabs (without_tab number tabs) (without_changes number tabs) tt trees
 
 -- a change of queues
-trees_after_queues : (change : Label → PlainQueue → PlainQueue) (tabs : List PlainTab) → AreTrees tabs → AreTrees (map (with_queues change) tabs)
+trees_after_queues : (change : Label → PlainFrameQueue → PlainFrameQueue) (tabs : List PlainTab) → AreTrees tabs → AreTrees (map (with_queues change) tabs)
 trees_after_queues change tabs trees = λ q. subst IsFrameTreeAt (sym (find-map (with_queues change) (λ tab. tab.number == q) tabs)) (at (tab_at q tabs) (trees q))
   where
     at : (found : Option PlainTab) → IsFrameTreeAt found → IsFrameTreeAt (option_map (with_queues change) found)
     at None tree = tt
     at (Some tab) tree = tree
 
-pub trees_after_send : (events : List (Label × EventView)) (tabs : List PlainTab) → AreTrees tabs → AreTrees (sent events tabs)
+pub trees_after_send : (events : List (Label × PlainEvent)) (tabs : List PlainTab) → AreTrees tabs → AreTrees (sent events tabs)
 trees_after_send events tabs trees = trees_after_queues (λ label queue. queue_told (event_for label events) queue) tabs trees
 
 pub trees_after_take : (label : Label) (tabs : List PlainTab) → AreTrees tabs → AreTrees (taken label tabs)

@@ -1,29 +1,39 @@
 -- What is held after a change was stored and told.
-use Rattle.std.proofs.Common.{◌≡◌, ◌<◌, ◌≤◌, ◌⊎◌, inl, inr, ℕ, Bool, true, false, cond, List, Option, Some, None, Bor, refl, sym, ap, subst, ◌∙◌}
+use Rattle.std.proofs.Common.{◌≡◌, ◌<◌, ◌≤◌, ◌⊎◌, inl, inr, ℕ, Bool, true, false, cond, List, map, Option, Some, None, Bor, refl, sym, ap, subst, ◌∙◌, arith}
 use Rattle.std.proofs.lemmas.Bool.{le-ltb, lt-ltb}
 use Rattle.std.proofs.lemmas.Slice.Eq.{bytes_eq-Decides}
-use Rattle.std.specs.Prelude.{◌≢◌, bytes_eq, codes, is_none, option_copied}
+use Rattle.std.specs.Prelude.{◌≢◌, ◌↔◌, Result, Ok, Err, bytes_eq, codes, is_none, nat_lt, option_copied}
+use Rattle.std.proofs.lemmas.Bool.Decides.{nat_tests}
 use Rattle.agent_base.specs.declared.refusals.Label.{Label}
-use Rattle.storage_key.specs.Key.{PlainKey}
+use Rattle.storage_key.specs.Key.{PlainKey, key_order}
 use Rattle.local_area.specs.Area.{Pair, area_get, area_put, area_remove, area_weight, quota}
 use Rattle.local_area.specs.Put.{answer_over, changed, same}
 use Rattle.local_area.specs.declared.area.AreaFault.{AreaFault}
 use Rattle.local_area.specs.declared.area.AreaFault.TheVariants as fault
 use Rattle.storage_events.specs.declared.event.AreaKind.{AreaKind}
 use Rattle.storage_events.specs.declared.event.AreaKind.TheVariants.{Local, Session}
-use Rattle.storage_events.specs.Event.{EventView}
-use Rattle.live_state.specs.Tabs.{is_rising}
-use Rattle.live_state.specs.Queues.{sent}
-use Rattle.page_storage.specs.Stored.{held_with}
+use Rattle.storage_events.specs.Event.{PlainEvent}
+use Rattle.live_state.specs.Tabs.{PlainTab, is_rising}
+use Rattle.live_state.specs.Queues.{are_distinct, has_document, sent}
+use Rattle.live_state.proofs.OnceLemmas.{kept-once, kept-there}
+use Rattle.std.proofs.lemmas.List.Folds.{list_all-map}
+use Rattle.std.specs.List.{list_all}
+use Rattle.std.specs.Ordering.{eq_by_cmp}
+use Rattle.storage_events.specs.Audience.{hears}
+use Rattle.storage_events.specs.declared.event.Event.{Event}
+use Rattle.web_storage.specs.Stored.{held_with}
 use Rattle.script_lines.specs.Reply.{PlainBody, Plain}
 use Rattle.agent_model.specs.Partition.{Holdings, Tabs, with_area}
-use Rattle.agent_model.specs.SiteEvent.{answers, ok}
+use Rattle.agent_model.specs.Done.{SharedCells, no_shared_cells, answers, ok}
 use Rattle.agent_model.specs.AreaActions.{change_event, pairs_of, remove_by, remove_item, set_by, set_item, store, write}
 use Rattle.agent_model.specs.Documents.{Keyed, told}
-use Rattle.agent_core.specs.Standing.{places_in, tabs_in}
-use Rattle.agent_core.specs.Kept.{AreTrees, HoldingsView}
-use Rattle.agent_core.specs.Parts.{each_told, hearers, held_of}
-use Rattle.agent_core.specs.Steps.{IsDone, put_told}
+use Rattle.agent_core.specs.AgentState.{places_in, tabs_in}
+use Rattle.agent_core.specs.FrameTrees.{AreTrees}
+use Rattle.agent_core.specs.HoldingsView.{HoldingsView}
+use Rattle.agent_core.specs.Documents.{each_told}
+use Rattle.live_state.specs.Hearers.{hearers}
+use Rattle.agent_core.specs.HoldingsView.{held_of}
+use Rattle.agent_core.specs.Actions.{IsDone, put_told}
 use Rattle.agent_core.proofs.DoneLemmas.{held_beside, tabs_held}
 use Rattle.agent_core.proofs.TabLemmas.{places_after_send}
 use Rattle.agent_core.proofs.ToldLemmas.{tabs_after_send}
@@ -35,7 +45,7 @@ tabs_kept : (kind : AreaKind) (tab : ℕ) (key : PlainKey) (pairs : List Pair) (
 tabs_kept Local tab key pairs held = refl
 tabs_kept Session tab key pairs held = refl
 
-module _ (event : EventView) (writer : Keyed) (change : List Pair → List Pair) (old mid new : HoldingsView) (trees : AreTrees mid.live.tabs)
+module _ (event : PlainEvent) (writer : Keyed) (change : List Pair → List Pair) (old mid new : HoldingsView) (trees : AreTrees mid.live.tabs)
     (tabs : mid.live.tabs ≡ old.live.tabs) (entries : mid.storage ≡ old.storage) (rising : is_rising old.live.tabs ≡ true) where
   -- the pairs of the area after the change, and what is held with them
   abbrev pairs : List Pair
@@ -45,10 +55,10 @@ module _ (event : EventView) (writer : Keyed) (change : List Pair → List Pair)
   with_pairs held = with_area event.area writer.at.tab writer.key (change (pairs_of event.area writer held)) held
 
   -- the area has its pairs, and each document that hears is told
-  pub is_written : (seen : EventView) (events : List (Label × EventView)) (body : PlainBody) → seen ≡ event
+  pub is_written : (seen : PlainEvent) (events : List (Label × PlainEvent)) (body : PlainBody) → seen ≡ event
       → events ≡ each_told seen (hearers seen.area writer.at writer.key old.live.tabs)
       → new.live.tabs ≡ sent events mid.live.tabs → ((tabs : Tabs) → held_with tabs new.storage ≡ with_pairs (held_with tabs mid.storage))
-      → body ≡ ok → IsDone (write event.area writer pairs event (held_of old)) old new body
+      → body ≡ ok → IsDone (write event.area writer pairs event no_shared_cells (held_of old)) old new body
   is_written seen events body is these after stored answer = record {
     held =
         held_beside (tabs_in old.live.tabs) (tabs_in new.live.tabs) new.storage
@@ -64,20 +74,31 @@ module _ (event : EventView) (writer : Keyed) (change : List Pair → List Pair)
 
 -- ---- within the quota
 
-module _ (kind : AreaKind) (writer : Keyed) (pairs : List Pair) (event : EventView) (held : Holdings) (old new : HoldingsView) (body : PlainBody) where
+module _ (kind : AreaKind) (writer : Keyed) (pairs : List Pair) (event : PlainEvent) (held : Holdings) (old new : HoldingsView) (body : PlainBody) where
   abbrev stores : Bool → Type 0
-  stores past = IsDone (cond past (answers (Plain (codes "quota")) held) (write kind writer pairs event held)) old new body
+  stores past = IsDone (cond past (answers (Plain (codes "quota")) no_shared_cells held) (write kind writer pairs event no_shared_cells held)) old new body
 
-  pub is_stored : area_weight pairs ≤ quota → IsDone (write kind writer pairs event held) old new body → IsDone (store kind writer pairs event held) old new body
+  pub is_stored : area_weight pairs ≤ quota → IsDone (write kind writer pairs event no_shared_cells held) old new body → IsDone (store kind writer pairs event no_shared_cells held) old new body
   is_stored within done = subst stores (sym (le-ltb quota (area_weight pairs) within)) done
 
-  pub is_refused : quota < area_weight pairs → IsDone (answers (Plain (codes "quota")) held) old new body → IsDone (store kind writer pairs event held) old new body
+  pub is_refused : quota < area_weight pairs → IsDone (answers (Plain (codes "quota")) no_shared_cells held) old new body → IsDone (store kind writer pairs event no_shared_cells held) old new body
   is_refused past done = subst stores (sym (lt-ltb quota (area_weight pairs) past)) done
 
 -- a refusal for the quota passes it
-pub is_past : (why : AreaFault) (said weight : ℕ) → why ≡ fault.Quota said → (why ≡ fault.NoMemory) ⊎ ((why ≡ fault.Quota weight) × (quota < weight)) → quota < weight
-is_past why said weight refused (inl none) = let differ : fault.Quota said ≡ fault.NoMemory = sym refused ∙ none in absurd (cc differ)
-is_past why said weight refused (inr past) = past.1
+pub is_past : {T : Type 0} (why : AreaFault) (said weight : ℕ) → why ≡ fault.Quota said → (why ≡ fault.Quota weight) ⊎ (why ≡ fault.NoMemory)
+    → (◌≡◌ {A = Result T AreaFault} (Err why) (Err (fault.Quota weight))) ↔ (quota < weight) → quota < weight
+is_past why said weight refused (inl is) exact = exact.0 (ap Err is)
+is_past why said weight refused (inr none) exact = let differ : fault.Quota said ≡ fault.NoMemory = sym refused ∙ none in absurd (cc differ)
+
+-- what is not refused is within the quota
+pub is_within : {T : Type 0} (done : T) (weight : ℕ) → (◌≡◌ {A = Result T AreaFault} (Ok done) (Err (fault.Quota weight))) ↔ (quota < weight) → weight ≤ quota
+is_within {T} done weight exact = by (nat_lt quota weight) refl
+  where
+    by : (b : Bool) → nat_lt quota weight ≡ b → weight ≤ quota
+    by true past =
+        let low : quota < weight = grind (arith, nat_tests) in
+        let refused : ◌≡◌ {A = Result T AreaFault} (Ok done) (Err (fault.Quota weight)) = exact.1 low in absurd (cc refused)
+    by false isnt = grind (arith, nat_tests)
 
 -- ---- by what is there
 
@@ -86,19 +107,19 @@ pub none_copied : {X : Type 0} (found : Option (Bor X)) → is_none (option_copi
 none_copied None = refl
 none_copied (Some found) = refl
 
-module _ (kind : AreaKind) (writer : Keyed) (name : List ℕ) (held : Holdings) where
+module _ (kind : AreaKind) (writer : Keyed) (name : List ℕ) (cells : SharedCells) (held : Holdings) where
   -- a name that has another value, or none, is given one
   pub is_set : (value : List ℕ) (found : Option (List ℕ)) → found ≢ Some value → found ≡ area_get name (pairs_of kind writer held)
-      → put_told kind name value (change_event kind writer (Some name) found (Some value)) writer held ≡ set_item kind name value writer held
-  is_set value found other is = sets found other ∙ ap (λ found. set_by (answer_over value found) kind writer name value (area_put name value (pairs_of kind writer held)) held) is
+      → put_told kind name value (change_event kind writer (Some name) found (Some value)) writer cells held ≡ set_item kind name value writer cells held
+  is_set value found other is = sets found other ∙ ap (λ found. set_by (answer_over value found) kind writer name value (area_put name value (pairs_of kind writer held)) cells held) is
     where
-      by : (before : List ℕ) (b : Bool) → b ≡ false → put_told kind name value (change_event kind writer (Some name) (Some before) (Some value)) writer held
-          ≡ set_by (cond b same (changed before)) kind writer name value (area_put name value (pairs_of kind writer held)) held
+      by : (before : List ℕ) (b : Bool) → b ≡ false → put_told kind name value (change_event kind writer (Some name) (Some before) (Some value)) writer cells held
+          ≡ set_by (cond b same (changed before)) kind writer name value (area_put name value (pairs_of kind writer held)) cells held
       by before true apart = absurd (cc apart)
       by before false apart = refl
 
-      sets : (found : Option (List ℕ)) → found ≢ Some value → put_told kind name value (change_event kind writer (Some name) found (Some value)) writer held
-          ≡ set_by (answer_over value found) kind writer name value (area_put name value (pairs_of kind writer held)) held
+      sets : (found : Option (List ℕ)) → found ≢ Some value → put_told kind name value (change_event kind writer (Some name) found (Some value)) writer cells held
+          ≡ set_by (answer_over value found) kind writer name value (area_put name value (pairs_of kind writer held)) cells held
       sets None other = refl
       sets (Some before) other = by before (bytes_eq before value) (differ (bytes_eq before value) refl)
         where
@@ -108,12 +129,28 @@ module _ (kind : AreaKind) (writer : Keyed) (name : List ℕ) (held : Holdings) 
 
   -- a name that is there is removed
   removes : (found : Option (List ℕ)) → is_none found ≡ false
-      → write kind writer (area_remove name (pairs_of kind writer held)) (change_event kind writer (Some name) found None) held ≡ remove_by found kind writer name held
+      → write kind writer (area_remove name (pairs_of kind writer held)) (change_event kind writer (Some name) found None) cells held ≡ remove_by found kind writer name cells held
   removes None there = absurd (cc there)
   removes (Some before) there = refl
 
   pub is_removed : (found : Option (List ℕ)) (old new : HoldingsView) (body : PlainBody) → is_none found ≡ false → found ≡ area_get name (pairs_of kind writer held)
-      → IsDone (write kind writer (area_remove name (pairs_of kind writer held)) (change_event kind writer (Some name) found None) held) old new body
-      → IsDone (remove_item kind name writer held) old new body
+      → IsDone (write kind writer (area_remove name (pairs_of kind writer held)) (change_event kind writer (Some name) found None) cells held) old new body
+      → IsDone (remove_item kind name writer cells held) old new body
   is_removed found old new body there is done =
-      subst (λ done. IsDone done old new body) (removes found there ∙ ap (λ found. remove_by found kind writer name held) is) done
+      subst (λ done. IsDone done old new body) (removes found there ∙ ap (λ found. remove_by found kind writer name cells held) is) done
+
+-- ---- the documents that hear
+
+module _ (kind : AreaKind) (at : Label) (key : PlainKey) (tabs : List PlainTab) (rising : is_rising tabs ≡ true) (to : List Label) (are : to ≡ hearers kind at key tabs) where
+  -- they are there
+  pub to_there : list_all (has_document tabs) to ≡ true
+  to_there = ap (list_all (has_document tabs)) are ∙ kept-there (hears (eq_by_cmp key_order) kind at key) tabs rising
+
+  module _ (events : List (Label × Event)) (labels : map (λ e. e.0) events ≡ to) where
+    -- no event is for a document twice
+    pub events_distinct : are_distinct (map (λ e. e.0) events) ≡ true
+    events_distinct = ap are_distinct (labels ∙ are) ∙ kept-once (hears (eq_by_cmp key_order) kind at key) tabs rising
+
+    -- each event is for a document that is ready
+    pub events_ready : (ready : Label → Bool) → list_all ready to ≡ true → list_all (λ e. ready e.0) events ≡ true
+    events_ready ready all = sym (list_all-map ready (λ e. e.0) events) ∙ ap (list_all ready) labels ∙ all

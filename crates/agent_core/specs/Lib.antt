@@ -1,7 +1,9 @@
 -- What contracts cite.
-pub mod Standing
--- What the agent keeps. No public clause rests on it.
-pub mod Kept
+pub mod AgentState
+-- What is held for all sites. No public clause rests on it.
+pub mod FrameTrees
+pub mod HoldingsView
 -- What private functions compute. No public clause rests on it.
-pub mod Parts
-pub mod Steps
+pub mod Documents
+pub mod Actions
+pub mod Lines

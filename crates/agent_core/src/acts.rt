@@ -6,12 +6,14 @@ ghost use Rattle.live_state.specs.Tabs.{PlainTab, is_open, tab_at};
 ghost use Rattle.script_lines.specs.Plain.{action_of};
 ghost use Rattle.agent_model.specs.Rest.{last_moment};
 ghost use Rattle.agent_model.specs.Documents.{Keyed, with_key};
-ghost use Rattle.agent_model.specs.SiteStep.{act_in, action_name};
-ghost use Rattle.agent_core.specs.Steps.{ActsBy, ActsIn, by_keyed, is_keyed, label_of};
+ghost use Rattle.agent_model.specs.ActionNames.{action_name};
+ghost use Rattle.agent_model.specs.SiteStep.{act_in};
+ghost use Rattle.agent_core.specs.Actions.{ActsBy, ActsIn, by_keyed, document_action, is_keyed};
+ghost use Rattle.agent_core.specs.Actions.{label_of};
 
 use crate::documents::{Found, key_at};
 use crate::holdings::Holdings;
-use crate::replies::{answer, loaded};
+use crate::replies::answer;
 use agent_base::{Label, NoMemory};
 use script_lines::{Action, ReplyBody};
 use std::alloc::Global;
@@ -58,16 +60,20 @@ impl Holdings {
         requires now { now ≤ last_moment }
         requires open { is_open at.tab self.old.live.tabs ≡ true }
         requires named { label_of (action_of action.now) ≡ Some at }
-        ensures acts { let does = act_in list.now.rules now (action_of action.now) in
-            ActsIn at.tab does self.old self.new result }
+        ensures acts { IfSome (document_action (action_of action.now)) (λ does.
+            ActsIn at.tab (act_in list.now.rules now at does) self.old self.new result) }
     {
         match action {
-            Action::Frame { .. } | Action::Nav { .. } => {
-                self.act_on_frames(alloc, list, now, at, action, loaded(alloc))
-            }
-            Action::Drop { .. } | Action::Click { .. } => {
-                self.act_on_frames(alloc, list, now, at, action, answer("ok"))
-            }
+            Action::Frame {
+                parent,
+                url,
+                sandbox,
+                deny,
+                ..
+            } => self.add_frame(alloc, list, at, *parent, url, sandbox, *deny),
+            Action::Nav { url, .. } => self.navigate_frame(alloc, list, at, url),
+            Action::Drop { .. } => self.remove_frame(at),
+            Action::Click { .. } => self.click(at, now),
             Action::Events { .. } => Ok(self.take(at)),
             _ => self.act_with_key(alloc, at, action),
         }
@@ -85,10 +91,13 @@ impl Holdings {
         ensures acts { IfSome (by_keyed (action_of action.now)) (λ does.
             ActsIn at.tab (λ tab. with_key at tab (does tab)) self.old self.new result) }
     {
-        match key_at(alloc, self.tab(at.tab), at.frame)? {
+        match key_at(self.tab(at.tab), at.frame) {
             Found::NoFrame => Ok(answer("no-frame")),
             Found::Opaque => Ok(answer("security")),
-            Found::Keyed(key) => self.act_under(alloc, at, key, action),
+            Found::Keyed(key) => {
+                let key = key.copy(alloc)?;
+                self.act_under(alloc, at, &key, action)
+            }
         }
     }
 
@@ -97,14 +106,14 @@ impl Holdings {
         &mut self,
         alloc: Global,
         at: Label,
-        key: StorageKey,
+        key: &StorageKey,
         action: &Action,
     ) -> Result<ReplyBody, NoMemory>
         requires there { has_document self.old.live.tabs at ≡ true }
         requires keyed { is_keyed (action_of action.now) ≡ true }
         ensures acts { IfSome (by_keyed (action_of action.now)) (λ does.
             (tab : PlainTab) → tab_at at.tab self.old.live.tabs ≡ Some tab
-            → ActsBy at (plain_key key) (does tab) self.old self.new result) }
+            → ActsBy at (plain_key key.now) (does tab) self.old self.new result) }
     {
         match action {
             Action::Set {
@@ -117,17 +126,17 @@ impl Holdings {
                 area,
                 key: name,
                 ..
-            } => self.get(alloc, *area, at.tab, &key, name),
+            } => self.get(alloc, *area, at.tab, key, name),
             Action::Del {
                 area,
                 key: name,
                 ..
             } => self.del(alloc, at, *area, key, name),
             Action::Clear { area, .. } => self.clear(alloc, at, *area, key),
-            Action::Len { area, .. } => Ok(self.len(*area, at.tab, &key)),
-            Action::Key { area, n, .. } => self.name_at(alloc, *area, at.tab, &key, *n),
-            Action::Persisted { .. } => Ok(self.persisted(&key)),
-            Action::Estimate { .. } => Ok(self.estimate(&key)),
+            Action::Len { area, .. } => Ok(self.len(*area, at.tab, key)),
+            Action::Key { area, n, .. } => self.name_at(alloc, *area, at.tab, key, *n),
+            Action::Persisted { .. } => Ok(self.persisted(key)),
+            Action::Estimate { .. } => Ok(self.estimate(key)),
             Action::Persist { answer, .. } => self.persist(at, key, *answer),
             _ => unreachable!(),
         }

@@ -8,8 +8,9 @@ ghost use Rattle.script_lines.specs.declared.words.Method.{Method};
 ghost use Rattle.agent_model.specs.Isolation.{printed};
 ghost use Rattle.agent_model.specs.Rest as spec;
 ghost use Rattle.agent_model.specs.TheMachine.{machine, beginning};
-ghost use Rattle.agent_core.specs.Standing.{world_of};
-ghost use Rattle.agent_core.specs.Steps.{Runs, label_of};
+ghost use Rattle.agent_core.specs.AgentState.{world_of};
+ghost use Rattle.agent_core.specs.Lines.{Runs};
+ghost use Rattle.agent_core.specs.Actions.{label_of};
 
 use crate::acts::name_of;
 use crate::clock::clock_after;
@@ -33,8 +34,8 @@ pub struct Agent<'l> {
 }
 
 impl<'l> Model for Agent<'l> {
-    ghost use Rattle.agent_core.specs.Standing.{AgentState, IsStanding};
-    ghost use Rattle.agent_core.specs.Parts.{state_of};
+    ghost use Rattle.agent_core.specs.AgentState.{AgentState, IsStanding};
+    ghost use Rattle.agent_core.specs.HoldingsView.{state_of};
 
     ghost Value = { AgentState };
 

@@ -1,18 +1,21 @@
 //! Actions on the areas of a document.
-ghost use Rattle.std.specs.Prelude.{◌≡◌, ◌↔◌, IfOk, IsTrue, Some, length, option_copied};
+ghost use Rattle.std.specs.Prelude.{◌≡◌, ◌↔◌, IfOk, IsTrue, Some, length, map, option_copied};
 ghost use Rattle.std.specs.Prelude.{option_map, string_bytes, true};
 ghost use Rattle.storage_key.specs.Plain.{plain_key};
 ghost use Rattle.local_area.specs.Area.{area_get, area_nth};
-ghost use Rattle.storage_events.specs.Event.{plain_event};
-ghost use Rattle.live_state.specs.Queues.{has_document};
+ghost use Rattle.storage_events.specs.Event.{PlainEvent};
+ghost use Rattle.live_state.specs.Hearers.{hearers};
+ghost use Rattle.live_state.specs.Queues.{has_document, plain_sent};
+ghost use Rattle.live_state.specs.Tabs.{is_rising};
 ghost use Rattle.script_lines.specs.Plain.{body_of};
 ghost use Rattle.script_lines.specs.Reply as reply_text;
 ghost use Rattle.agent_model.specs.Partition.{area_of};
 ghost use Rattle.agent_model.specs.AreaActions.{clear_area, remove_item, set_item, store};
-ghost use Rattle.agent_core.specs.Parts.{held_of};
-ghost use Rattle.agent_core.specs.Steps.{ActsBy, put_told};
+ghost use Rattle.agent_core.specs.HoldingsView.{held_of};
+ghost use Rattle.agent_core.specs.Actions.{ActsBy, put_told};
+ghost use Rattle.agent_core.specs.Documents.{each_told};
 
-use crate::events::change;
+use crate::events::events_of;
 use crate::holdings::Holdings;
 use crate::replies::answer;
 use agent_base::{Label, NoMemory};
@@ -95,39 +98,56 @@ impl Holdings {
         alloc: Global,
         at: Label,
         area: AreaKind,
-        key: StorageKey,
+        key: &StorageKey,
         name: &str,
         value: &str,
     ) -> Result<ReplyBody, NoMemory>
         requires { has_document self.old.live.tabs at ≡ true }
         ensures acts { let does = set_item area name.now value.now in
-            ActsBy at (plain_key key) does self.old self.new result }
+            ActsBy at (plain_key key.now) does self.old self.new result }
     {
-        let before = self.value(area, at.tab, &key, name);
+        let before = self.value(area, at.tab, key, name);
         if is_text(before, value) {
             return Ok(answer("ok"));
         }
-        let event = change(alloc, area, Some(name), before, Some(value), self.url(at))?;
-        self.store(alloc, at, key, event, name, value)
+        let to = self.hearers(area, at, key)?;
+        let url = self.url(at);
+        let events = events_of(
+            alloc,
+            to.as_slice(),
+            area,
+            Some(name),
+            before,
+            Some(value),
+            url,
+        )?;
+        self.store(alloc, at, area, key, to, events, name, value)
     }
 
-    // Stores a pair, and tells each document that hears of it.
+    // Stores a pair, and sends these events to the documents that hear of it.
     fn store(
         &mut self,
         alloc: Global,
         at: Label,
-        key: StorageKey,
-        event: Event,
+        area: AreaKind,
+        key: &StorageKey,
+        to: Vec<Label>,
+        events: Vec<(Label, Event)>,
         name: &str,
         value: &str,
     ) -> Result<ReplyBody, NoMemory>
-        ensures acts { let does = put_told event.area name.now value.now (plain_event event) in
-            ActsBy at (plain_key key) does self.old self.new result }
+        requires rising { is_rising self.old.live.tabs ≡ true }
+        requires hearers { to.items ≡ hearers area at (plain_key key.now) self.old.live.tabs }
+        requires labels { map (λ e. e.0) events.items ≡ to.items }
+        ensures acts { (told : PlainEvent) → let event = record told { area = area } in
+            map plain_sent events.items ≡ each_told event to.items
+            → ActsBy at (plain_key key.now) (put_told area name.now value.now event)
+            self.old self.new result }
     {
-        let events = self.broadcast(alloc, at, &key, &event)?;
+        self.live.reserve_queues(to.as_slice())?;
         let name = String::from_str(alloc, name)?;
         let value = String::from_str(alloc, value)?;
-        match self.storage.put(event.area, at.tab, key, name, value) {
+        match self.storage.put(area, at.tab, key, name, value) {
             Ok(_) => {
                 self.live.send(events);
                 Ok(answer("ok"))
@@ -143,20 +163,22 @@ impl Holdings {
         alloc: Global,
         at: Label,
         area: AreaKind,
-        key: StorageKey,
+        key: &StorageKey,
         name: &str,
     ) -> Result<ReplyBody, NoMemory>
         requires { has_document self.old.live.tabs at ≡ true }
         ensures acts { let does = remove_item area name.now in
-            ActsBy at (plain_key key) does self.old self.new result }
+            ActsBy at (plain_key key.now) does self.old self.new result }
     {
-        let before = self.value(area, at.tab, &key, name);
+        let before = self.value(area, at.tab, key, name);
         if before.is_none() {
             return Ok(answer("ok"));
         }
-        let event = change(alloc, area, Some(name), before, None, self.url(at))?;
-        let events = self.broadcast(alloc, at, &key, &event)?;
-        self.storage.remove(area, at.tab, key, name)?;
+        let to = self.hearers(area, at, key)?;
+        let url = self.url(at);
+        let events = events_of(alloc, to.as_slice(), area, Some(name), before, None, url)?;
+        self.live.reserve_queues(to.as_slice())?;
+        self.storage.remove(area, at.tab, key, name);
         self.live.send(events);
         Ok(answer("ok"))
     }
@@ -167,14 +189,16 @@ impl Holdings {
         alloc: Global,
         at: Label,
         area: AreaKind,
-        key: StorageKey,
+        key: &StorageKey,
     ) -> Result<ReplyBody, NoMemory>
         requires { has_document self.old.live.tabs at ≡ true }
-        ensures acts { ActsBy at (plain_key key) (clear_area area) self.old self.new result }
+        ensures acts { ActsBy at (plain_key key.now) (clear_area area) self.old self.new result }
     {
-        let event = change(alloc, area, None, None, None, self.url(at))?;
-        let events = self.broadcast(alloc, at, &key, &event)?;
-        self.storage.clear(area, at.tab, key)?;
+        let to = self.hearers(area, at, key)?;
+        let url = self.url(at);
+        let events = events_of(alloc, to.as_slice(), area, None, None, None, url)?;
+        self.live.reserve_queues(to.as_slice())?;
+        self.storage.clear(area, at.tab, key);
         self.live.send(events);
         Ok(answer("ok"))
     }

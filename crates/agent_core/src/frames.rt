@@ -1,102 +1,125 @@
 //! Actions on the frames of a tab.
-ghost use Rattle.std.specs.Prelude.{◌≡◌, ◌≤◌, OnErr, OnOk, false, true};
-ghost use Rattle.std.specs.Prelude.{option_map, pos, string_bytes};
+ghost use Rattle.std.specs.Prelude.{◌≡◌, ◌≤◌, ℕ, None, OnErr, OnOk, Some, nat_lt, true};
+ghost use Rattle.std.specs.Prelude.{option_map, string_bytes};
 ghost use Rattle.agent_base.specs.Answers.{Answers};
 ghost use Rattle.origin_site.specs.Plain.{plain_address};
-ghost use Rattle.frame_tree.specs.Calls.{activated, navigated, without};
 ghost use Rattle.frame_tree.specs.Plain.{plain_sandbox};
 ghost use Rattle.frame_tree.specs.Sandbox.{sandbox_of};
 ghost use Rattle.frame_tree.specs.Tree.{top_site};
+ghost use Rattle.live_state.specs.FramesInPlace.{IsPutIn, frames_at};
 ghost use Rattle.live_state.specs.Tabs.{is_open};
-ghost use Rattle.script_lines.specs.Plain.{action_of, body_of};
+ghost use Rattle.script_lines.specs.declared.words.Method.{Method};
+ghost use Rattle.script_lines.specs.Plain.{body_of};
 ghost use Rattle.agent_model.specs.Rest.{last_moment};
-ghost use Rattle.agent_model.specs.Frames.{act_on_frames, frames_after, fresh_frame};
-ghost use Rattle.agent_model.specs.Frames.{where_below, where_there};
-ghost use Rattle.agent_core.specs.Kept.{adds_number};
-ghost use Rattle.agent_core.specs.Steps.{ActsIn, is_on_frames};
+ghost use Rattle.agent_model.specs.Frames.{add_frame, click, frames_added, frames_clicked};
+ghost use Rattle.agent_model.specs.Frames.{frames_navigated, frames_removed, navigate_frame};
+ghost use Rattle.agent_model.specs.Frames.{remove_frame};
+ghost use Rattle.agent_core.specs.FrameTrees.{most_frames};
+ghost use Rattle.agent_core.specs.Actions.{ActsIn, Answered};
 
 use crate::holdings::Holdings;
-use crate::replies::answer;
+use crate::replies::{answer, loaded};
 use agent_base::{Label, NoMemory};
-use frame_tree::{Sandbox, Tab, TreeFault};
+use frame_tree::{Sandbox, TreeFault};
+use live_state::Live;
 use origin_site::Address;
-use script_lines::{Action, ReplyBody};
+use script_lines::ReplyBody;
 use std::alloc::Global;
 use suffix_list::SuffixList;
 
 impl Holdings {
-    /// Does an action on the frames of a tab, which answers this where it is not refused.
-    pub fn act_on_frames(
+    /// Adds a frame to a tab. It loads its address.
+    pub fn add_frame(
         &mut self,
         alloc: Global,
         list: &SuffixList,
-        now: u64,
         at: Label,
-        action: &Action,
-        body: ReplyBody,
+        parent: u8,
+        url: &Address,
+        sandbox: &Option<String>,
+        deny: bool,
     ) -> Result<ReplyBody, NoMemory>
+        requires open { is_open at.tab self.old.live.tabs ≡ true }
+        ensures acts { (now : ℕ) → let address = plain_address url.now in
+            let sandboxed = option_map string_bytes sandbox.now in
+            let does = add_frame list.now.rules now at parent address sandboxed deny in
+            ActsIn at.tab does self.old self.new result }
+    {
+        let done = add(&mut self.live, alloc, at, parent, url, sandbox, deny, list);
+        frames_answer(done, loaded(alloc))
+    }
+
+    /// Navigates a frame of a tab, and removes the frames below it.
+    pub fn navigate_frame(
+        &mut self,
+        alloc: Global,
+        list: &SuffixList,
+        at: Label,
+        url: &Address,
+    ) -> Result<ReplyBody, NoMemory>
+        requires open { is_open at.tab self.old.live.tabs ≡ true }
+        ensures acts { (now : ℕ) (method : Method) → let address = plain_address url.now in
+            let does = navigate_frame list.now.rules now at address method in
+            ActsIn at.tab does self.old self.new result }
+    {
+        let done = navigate(&mut self.live, alloc, at, url, list);
+        frames_answer(done, loaded(alloc))
+    }
+
+    /// Removes a frame of a tab, and the frames below it.
+    pub fn remove_frame(&mut self, at: Label) -> Result<ReplyBody, NoMemory>
+        requires open { is_open at.tab self.old.live.tabs ≡ true }
+        ensures acts { ActsIn at.tab (remove_frame at) self.old self.new result }
+    {
+        let done = remove(&mut self.live, at);
+        frames_answer(done, answer("ok"))
+    }
+
+    /// Activates a document, as a click does.
+    pub fn click(&mut self, at: Label, now: u64) -> Result<ReplyBody, NoMemory>
         requires now { now ≤ last_moment }
         requires open { is_open at.tab self.old.live.tabs ≡ true }
-        requires on_frames { is_on_frames (action_of action.now) ≡ true }
-        ensures acts { let line = action_of action.now in
-            ActsIn at.tab (λ tab. act_on_frames list.now.rules now line at.tab tab (body_of body))
-            self.old self.new result }
+        ensures acts { ActsIn at.tab (click now at) self.old self.new result }
     {
-        let mut made = self.tab(at.tab).copy()?;
-        match act(alloc, &mut made, action, now, list) {
-            Ok(()) => {
-                self.live.put_tab(at.tab, made, fresh_frame(action));
-                Ok(body)
-            }
-            Err(TreeFault::NoFrame) => Ok(answer("no-frame")),
-            Err(TreeFault::FrameExists) => Ok(answer("frame-exists")),
-            Err(TreeFault::NoMemory) => Err(NoMemory),
-        }
+        let done = click(&mut self.live, at, now);
+        frames_answer(done, answer("ok"))
     }
 }
 
-// The frame whose document an action replaces.
-fn fresh_frame(action: &Action) -> Option<u8>
-    ensures { result ≡ fresh_frame (action_of action.now) }
+// Answers this where an action on frames was done, or what refused it.
+fn frames_answer(done: Result<(), TreeFault>, body: ReplyBody) -> Result<ReplyBody, NoMemory>
+    ensures answered { Answered done (body_of body) result }
 {
-    match action {
-        Action::Nav { at, .. } => Some(at.frame),
-        _ => None,
+    match done {
+        Ok(()) => Ok(body),
+        Err(TreeFault::NoFrame) => Ok(answer("no-frame")),
+        Err(TreeFault::FrameExists) => Ok(answer("frame-exists")),
+        Err(TreeFault::NoMemory) => Err(NoMemory),
     }
 }
 
-// Does an action on the frames of a tab, at this moment. A refusal leaves them as they are.
-fn act(
+// Adds a frame.
+fn add(
+    live: &mut Live,
     alloc: Global,
-    tab: &mut Tab,
-    action: &Action,
-    now: u64,
+    at: Label,
+    parent: u8,
+    url: &Address,
+    sandbox: &Option<String>,
+    deny: bool,
     list: &SuffixList,
 ) -> Result<(), TreeFault>
-    requires now { now ≤ last_moment }
-    requires on_frames { is_on_frames (action_of action.now) ≡ true }
-    ensures answer { Answers (λ _. tab.new) TreeFault.NoMemory
-        (frames_after list.now.rules now (action_of action.now) tab.old) result }
-    ensures site { top_site tab.new ≡ top_site tab.old }
-    ensures number { OnOk result (adds_number (action_of action.now) ≡ true) }
-    ensures unchanged { OnErr result (tab.new ≡ tab.old) }
+    ensures answer { Answers (λ _. frames_at at.tab live.new.tabs) TreeFault.NoMemory
+        (frames_added list.now.rules at parent (plain_address url.now)
+        (option_map string_bytes sandbox.now) deny (frames_at at.tab live.old.tabs)) result }
+    ensures put { OnOk result (IsPutIn at.tab None live.old.tabs live.new.tabs) }
+    ensures site { top_site (frames_at at.tab live.new.tabs)
+        ≡ top_site (frames_at at.tab live.old.tabs) }
+    ensures unchanged { OnErr result (live.new ≡ live.old) }
+    ensures number { nat_lt at.frame most_frames ≡ true }
 {
-    match action {
-        Action::Frame {
-            at,
-            parent,
-            url,
-            sandbox,
-            deny,
-        } => {
-            let url = url.copy(alloc)?;
-            tab.add(*parent, at.frame, url, sandbox_of(sandbox), *deny, list)
-        }
-        Action::Nav { at, url, .. } => navigate(alloc, tab, at.frame, url, list),
-        Action::Drop { at } => remove(tab, at.frame),
-        Action::Click { at } => click(tab, at.frame, now),
-        _ => unreachable!(),
-    }
+    let url = url.copy(alloc)?;
+    live.add_frame(at, parent, url, sandbox_of(sandbox), deny, list)
 }
 
 fn sandbox_of(text: &Option<String>) -> Sandbox
@@ -110,49 +133,56 @@ fn sandbox_of(text: &Option<String>) -> Sandbox
 
 // Navigates a frame below the top.
 fn navigate(
+    live: &mut Live,
     alloc: Global,
-    tab: &mut Tab,
-    frame: u8,
+    at: Label,
     url: &Address,
     list: &SuffixList,
 ) -> Result<(), TreeFault>
-    ensures answer { Answers (λ _. tab.new) TreeFault.NoMemory (where_below frame
-        (navigated list.now.rules frame (plain_address url.now) false tab.old)) result }
-    ensures site { top_site tab.new ≡ top_site tab.old }
-    ensures unchanged { OnErr result (tab.new ≡ tab.old) }
+    ensures answer { Answers (λ _. frames_at at.tab live.new.tabs) TreeFault.NoMemory
+        (frames_navigated list.now.rules at (plain_address url.now)
+        (frames_at at.tab live.old.tabs)) result }
+    ensures put { OnOk result (IsPutIn at.tab (Some at.frame) live.old.tabs live.new.tabs) }
+    ensures site { top_site (frames_at at.tab live.new.tabs)
+        ≡ top_site (frames_at at.tab live.old.tabs) }
+    ensures unchanged { OnErr result (live.new ≡ live.old) }
 {
-    if frame == 0 {
+    if at.frame == 0 {
         return Err(TreeFault::NoFrame);
     }
     let url = url.copy(alloc)?;
-    tab.navigate(frame, url, false, list)
+    live.navigate_frame(at, url, false, list)
 }
 
 // Removes a frame below the top.
-fn remove(tab: &mut Tab, frame: u8) -> Result<(), TreeFault>
-    ensures answer { Answers (λ _. tab.new) TreeFault.NoMemory
-        (where_below frame (where_there frame tab.old (without frame tab.old))) result }
-    ensures site { top_site tab.new ≡ top_site tab.old }
-    ensures unchanged { OnErr result (tab.new ≡ tab.old) }
+fn remove(live: &mut Live, at: Label) -> Result<(), TreeFault>
+    ensures answer { Answers (λ _. frames_at at.tab live.new.tabs) TreeFault.NoMemory
+        (frames_removed at (frames_at at.tab live.old.tabs)) result }
+    ensures put { OnOk result (IsPutIn at.tab None live.old.tabs live.new.tabs) }
+    ensures site { top_site (frames_at at.tab live.new.tabs)
+        ≡ top_site (frames_at at.tab live.old.tabs) }
+    ensures unchanged { OnErr result (live.new ≡ live.old) }
 {
-    if frame == 0 {
+    if at.frame == 0 {
         return Err(TreeFault::NoFrame);
     }
-    match tab.remove(frame) {
+    match live.remove_frame(at) {
         Ok(()) => Ok(()),
         Err(_) => Err(TreeFault::NoFrame),
     }
 }
 
 // Activates a document.
-fn click(tab: &mut Tab, frame: u8, now: u64) -> Result<(), TreeFault>
+fn click(live: &mut Live, at: Label, now: u64) -> Result<(), TreeFault>
     requires { now ≤ last_moment }
-    ensures answer { Answers (λ _. tab.new) TreeFault.NoMemory
-        (where_there frame tab.old (activated frame (pos now) tab.old)) result }
-    ensures site { top_site tab.new ≡ top_site tab.old }
-    ensures unchanged { OnErr result (tab.new ≡ tab.old) }
+    ensures answer { Answers (λ _. frames_at at.tab live.new.tabs) TreeFault.NoMemory
+        (frames_clicked now at (frames_at at.tab live.old.tabs)) result }
+    ensures put { OnOk result (IsPutIn at.tab None live.old.tabs live.new.tabs) }
+    ensures site { top_site (frames_at at.tab live.new.tabs)
+        ≡ top_site (frames_at at.tab live.old.tabs) }
+    ensures unchanged { OnErr result (live.new ≡ live.old) }
 {
-    match tab.activate(frame, now as i64) {
+    match live.activate(at, now as i64) {
         Ok(()) => Ok(()),
         Err(_) => Err(TreeFault::NoFrame),
     }

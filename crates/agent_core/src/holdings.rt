@@ -1,12 +1,12 @@
 //! What is held for all sites.
 ghost use Rattle.std.specs.Prelude.{◌≡◌, []};
 ghost use Rattle.agent_model.specs.Partition.{no_holdings};
-ghost use Rattle.agent_core.specs.Parts.{held_of};
+ghost use Rattle.agent_core.specs.HoldingsView.{held_of};
 
 use live_state::Live;
-use page_storage::Storage;
 use std::alloc::Global;
 use std::marker::Model;
+use web_storage::Storage;
 
 /// What is held for all sites: the open tabs, and the storage.
 #[derive(Debug, Drop)]
@@ -16,7 +16,8 @@ pub struct Holdings {
 }
 
 impl Model for Holdings {
-    ghost use Rattle.agent_core.specs.Kept.{AreTrees, HoldingsView};
+    ghost use Rattle.agent_core.specs.FrameTrees.{AreTrees};
+    ghost use Rattle.agent_core.specs.HoldingsView.{HoldingsView};
 
     ghost Value = { HoldingsView };
 

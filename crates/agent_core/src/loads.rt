@@ -5,12 +5,12 @@ ghost use Rattle.origin_site.specs.Plain.{plain_address, plain_site};
 ghost use Rattle.origin_site.specs.Site.{site_of_address};
 ghost use Rattle.live_state.specs.Tabs.{is_open};
 ghost use Rattle.agent_model.specs.Lines.{placed};
-ghost use Rattle.agent_model.specs.Sessions.{arrive, close, has_session};
-ghost use Rattle.agent_core.specs.Standing.{places_in};
-ghost use Rattle.agent_core.specs.Parts.{held_of};
-ghost use Rattle.agent_core.specs.Steps.{Stays, is_there, with_copies};
+ghost use Rattle.agent_model.specs.Sessions.{close, has_session, show};
+ghost use Rattle.agent_core.specs.AgentState.{places_in};
+ghost use Rattle.agent_core.specs.HoldingsView.{held_of};
+ghost use Rattle.agent_core.specs.Actions.{Stays};
+ghost use Rattle.agent_core.specs.Lines.{is_there, with_copies};
 
-use crate::documents::site_of_tab;
 use crate::holdings::Holdings;
 use agent_base::NoMemory;
 use frame_tree::Tab;
@@ -51,16 +51,16 @@ impl Holdings {
         ensures site { let target = site_of_address list.now.rules (plain_address url.now) in
             IfOk result (λ site. plain_site site ≡ target) }
         ensures held { let copied = with_copies opener tab self.old.live.tabs (held_of self.old) in
-            let arrived = arrive list.now.rules tab (plain_address url.now) copied in
-            OnOk result (held_of self.new ≡ arrived.held) }
+            let shown = show list.now.rules tab (plain_address url.now) copied in
+            OnOk result (held_of self.new ≡ shown) }
         ensures places { let target = site_of_address list.now.rules (plain_address url.now) in
             let after = placed tab target (places_in self.old.live.tabs) in
             OnOk result (places_in self.new.live.tabs ≡ after) }
         ensures unchanged { OnErr result (Stays self.old self.new) }
     {
         let made = Tab::new(alloc, url.copy(alloc)?, list)?;
-        let site = site_of_tab(alloc, &made)?;
-        self.live.reserve(tab)?;
+        let site = made.top_site().copy(alloc)?;
+        self.live.reserve(tab, &made)?;
         self.copy_areas(alloc, opener, tab)?;
         self.live.put_tab(tab, made, Some(0));
         Ok(site)
@@ -79,7 +79,7 @@ impl Holdings {
         let Some(opener) = opener else {
             return Ok(());
         };
-        let site = site_of_tab(alloc, self.tab(opener))?;
+        let site = self.tab(opener).top_site().copy(alloc)?;
         self.storage.copy_tab(&site, opener, tab)
     }
 

@@ -11,8 +11,8 @@ ghost use Rattle.storage_events.specs.declared.event.AreaKind.TheVariants.{Local
 ghost use Rattle.agent_model.specs.Partition.{area_of};
 ghost use Rattle.agent_model.specs.Documents.{Keyed};
 ghost use Rattle.agent_model.specs.Buckets.{is_grant, is_persistent, persist};
-ghost use Rattle.agent_core.specs.Parts.{held_of};
-ghost use Rattle.agent_core.specs.Steps.{ActsIn};
+ghost use Rattle.agent_core.specs.HoldingsView.{held_of};
+ghost use Rattle.agent_core.specs.Actions.{ActsIn};
 
 use crate::holdings::Holdings;
 use crate::replies::answer;
@@ -46,18 +46,19 @@ impl Holdings {
     pub fn persist(
         &mut self,
         at: Label,
-        key: StorageKey,
+        key: &StorageKey,
         prompt: Prompt,
     ) -> Result<ReplyBody, NoMemory>
         requires { is_open at.tab self.old.live.tabs ≡ true }
         ensures acts { (document : PlainDocument)
-            → let asker : Keyed = record { at = at; document = document; key = plain_key key } in
+            → let own = plain_key key.now in
+            let asker : Keyed = record { at = at; document = document; key = own } in
             ActsIn at.tab (λ tab. persist tab prompt asker) self.old self.new result }
     {
         if !self.is_secure(at) {
             return Ok(answer("insecure"));
         }
-        if self.storage.is_persistent(&key) {
+        if self.storage.is_persistent(key) {
             return Ok(ReplyBody::Truth { value: true });
         }
         if !is_grant(prompt) {

@@ -9,7 +9,7 @@ use Rattle.agent_core.proofs.agent.Agent.close.Goals as goal
 pub returns-in_default : goal.returns-in_default
 returns-in_default c =
     let nowhere = sym c.in_ok-site.ensures.site ∙ ap (option_map plain_site) c.in_default.is in
-    record { runs = runs_still c.self.view_is (runs_without_tab (Close c.args.tab) _ c.refused.result refl nowhere c.refused.ensures) }
+    record { runs = runs_still c.self.view_is (runs_without_tab (Close c.args.tab) _ c.refused.result nowhere c.refused.ensures) }
 
 pub invariant_of-self : goal.invariant_of-self
 invariant_of-self c = standing_closed _ c.self.invariant _ _ c.args.tab c.close.ensures.places c.close.ensures.held

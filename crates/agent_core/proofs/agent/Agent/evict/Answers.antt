@@ -1,8 +1,9 @@
-use Rattle.std.proofs.Common.{ap, sym}
+use Rattle.std.proofs.Common.{ap}
 use Rattle.origin_site.specs.Plain.{plain_site}
-use Rattle.live_state.specs.Tabs.{LiveView}
+use Rattle.live_state.specs.Tabs.{PlainLive}
+use Rattle.script_lines.specs.Reply.{Cleared}
 use Rattle.script_lines.specs.Script.{Evict}
-use Rattle.agent_core.specs.Standing.{places_in}
+use Rattle.agent_core.specs.AgentState.{places_in}
 use Rattle.agent_core.proofs.StandingLemmas.{reply_told, runs_from}
 use Rattle.agent_core.proofs.RunsLemmas.{runs_evicted, runs_stays, standing_evicted, standing_stays}
 use Rattle.agent_core.proofs.agent.Agent.evict.Goals as goal
@@ -10,21 +11,21 @@ use Rattle.agent_core.proofs.agent.Agent.evict.Goals as goal
 pub invariant_of-self : goal.invariant_of-self
 invariant_of-self c =
     let evicted = c.in_err-cleared.ensures in
-    standing_stays _ c.self.invariant _ _ (ap (λ (live : LiveView). places_in live.tabs) evicted.live) evicted.unchanged
+    standing_stays _ c.self.invariant _ _ (ap (λ (live : PlainLive). places_in live.tabs) evicted.live) evicted.unchanged
 
 pub returns-in_err-cleared : goal.returns-in_err-cleared
 returns-in_err-cleared c =
     let evicted = c.in_err-cleared.ensures in
     record {
       runs = runs_from c.self.view_is
-          (runs_stays _ c.self.invariant _ _ (ap (λ (live : LiveView). places_in live.tabs) evicted.live) evicted.unchanged
+          (runs_stays _ c.self.invariant _ _ (ap (λ (live : PlainLive). places_in live.tabs) evicted.live) evicted.unchanged
           (Evict (plain_site c.args.site.now)) c.from_residual-in_err-cleared.result c.from_residual-in_err-cleared.ensures.0);
     }
 
 pub invariant_of-self-2 : goal.invariant_of-self-2
 invariant_of-self-2 c =
     let evicted = c.in_ok-cleared.ensures in
-    standing_evicted _ c.self.invariant _ _ (plain_site c.args.site.now) (ap (λ (live : LiveView). places_in live.tabs) evicted.live) evicted.held
+    standing_evicted _ c.self.invariant _ _ (plain_site c.args.site.now) (ap (λ (live : PlainLive). places_in live.tabs) evicted.live) evicted.held
 
 pub returns : goal.returns
 returns c =
@@ -32,6 +33,6 @@ returns c =
     let evicted = c.in_ok-cleared.ensures in
     record {
       runs = runs_from c.self.view_is
-          (runs_evicted _ c.self.invariant _ _ site (ap (λ (live : LiveView). places_in live.tabs) evicted.live) evicted.held c.replied.result
-          (reply_told (Evict site) c.replied.result c.replied.ensures c.in_ok-named.ensures.same (sym evicted.count)));
+          (runs_evicted _ c.self.invariant _ _ site (ap (λ (live : PlainLive). places_in live.tabs) evicted.live) evicted.held c.replied.result
+          (reply_told (Evict site) c.replied.result c.replied.ensures c.in_ok-named.ensures.same (ap Cleared evicted.count)));
     }

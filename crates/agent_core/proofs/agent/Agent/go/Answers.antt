@@ -1,4 +1,4 @@
-use Rattle.std.proofs.Common.{refl, sym}
+use Rattle.std.proofs.Common.{sym}
 use Rattle.origin_site.specs.Plain.{plain_address}
 use Rattle.script_lines.specs.Script.{Go}
 use Rattle.agent_core.proofs.StandingLemmas.{nowhere_is, reply_told, runs_from, runs_still, runs_without_tab, tab_there}
@@ -11,7 +11,7 @@ returns-then-not-is_open c =
     record {
       runs = λ by_page method.
           runs_still c.self.view_is
-          (runs_without_tab (Go tab (plain_address c.args.url.now) by_page method) _ c.refused.result refl (nowhere_is tab _ (sym c.if-not-is_open.ensures.«open»)) c.refused.ensures);
+          (runs_without_tab (Go tab (plain_address c.args.url.now) by_page method) _ c.refused.result (nowhere_is tab _ (sym c.if-not-is_open.ensures.«open»)) c.refused.ensures);
     }
 
 pub returns-in_err-site : goal.returns-in_err-site

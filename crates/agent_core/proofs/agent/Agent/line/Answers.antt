@@ -1,6 +1,6 @@
 use Rattle.std.proofs.Common.{subst, sym}
 use Rattle.script_lines.specs.Plain.{action_of}
-use Rattle.agent_core.specs.Steps.{Runs}
+use Rattle.agent_core.specs.Lines.{Runs}
 use Rattle.agent_core.proofs.agent.Agent.line.Goals as goal
 
 pub returns-in-Open : goal.returns-in-Open

@@ -1,8 +1,8 @@
 use Rattle.std.proofs.Common.{ap, ◌∙◌}
 use Rattle.agent_model.specs.Partition.{no_holdings}
 use Rattle.agent_model.specs.Lines.{no_places}
-use Rattle.agent_model.proofs.WorldBeginningLemmas.{beginning_placed, beginning_whole}
-use Rattle.agent_core.specs.Standing.{places_in}
+use Rattle.one_store.proofs.WorldBeginningLemmas.{beginning_placed, beginning_whole}
+use Rattle.agent_core.specs.AgentState.{places_in}
 use Rattle.agent_core.proofs.OwnedLemmas.{owned_nothing}
 use Rattle.agent_core.proofs.StandingLemmas.{stands, world_is}
 use Rattle.agent_core.proofs.agent.Agent.new.Goals as goal

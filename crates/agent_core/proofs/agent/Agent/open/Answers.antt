@@ -1,9 +1,9 @@
 use Rattle.std.proofs.Common.{◌≡◌, sym, ap, ◌∙◌}
 use Rattle.origin_site.specs.Plain.{plain_address}
 use Rattle.script_lines.specs.Script.{Open}
-use Rattle.agent_model.specs.Sessions.{arrive}
-use Rattle.agent_core.specs.Parts.{held_of}
-use Rattle.agent_core.specs.Steps.{is_there, with_copies}
+use Rattle.agent_model.specs.Sessions.{show}
+use Rattle.agent_core.specs.HoldingsView.{held_of}
+use Rattle.agent_core.specs.Lines.{is_there, with_copies}
 use Rattle.agent_core.proofs.StandingLemmas.{reply_told, runs_from, runs_still}
 use Rattle.agent_core.proofs.RunsLemmas.{runs_stays}
 use Rattle.agent_core.proofs.OpenRunsLemmas.{copied_from, fresh_is, runs_opened, runs_taken, runs_unopened, standing_opened}
@@ -58,12 +58,12 @@ copied_is c =
     ]
 
 held_is : (c : goal.After-replied) → held_of c.show.new.self
-    ≡ (arrive c.self.inside.list.now.rules c.args.tab (plain_address c.args.url.now)
-    (with_copies (copied_from c.args.noopener c.args.opener) c.args.tab c.self.inside.held.live.tabs (held_of c.self.inside.held))).held
+    ≡ (show c.self.inside.list.now.rules c.args.tab (plain_address c.args.url.now)
+    (with_copies (copied_from c.args.noopener c.args.opener) c.args.tab c.self.inside.held.live.tabs (held_of c.self.inside.held)))
 held_is c =
     let here = c.self.inside in
     c.in_ok-site.ensures.held
-    ∙ ap (λ from. (arrive here.list.now.rules c.args.tab (plain_address c.args.url.now) (with_copies from c.args.tab here.held.live.tabs (held_of here.held))).held) (copied_is c)
+    ∙ ap (λ from. show here.list.now.rules c.args.tab (plain_address c.args.url.now) (with_copies from c.args.tab here.held.live.tabs (held_of here.held))) (copied_is c)
 
 pub invariant_of-self-2 : goal.invariant_of-self-2
 invariant_of-self-2 c =

@@ -3,9 +3,9 @@ use Rattle.std.specs.Prelude.{pos}
 use Rattle.script_lines.specs.Reply.{Now}
 use Rattle.script_lines.specs.Script.{Tick}
 use Rattle.agent_model.specs.Isolation.{printed}
-use Rattle.agent_model.proofs.WorldLemmas.{told_nowhere}
-use Rattle.agent_core.specs.Standing.{AgentState}
-use Rattle.agent_core.specs.Steps.{Runs}
+use Rattle.one_store.proofs.WorldLemmas.{told_nowhere}
+use Rattle.agent_core.specs.AgentState.{AgentState}
+use Rattle.agent_core.specs.Lines.{Runs}
 use Rattle.agent_core.proofs.StandingLemmas.{runs_from}
 use Rattle.agent_core.proofs.RunsLemmas.{runs_ticked}
 use Rattle.agent_core.proofs.agent.Agent.tick.Goals as goal

@@ -1,7 +1,7 @@
 use Rattle.std.proofs.Common.{ap, sym, subst, ◌∙◌}
-use Rattle.page_storage.specs.Stored.{held_with, without_areas}
-use Rattle.agent_core.specs.Kept.{AreTrees}
-use Rattle.agent_core.specs.Standing.{places_in, tabs_in}
+use Rattle.web_storage.specs.Stored.{held_with, without_areas}
+use Rattle.agent_core.specs.FrameTrees.{AreTrees}
+use Rattle.agent_core.specs.AgentState.{places_in, tabs_in}
 use Rattle.agent_core.proofs.TabLemmas.{places_after_close, tabs_after_close}
 use Rattle.agent_core.proofs.TreeLemmas.{trees_after_close}
 use Rattle.agent_core.proofs.holdings.Holdings.close.Goals as goal

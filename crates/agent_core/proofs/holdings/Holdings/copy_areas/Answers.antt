@@ -1,8 +1,8 @@
 use Rattle.std.proofs.Common.{ap, ◌∙◌}
 use Rattle.agent_model.specs.Sessions.{has_session}
-use Rattle.page_storage.specs.Stored.{held_with}
-use Rattle.agent_core.specs.Kept.{HoldingsView}
-use Rattle.agent_core.specs.Parts.{held_of}
+use Rattle.web_storage.specs.Stored.{held_with}
+use Rattle.agent_core.specs.HoldingsView.{HoldingsView}
+use Rattle.agent_core.specs.HoldingsView.{held_of}
 use Rattle.agent_core.proofs.holdings.Holdings.copy_areas.Goals as goal
 
 pub copy_tab-requires : goal.copy_tab-requires

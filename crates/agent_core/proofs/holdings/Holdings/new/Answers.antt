@@ -1,6 +1,6 @@
 use Rattle.std.proofs.Common.{ap, ◌∙◌}
 use Rattle.agent_model.specs.Partition.{no_holdings}
-use Rattle.agent_core.specs.Standing.{tabs_in}
+use Rattle.agent_core.specs.AgentState.{tabs_in}
 use Rattle.agent_core.proofs.holdings.Holdings.new.Goals as goal
 
 pub returns-clause-held : goal.returns-clause-held

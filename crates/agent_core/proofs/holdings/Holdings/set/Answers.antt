@@ -3,13 +3,18 @@ use Rattle.std.proofs.Common.{Some, ap, sym, subst, ◌∙◌}
 use Rattle.std.proofs.lemmas.Bool.{true≢false}
 use Rattle.std.specs.Prelude.{option_copied}
 use Rattle.storage_key.specs.Plain.{plain_key}
-use Rattle.storage_events.specs.Event.{EventView}
+use Rattle.storage_events.specs.Event.{PlainEvent}
 use Rattle.agent_model.specs.Documents.{Keyed}
-use Rattle.agent_model.specs.SiteEvent.{Done}
-use Rattle.agent_core.specs.Parts.{held_of}
-use Rattle.agent_core.specs.Steps.{Acts, put_told}
+use Rattle.agent_model.specs.Done.{Done, no_shared_cells}
+use Rattle.agent_core.specs.Documents.{each_told}
+use Rattle.agent_core.specs.HoldingsView.{held_of}
+use Rattle.agent_core.specs.Actions.{Acts}
+use Rattle.agent_core.proofs.ToldLemmas.{labels_sent}
 use Rattle.agent_core.proofs.WriteLemmas.{is_set}
 use Rattle.agent_core.proofs.holdings.Holdings.set.Goals as goal
+
+pub store-requires-clause-labels : goal.store-requires-clause-labels
+store-requires-clause-labels c = labels_sent _ c.as_slice.result.now c.in_ok-events.events.items c.in_ok-events.ensures.events ∙ c.as_slice.ensures.value
 
 pub returns : goal.returns
 returns c = record {
@@ -18,10 +23,12 @@ returns c = record {
       let name = c.args.name.now in
       let value = c.args.value.now in
       let old = c.args.self.now in
-      let writer : Keyed = record { at = c.args.at; document = document; key = plain_key c.args.key } in
+      let writer : Keyed = record { at = c.args.at; document = document; key = plain_key c.args.key.now } in
       let found = option_copied c.value-before.result in
-      let event = c.in_ok-event.ensures.event
-      ∙ ap {B = EventView} (λ url. record { area = area; key = Some name; before = found; after = Some value; url = url }) (c.url.ensures.url document there) in
-      subst (λ (d : Done). Acts (λ _. d) old c.store.new.self c.store.result) (is_set area writer name (held_of old) value found (λ equal. true≢false (sym (c.if-is_text.ensures.1 equal))) c.value-before.ensures.value)
-      (subst (λ (e : EventView). Acts (put_told e.area name value e writer) old c.store.new.self c.store.result) event (c.store.ensures.acts document there));
+      let told : PlainEvent = record { area = area; key = Some name; before = found; after = Some value; url = document.address.text } in
+      let these = c.in_ok-events.ensures.events
+      ∙ ap (λ url. each_told (record { area = area; key = Some name; before = found; after = Some value; url = url }) c.as_slice.result.now) (c.url-url.ensures.url document there)
+      ∙ ap (each_told told) c.as_slice.ensures.value in
+      subst (λ (d : Done). Acts (λ _ _. d) old c.store.new.self c.store.result) (is_set area writer name no_shared_cells (held_of old) value found (λ equal. true≢false (sym (c.if-is_text.ensures.1 equal))) c.value-before.ensures.value)
+      (c.store.ensures.acts told these document there);
 }

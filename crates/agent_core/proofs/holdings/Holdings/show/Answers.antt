@@ -2,14 +2,14 @@ use Rattle.std.proofs.Common.{List, Some, refl, ap, ◌∙◌}
 use Rattle.origin_site.specs.Plain.{plain_address}
 use Rattle.origin_site.specs.Site.{site_of_address}
 use Rattle.frame_tree.specs.Calls.{opened}
-use Rattle.live_state.specs.Tabs.{LiveView, PlainTab, tabs_put}
-use Rattle.page_storage.specs.Stored.{held_with}
+use Rattle.live_state.specs.Tabs.{PlainLive, PlainTab, tabs_put}
+use Rattle.web_storage.specs.Stored.{held_with}
 use Rattle.agent_model.specs.Lines.{placed}
-use Rattle.agent_model.specs.Sessions.{arrive}
-use Rattle.agent_core.specs.Kept.{HoldingsView}
-use Rattle.agent_core.specs.Parts.{held_of}
-use Rattle.agent_core.specs.Standing.{places_in, tabs_in}
-use Rattle.agent_core.specs.Steps.{with_copies}
+use Rattle.agent_model.specs.Sessions.{show}
+use Rattle.agent_core.specs.HoldingsView.{HoldingsView}
+use Rattle.agent_core.specs.HoldingsView.{held_of}
+use Rattle.agent_core.specs.AgentState.{places_in, tabs_in}
+use Rattle.agent_core.specs.Lines.{with_copies}
 use Rattle.agent_core.proofs.DoneLemmas.{shown_held, shown_places, shown_trees}
 use Rattle.agent_core.proofs.holdings.Holdings.show.Goals as goal
 
@@ -32,7 +32,7 @@ returns-clause-held c =
     (c.put_tab.ensures.put
     ∙ ap (λ frames. tabs_put c.args.tab frames (Some 0) middle.live.tabs) (c.in_ok-made.ensures.opened ∙ ap (opened rules) c.in_ok-copy.ensures.same))
     refl
-    ∙ ap (λ h. (arrive rules c.args.tab (plain_address c.args.url.now) h).held)
+    ∙ ap (λ h. show rules c.args.tab (plain_address c.args.url.now) h)
     (ap held_of c.self-2.view_is ∙ c.in_ok-copy_areas.ensures.held
     ∙ ap (λ (tabs : List PlainTab). with_copies c.args.opener c.args.tab tabs (held_with (tabs_in tabs) c.self.inside.storage)) c.in_ok-reserve.ensures.same.0
     ∙ ap (λ (h : HoldingsView). with_copies c.args.opener c.args.tab h.live.tabs (held_of h)) c.self.view_is)
@@ -46,5 +46,5 @@ returns-clause-places c =
     (c.put_tab.ensures.put
     ∙ ap (λ frames. tabs_put c.args.tab frames (Some 0) middle.live.tabs) (c.in_ok-made.ensures.opened ∙ ap (opened rules) c.in_ok-copy.ensures.same))
     ∙ ap (λ (tabs : List PlainTab). placed c.args.tab (site_of_address rules (plain_address c.args.url.now)) (places_in tabs))
-    (ap (λ (h : HoldingsView). h.live.tabs) c.self-2.view_is ∙ ap (λ (l : LiveView). l.tabs) c.in_ok-copy_areas.ensures.live
+    (ap (λ (h : HoldingsView). h.live.tabs) c.self-2.view_is ∙ ap (λ (l : PlainLive). l.tabs) c.in_ok-copy_areas.ensures.live
     ∙ c.in_ok-reserve.ensures.same.0 ∙ ap (λ (h : HoldingsView). h.live.tabs) c.self.view_is)

@@ -4,8 +4,8 @@ use Rattle.origin_site.specs.Site.{PlainSite}
 use Rattle.frame_tree.specs.Tree.{top_site}
 use Rattle.live_state.specs.Tabs.{PlainTab, tab_at}
 use Rattle.agent_model.specs.Lines.{site_at}
-use Rattle.agent_core.specs.Kept.{HoldingsView}
-use Rattle.agent_core.specs.Standing.{places_in}
+use Rattle.agent_core.specs.HoldingsView.{HoldingsView}
+use Rattle.agent_core.specs.AgentState.{places_in}
 use Rattle.agent_core.proofs.LiveLemmas.{site_found, site_of}
 use Rattle.agent_core.proofs.holdings.Holdings.site.Goals as goal
 
@@ -21,12 +21,12 @@ site_shown number tabs = at (tab_at number tabs) ∙ sym (site_found number tabs
 seen_at : (number : ℕ) (held seen : HoldingsView) (site : Option PlainSite) → held ≡ seen → site ≡ site_at number (places_in held.live.tabs) → site ≡ site_at number (places_in seen.live.tabs)
 seen_at number held seen site same is = subst (λ (h : HoldingsView). site ≡ site_at number (places_in h.live.tabs)) same is
 
-pub returns-in_ok-site_of_tab-in-Some : goal.returns-in_ok-site_of_tab-in-Some
-returns-in_ok-site_of_tab-in-Some c =
+pub returns-in_ok-copy-in-Some : goal.returns-in_ok-copy-in-Some
+returns-in_ok-copy-in-Some c =
     let tabs = c.self.inside.live.tabs in
     record {
       site = seen_at c.args.tab _ _ _ c.self.view_is
-          (sym c.in_ok-site_of_tab-in-Some.ensures.site ∙ ap (option_and_then top_site) c.in-Some.ensures.tab ∙ site_shown c.args.tab tabs);
+          (ap Some c.in_ok-copy-in-Some.ensures.same ∙ sym c.top_site.ensures.site ∙ ap (option_and_then top_site) c.in-Some.ensures.tab ∙ site_shown c.args.tab tabs);
     }
 
 pub returns-in-None : goal.returns-in-None

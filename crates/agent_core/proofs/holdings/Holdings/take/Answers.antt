@@ -3,7 +3,8 @@ use Rattle.frame_tree.specs.Tree.{has_frame}
 use Rattle.live_state.specs.Queues.{frames_by, has_document}
 use Rattle.live_state.specs.Tabs.{PlainTab}
 use Rattle.script_lines.specs.Reply.{Events}
-use Rattle.agent_core.specs.Kept.{AreTrees, HoldingsView}
+use Rattle.agent_core.specs.FrameTrees.{AreTrees}
+use Rattle.agent_core.specs.HoldingsView.{HoldingsView}
 use Rattle.agent_core.proofs.DoneLemmas.{taken_done}
 use Rattle.agent_core.proofs.TreeLemmas.{trees_after_take}
 use Rattle.agent_core.proofs.holdings.Holdings.take.Goals as goal

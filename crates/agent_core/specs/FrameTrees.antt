@@ -1,12 +1,10 @@
--- What the agent keeps of its open tabs.
+-- The frames of open tabs: a tree, whose frames have numbers.
 -- Source: HTML, "Navigables", parent, ancestor and descendant navigables.
 -- Our own choice: a frame has a number from 0 to 255.
 use Rattle.std.specs.Prelude.{◌≡◌, ℕ, Bool, true, nat_lt, List, Option, Some, None}
 use Rattle.std.specs.List.{list_all}
 use Rattle.frame_tree.specs.Tree.{IsTree, PlainFrame}
-use Rattle.live_state.specs.Tabs.{LiveView, PlainTab, tab_at}
-use Rattle.page_storage.specs.Stored.{Entries}
-use Rattle.script_lines.specs.Script.{PlainAction, Frame}
+use Rattle.live_state.specs.Tabs.{PlainTab, tab_at}
 
 -- how many numbers a frame can have
 abbrev pub most_frames : ℕ
@@ -15,11 +13,6 @@ most_frames = 256
 -- the frames have such numbers
 abbrev pub are_numbered : List PlainFrame → Bool
 are_numbered frames = list_all (λ f. nat_lt f.frame most_frames) frames
-
--- the number of a frame that an action adds is one that a frame can have
-abbrev pub adds_number : PlainAction → Bool
-adds_number (Frame at parent url sandbox deny) = nat_lt at.frame most_frames
-adds_number action = true
 
 -- the frames of an open tab
 pub record IsFrameTree (frames : List PlainFrame) : Type 0 where
@@ -34,8 +27,3 @@ IsFrameTreeAt (Some tab) = IsFrameTree tab.frames
 -- every open tab has such frames
 abbrev pub AreTrees : List PlainTab → Type 0
 AreTrees tabs = (number : ℕ) → IsFrameTreeAt (tab_at number tabs)
-
--- what is held for all sites, as contracts see it
-pub record HoldingsView : Type 0 where
-  pub live : LiveView
-  pub storage : Entries

@@ -7,12 +7,13 @@ use Rattle.suffix_list.specs.Suffix.{Rule}
 use Rattle.origin_site.specs.Site.{PlainSite}
 use Rattle.frame_tree.specs.Tree.{top_site}
 use Rattle.live_state.specs.Tabs.{PlainTab}
-use Rattle.page_storage.specs.Stored.{Entries, held_with}
+use Rattle.web_storage.specs.Stored.{Entries, held_with}
 use Rattle.agent_model.specs.Partition.{Tabs, Holdings, tab_named}
+use Rattle.agent_model.specs.Done.{no_shared_cells}
 use Rattle.agent_model.specs.Lines.{Places, AgentWorld, no_places, placed}
 use Rattle.agent_model.specs.Rest.{last_moment}
 use Rattle.agent_model.specs.Sessions.{has_session}
-use Rattle.agent_model.specs.Whole.{IsPlaced, whole_world}
+use Rattle.one_store.specs.WholeWorld.{IsPlaced, whole_world}
 
 -- the agent: the rules of its list, the clock, the open tabs in the order of their numbers, and the
 -- entries of its storage
@@ -51,6 +52,7 @@ pub record IsStanding (state : AgentState) : Type 0 where
   pub placed_all : IsPlaced (places_in state.tabs) (held_in state)
   pub owned : AreOwned (held_in state)
 
--- the world that the agent stands for
+-- the world that the agent stands for. No cell is shared between sites.
 unfoldable pub world_of : AgentState → AgentWorld
-world_of state = whole_world state.now (places_in state.tabs) (held_in state)
+world_of state =
+    whole_world state.now (places_in state.tabs) no_shared_cells (held_in state)

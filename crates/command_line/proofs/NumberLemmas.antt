@@ -9,7 +9,7 @@ use Rattle.std.proofs.lemmas.Bool.{and_parts, cases_lt, leb-true, lt-leb, ne_eqb
 use Rattle.std.proofs.lemmas.Bool.Decides.{nat_tests}
 use Rattle.command_line.specs.Words.{is_digit, is_number, most_digits, number_of, up_to}
 
-digit_bounds : (b : ℕ) → is_digit b ≡ true → (48 ≤ b) × (b ≤ 57)
+pub digit_bounds : (b : ℕ) → is_digit b ≡ true → (48 ≤ b) × (b ≤ 57)
 digit_bounds b is =
     let parts = and_parts (nat_le 48 b) (nat_le b 57) is in
     (leb-true 48 b parts.0, leb-true b 57 parts.1)
@@ -33,7 +33,7 @@ no_plus (b ∷ text) is =
     let other : (b == 43) ≡ false = ne_eqb b 43 (λ e. omega (arith, low, e)) in
     ap (λ plus. drop (cond plus 1 0) (b ∷ text)) other
 
-digits : (text : List ℕ) → is_number text ≡ true → list_all is_digit text ≡ true
+pub digits : (text : List ℕ) → is_number text ≡ true → list_all is_digit text ≡ true
 digits text is = (and_parts (nat_le (length text) most_digits) (list_all is_digit text) (and_parts (nat_le 1 (length text)) _ is).1).1
 
 numeral : (text : List ℕ) → is_number text ≡ true → IsNumeral 10 text

@@ -2,7 +2,7 @@
 use Rattle.std.proofs.Common.{◌≡◌, ◌<◌, ◌≤◌, ◌-◌, List, [], ◌∷◌, length, take, drop, map, get_or, String, string_bytes}
 use Rattle.std.proofs.Common.{Some, None, option_and_then, refl, ap, sym, ◌∙◌, arith, take_all}
 use Rattle.std.specs.declared.alloc.Global.{Global}
-use Rattle.command_line.specs.Words.{options_from, with_option}
+use Rattle.command_line.specs.Walk.{options_from, with_option}
 use Rattle.command_line.specs.declared.options.Options.{Options}
 
 -- no words are left

@@ -1,22 +1,22 @@
 -- Words and numbers of the command line, so that a wrong rule in the specs does not check.
 use Rattle.std.proofs.Common.{◌≡◌, refl, [], ◌∷◌, Some, None, arith}
 use Rattle.std.specs.Prelude.{codes}
-use Rattle.command_line.specs.Words.{StartsInTime, command_of, number_of, options_from, Help, Replay}
+use Rattle.command_line.specs.Words.{StartsInTime, command_of, have_distinct_names, number_of, pairs_of, Help, Replay}
 
 alone : command_of (codes "replay" ∷ codes "l" ∷ []) ≡ Some (Replay (codes "l") 1767225600)
-unfolding options_from
+unfolding pairs_of have_distinct_names
 alone = refl
 
 started : command_of (codes "replay" ∷ codes "l" ∷ codes "--start" ∷ codes "5" ∷ []) ≡ Some (Replay (codes "l") 5)
-unfolding options_from
+unfolding pairs_of have_distinct_names
 started = refl
 
 started_twice : command_of (codes "replay" ∷ codes "l" ∷ codes "--start" ∷ codes "5" ∷ codes "--start" ∷ codes "5" ∷ []) ≡ None
-unfolding options_from
+unfolding pairs_of have_distinct_names
 started_twice = refl
 
 as_one_word : command_of (codes "replay" ∷ codes "l" ∷ codes "--start=5" ∷ []) ≡ None
-unfolding options_from
+unfolding pairs_of have_distinct_names
 as_one_word = refl
 
 bare : command_of (codes "replay" ∷ []) ≡ None

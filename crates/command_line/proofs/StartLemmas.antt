@@ -1,10 +1,11 @@
 -- The clock of a command begins at a moment up to the last.
-use Rattle.std.proofs.Common.{◌≡◌, ℕ, ◌≤◌, Bool, true, false, cond, List, [], ◌∷◌, Option, Some, None, IfSome, option_and_then, option_map, unwrap_or, refl}
-use Rattle.std.specs.Prelude.{bytes_eq, codes, is_some, nat_le}
+use Rattle.std.proofs.Common.{◌≡◌, ℕ, ◌≤◌, Bool, true, false, cond, ◌&&◌, List, [], ◌∷◌, Option, Some, None, IfSome, option_and_then, option_map, unwrap_or, refl}
+use Rattle.std.specs.Prelude.{bytes_eq, codes, nat_le}
+use Rattle.std.specs.List.{list_all}
 use Rattle.std.specs.Str.Parse.{digits_value}
 use Rattle.std.proofs.lemmas.Bool.{leb-true}
 use Rattle.command_line.specs.declared.options.Options.{Options}
-use Rattle.command_line.specs.Words.{Help, Replay, StartsInTime, command_of, default_start, is_number, is_path, last_start, no_options, number_of, options_from, replay_of, up_to, with_option, with_start}
+use Rattle.command_line.specs.Words.{Help, Pair, Replay, StartsInTime, command_of, default_start, have_distinct_names, is_number, is_option, is_path, last_start, number_of, options_in, options_of, pairs_of, replay_of, up_to, value_named}
 
 -- options without a start, or with one up to the last
 abbrev AreInTime : Options → Type 0
@@ -21,32 +22,20 @@ number_in_time text = at (is_number text)
     at true = up (nat_le (digits_value 10 text) last_start) refl
     at false = tt
 
-start_in_time : (options : Options) (start : Option ℕ) → IfSome start (λ n. n ≤ last_start) → IfSome (option_and_then (with_start options) start) AreInTime
-start_in_time options None is = tt
-start_in_time options (Some n) is = at (is_some options.start)
-  where
-    at : (b : Bool) → IfSome (cond b None (Some (record { start = Some n }))) AreInTime
-    at true = tt
-    at false = is
+value_in_time : (value : Option (List ℕ)) → IfSome (option_and_then (number_of last_start) value) (λ n. n ≤ last_start)
+value_in_time None = tt
+value_in_time (Some text) = number_in_time text
 
-option_in_time : (options : Options) (name value : List ℕ) → IfSome (with_option options name value) AreInTime
-option_in_time options name value = at (bytes_eq name (codes "--start"))
+options_in_time : (words : List (List ℕ)) → IfSome (options_of words) AreInTime
+options_in_time words = at (pairs_of words)
   where
-    at : (b : Bool) → IfSome (cond b (option_and_then (with_start options) (number_of last_start value)) None) AreInTime
-    at true = start_in_time options (number_of last_start value) (number_in_time value)
-    at false = tt
+    chosen : (pairs : List Pair) (b : Bool) → IfSome (cond b (Some (options_in pairs)) None) AreInTime
+    chosen pairs true = value_in_time (value_named (codes "--start") pairs)
+    chosen pairs false = tt
 
-options_in_time : (words : List (List ℕ)) (options : Options) → AreInTime options → IfSome (options_from options words) AreInTime
-unfolding options_from
-options_in_time [] options is = is
-options_in_time (name ∷ []) options is = tt
-options_in_time (name ∷ value ∷ words) options is =
-    more (with_option options name value) (option_in_time options name value) (λ made. options_in_time words made)
-  where
-    more : (made : Option Options) → IfSome made AreInTime → ((after : Options) → AreInTime after → IfSome (options_from after words) AreInTime)
-        → IfSome (option_and_then (λ after. options_from after words) made) AreInTime
-    more None is later = tt
-    more (Some after) is later = later after is
+    at : (pairs : Option (List Pair)) → IfSome (option_and_then (λ ps. cond (have_distinct_names ps && list_all is_option ps) (Some (options_in ps)) None) pairs) AreInTime
+    at None = tt
+    at (Some pairs) = chosen pairs (have_distinct_names pairs && list_all is_option pairs)
 
 replay_in_time : (path : List ℕ) (words : List (List ℕ)) → IfSome (replay_of path words) StartsInTime
 replay_in_time path words = at (is_path path)
@@ -59,8 +48,8 @@ replay_in_time path words = at (is_path path)
     run None is = tt
     run (Some options) is = begun options.start is
 
-    at : (b : Bool) → IfSome (cond b (option_map (λ o. Replay path (unwrap_or o.start default_start)) (options_from no_options words)) None) StartsInTime
-    at true = run (options_from no_options words) (options_in_time words no_options tt)
+    at : (b : Bool) → IfSome (cond b (option_map (λ o. Replay path (unwrap_or o.start default_start)) (options_of words)) None) StartsInTime
+    at true = run (options_of words) (options_in_time words)
     at false = tt
 
 pub command_in_time : (words : List (List ℕ)) → IfSome (command_of words) StartsInTime

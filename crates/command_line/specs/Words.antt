@@ -1,10 +1,11 @@
 -- The words of the command line, without the program's name, that are a command.
 -- Our own choice: all of it. Options follow the other words, in any order, each at most once, name
 -- and value as two words. A number is 1 to 12 ASCII digits, and may begin with zeros.
-use Rattle.std.specs.Prelude.{ℕ, ◌≤◌, Bool, false, not, ◌&&◌, ◌==◌, nat_le, List, [], ◌∷◌, length, codes}
+use Rattle.std.specs.Prelude.{ℕ, ◌≤◌, Bool, true, false, not, ◌&&◌, ◌==◌, nat_le}
+use Rattle.std.specs.Prelude.{List, [], ◌∷◌, length, codes}
 use Rattle.std.specs.Prelude.{bytes_eq, Option, Some, None, option_and_then, option_map, unwrap_or}
-use Rattle.std.specs.Prelude.{is_some, if◌then◌else◌}
-use Rattle.std.specs.List.{list_all}
+use Rattle.std.specs.Prelude.{find, is_some, if◌then◌else◌}
+use Rattle.std.specs.List.{list_all, list_any}
 use Rattle.std.specs.Str.Parse.{digits_value}
 use Rattle.command_line.specs.declared.options.Options.{Options}
 
@@ -46,27 +47,46 @@ last_start = 253402300799
 abbrev pub default_start : ℕ
 default_start = 1767225600
 
--- no option
-abbrev pub no_options : Options
-no_options = record { start = None }
+-- an option: its name, and behind it its value
+abbrev pub Pair : Type 0
+Pair = List ℕ × List ℕ
 
--- these options with a start, which lacks in them
-abbrev pub with_start : Options → ℕ → Option Options
-with_start options start =
-    if is_some options.start then None else Some (record { start = Some start })
+-- the words by twos; none where one is left over
+unfoldable pub pairs_of : List (List ℕ) → Option (List Pair)
+pairs_of [] = Some []
+pairs_of (name ∷ []) = None
+pairs_of (name ∷ value ∷ words) = option_map (λ pairs. (name, value) ∷ pairs) (pairs_of words)
 
--- these options with one more, of this name and value
-abbrev pub with_option : Options → List ℕ → List ℕ → Option Options
-with_option options name value =
-    if bytes_eq name (codes "--start") then option_and_then (with_start options) (number_of last_start value)
-    else None
+-- the pair has this name
+abbrev pub is_named : List ℕ → Pair → Bool
+is_named name pair = bytes_eq pair.0 name
 
--- these options with those of the words, names and values by turns
-unfoldable pub options_from : Options → List (List ℕ) → Option Options
-options_from options [] = Some options
-options_from options (name ∷ []) = None
-options_from options (name ∷ value ∷ words) =
-    option_and_then (λ more. options_from more words) (with_option options name value)
+-- each name stands once
+unfoldable pub have_distinct_names : List Pair → Bool
+have_distinct_names [] = true
+have_distinct_names (pair ∷ pairs) =
+    not (list_any (is_named pair.0) pairs) && have_distinct_names pairs
+
+-- the value of the first pair of a name
+abbrev pub value_named : List ℕ → List Pair → Option (List ℕ)
+value_named name pairs = option_map (λ pair. pair.1) (find (is_named name) pairs)
+
+-- the pair is an option of a run, and its value a number in its range
+abbrev pub is_option : Pair → Bool
+is_option pair =
+    is_named (codes "--start") pair && is_some (number_of last_start pair.1)
+
+-- the options that the pairs give
+abbrev pub options_in : List Pair → Options
+options_in pairs = record {
+  start = option_and_then (number_of last_start) (value_named (codes "--start") pairs);
+}
+
+-- the options that the words are: each at most once, in any order
+abbrev pub options_of : List (List ℕ) → Option Options
+options_of words = option_and_then
+    (λ pairs. if have_distinct_names pairs && list_all is_option pairs then Some (options_in pairs)
+    else None) (pairs_of words)
 
 -- ---- commands
 
@@ -74,6 +94,11 @@ options_from options (name ∷ value ∷ words) =
 pub data PlainCommand : Type 0 where
   Help : PlainCommand
   Replay : (list : List ℕ) (start : ℕ) → PlainCommand
+
+-- the command is a run
+abbrev pub IsReplay : PlainCommand → Type 0
+IsReplay Help = ⊥
+IsReplay (Replay list start) = Unit {0}
 
 -- the clock of a command begins at a moment up to the last
 abbrev pub StartsInTime : PlainCommand → Type 0
@@ -84,7 +109,7 @@ StartsInTime (Replay list start) = start ≤ last_start
 abbrev pub replay_of : List ℕ → List (List ℕ) → Option PlainCommand
 replay_of path words =
     if is_path path then option_map (λ options. Replay path (unwrap_or options.start default_start))
-    (options_from no_options words)
+    (options_of words)
     else None
 
 -- the command that words are

@@ -1,5 +1,6 @@
 //! Commands.
-ghost use Rattle.std.specs.Prelude.{◌≡◌, ◌∷◌, [], IfErr, IfOk, IfSome, IsSome, map, option_map, string_bytes};
+ghost use Rattle.std.specs.Prelude.{◌≡◌, ◌∷◌, [], IfOk, IfSome, IsSome, OnErr};
+ghost use Rattle.std.specs.Prelude.{map, option_map, string_bytes};
 ghost use Rattle.command_line.specs.Plain.{plain_command};
 ghost use Rattle.command_line.specs.Words as spec;
 
@@ -24,13 +25,15 @@ pub enum Command<'a> {
 
 /// The command that words are, without the program's name; and `None` where they are none.
 ///
-/// Words that are a run are taken apart by the crate `clap` besides. Where it refuses them, or
-/// reads another value, the answer is want of memory.
+/// Words that are a run are taken apart by the crate `clap` besides, which reads the same from
+/// them, and refuses them only for want of memory.
 pub fn read_words<'a>(alloc: Global, words: &'a [String]) -> Result<Option<Command<'a>>, NoMemory>
     ensures value { IfOk result
         (λ c. option_map plain_command c ≡ spec.command_of (map string_bytes words.now)) }
     ensures start { IfOk result (λ c. IfSome (option_map plain_command c) spec.StartsInTime) }
-    ensures refused { IfErr result (λ _. IsSome (spec.command_of (map string_bytes words.now))) }
+    ensures refused { OnErr result
+        (IfSome (spec.command_of (map string_bytes words.now)) spec.IsReplay) }
+    ensures command { OnErr result (IsSome (spec.command_of (map string_bytes words.now))) }
 {
     match command_in(words) {
         Some(command) if confirms(alloc, words, command) => Ok(Some(command)),
@@ -70,7 +73,8 @@ fn run<'a>(word: &str, path: &'a str, rest: &[String]) -> Option<Command<'a>>
 }
 
 fn replay<'a>(path: &'a str, rest: &[String]) -> Option<Command<'a>>
-    ensures { option_map plain_command result ≡ spec.replay_of path.now (map string_bytes rest.now) }
+    ensures { option_map plain_command result
+        ≡ spec.replay_of path.now (map string_bytes rest.now) }
 {
     if !is_path(path) {
         return None;

@@ -1,5 +1,6 @@
 //! The options behind the other words.
 ghost use Rattle.std.specs.Prelude.{◌≡◌, map, string_bytes};
+ghost use Rattle.command_line.specs.Walk as walk;
 ghost use Rattle.command_line.specs.Words as spec;
 
 use crate::numbers::number;
@@ -18,7 +19,7 @@ pub struct Options {
 
 /// The options of these words, names and values by turns.
 pub fn read_options(words: &[String]) -> Option<Options>
-    ensures { result ≡ spec.options_from spec.no_options (map string_bytes words.now) }
+    ensures { result ≡ spec.options_of (map string_bytes words.now) }
 {
     let mut options = Options { start: None };
     let mut rest = words;
@@ -38,7 +39,7 @@ pub fn read_options(words: &[String]) -> Option<Options>
 }
 
 fn with_option(options: Options, name: &str, value: &str) -> Option<Options>
-    ensures { result ≡ spec.with_option options name.now value.now }
+    ensures { result ≡ walk.with_option options name.now value.now }
 {
     if name != "--start" {
         return None;
@@ -50,7 +51,7 @@ fn with_option(options: Options, name: &str, value: &str) -> Option<Options>
 }
 
 fn with_start(options: Options, start: u64) -> Option<Options>
-    ensures { result ≡ spec.with_start options start }
+    ensures { result ≡ walk.with_start options start }
 {
     match options.start {
         Some(_) => None,

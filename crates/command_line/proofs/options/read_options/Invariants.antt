@@ -1,5 +1,5 @@
 use Rattle.std.proofs.Common.{◌≡◌, length, map, string_bytes}
-use Rattle.command_line.specs.Words.{no_options, options_from}
+use Rattle.command_line.specs.Walk.{no_options, options_from}
 use Rattle.command_line.proofs.options.read_options.Given as goal
 
 abbrev pub invariant-pairs : goal.invariant-pairs

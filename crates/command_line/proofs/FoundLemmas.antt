@@ -1,0 +1,33 @@
+-- A value that a parse found, by its name.
+use Rattle.std.proofs.Common.{◌≡◌, Bool, true, false, cond, List, [], ◌∷◌, Option, Some, None, find, map, option_and_then, option_map, refl}
+use Rattle.std.specs.Prelude.{bytes_eq, slice_get}
+use Rattle.std.specs.Borrow.{Bor}
+use Rattle.clap.specs.Facts.{Entry}
+use Rattle.clap.specs.Walk.{Row, Text, first_of, row_of, rows_of}
+use Rattle.clap.specs.Matches.{first_value}
+use Rattle.clap.specs.declared.parser.matches.Found.{Found}
+use Rattle.command_line.specs.Program.{found_in}
+
+first_text : (vals : List (Bor Text)) → option_map (λ s. s.now) (slice_get vals 0) ≡ slice_get (map (λ s. s.now) vals) 0
+first_text [] = refl
+first_text (val ∷ vals) = refl
+
+-- the first value among the entries is that among their rows
+first_in : (entries : List Entry) (id : Text)
+    → option_and_then (λ a. option_map (λ s. s.now) (slice_get a.vals.items 0)) (option_map (λ e. e.1) (find (λ e. bytes_eq e.0.now id) entries))
+    ≡ first_of id (map row_of entries)
+first_in [] id = refl
+first_in (entry ∷ entries) id = at (bytes_eq entry.0.now id) (first_in entries id)
+  where
+    at : (b : Bool) → option_and_then (λ a. option_map (λ s. s.now) (slice_get a.vals.items 0)) (option_map (λ e. e.1) (find (λ e. bytes_eq e.0.now id) entries)) ≡ first_of id (map row_of entries)
+        → option_and_then (λ a. option_map (λ s. s.now) (slice_get a.vals.items 0)) (option_map (λ e. e.1) (cond b (Some entry) (find (λ e. bytes_eq e.0.now id) entries)))
+        ≡ option_and_then (λ r. slice_get r.values 0) (cond b (Some (row_of entry)) (find (λ r. bytes_eq r.id id) (map row_of entries)))
+    at true later = first_text entry.1.vals.items
+    at false later = later
+
+pub first_value_is : (found : Found) (id : Text) → first_value found id ≡ first_of id (rows_of found)
+first_value_is found id = first_in found.entries.items id
+
+pub found_by_rows : (name : Text) (met : Option (Text × List Row)) → option_and_then (first_of name) (option_map (λ command. command.1) met) ≡ found_in name met
+found_by_rows name None = refl
+found_by_rows name (Some command) = refl

@@ -16,7 +16,7 @@ use Rattle.agent_model.specs.Lines.{AgentWorld}
 use Rattle.agent_model.specs.TheMachine.{machine, beginning}
 use Rattle.agent_model.specs.Isolation.{printed, text_of, replies_to, transcript}
 use Rattle.replay.specs.Loop.{acted}
-use Rattle.replay.proofs.PrefixLemmas.{prefix_front, prefix_then}
+use Rattle.replay.proofs.PrefixLemmas.{prefix_front, prefix_longer}
 
 acted_more : (lines : List Line) (i : ℕ) (d : Line) → i < length lines → acted (take (i + 1) lines) ≡ acted (take i lines) ++ action_of (get_or lines i d).action ∷ []
 acted_more lines i d h = ap acted (take_more lines i d h) ∙ map-append (λ line. action_of line.action) (take i lines) (get_or lines i d ∷ [])
@@ -73,19 +73,12 @@ module _ (rules : List Rule) (start : ℕ) where
       ∙ ap (transcript rules start) (map-append (λ line. action_of line.action) (take i lines) (drop i lines))
       ∙ text_split (acted (take i lines)) (acted (drop i lines))
 
-  -- where a line's text was taken in part, the whole text was
-  pub stopped_in_line : (lines : List Line) (i : ℕ) (d : Line) (a b c : Option (List ℕ)) → i < length lines
-      → Takes a b (transcript rules start (acted (take i lines)))
-      → TakesPrefix b c (line_text (world_at (acted (take i lines))) (action_of (get_or lines i d).action))
-      → TakesPrefix a c (transcript rules start (acted lines))
-  stopped_in_line lines i d a b c h takes prefix =
-      let front = transcript rules start (acted (take i lines)) in
-      let piece = line_text (world_at (acted (take i lines))) (action_of (get_or lines i d).action) in
-      subst (TakesPrefix a c)
-      (sym (text_whole lines (i + 1) ∙ ap (λ t. t ++ text_rest lines (i + 1)) (text_more lines i d h) ∙ append_assoc front piece (text_rest lines (i + 1))))
-      (prefix_then a b c front piece (text_rest lines (i + 1)) takes prefix)
+  -- a part of the text so far is a part of the whole
+  pub stopped : (lines : List Line) (i : ℕ) (a b : Option (List ℕ)) → TakesPrefix a b (transcript rules start (acted (take i lines))) → TakesPrefix a b (transcript rules start (acted lines))
+  stopped lines i a b prefix =
+      subst (TakesPrefix a b) (sym (text_whole lines i)) (prefix_longer a b (transcript rules start (acted (take i lines))) (text_rest lines i) prefix)
 
-  -- where no more was taken, the text so far is a prefix of the whole
-  pub stopped_between : (lines : List Line) (i : ℕ) (a b : Option (List ℕ)) → Takes a b (transcript rules start (acted (take i lines))) → TakesPrefix a b (transcript rules start (acted lines))
-  stopped_between lines i a b takes =
+  -- where the text so far was taken, a part of the whole was
+  pub stopped_after : (lines : List Line) (i : ℕ) (a b : Option (List ℕ)) → Takes a b (transcript rules start (acted (take i lines))) → TakesPrefix a b (transcript rules start (acted lines))
+  stopped_after lines i a b takes =
       subst (TakesPrefix a b) (sym (text_whole lines i)) (prefix_front a b (transcript rules start (acted (take i lines))) (text_rest lines i) takes)

@@ -1,13 +1,14 @@
 -- The line that a run writes to standard error, where its status is not 0.
 -- Our own choice: the texts. The usage line names all commands of the program's full form.
-use Rattle.std.specs.Prelude.{ℕ, List, [], ◌∷◌, ◌++◌, codes, decimal}
+use Rattle.std.specs.Prelude.{◌≡◌, ℕ, List, [], ◌∷◌, ◌++◌, codes, decimal}
 use Rattle.suffix_list.specs.declared.fault.ListFault.{ListFault}
 use Rattle.suffix_list.specs.declared.fault.ListFault.TheVariants as list
 use Rattle.script_lines.specs.Plain.{fault_of}
 use Rattle.script_lines.specs.Script.{PlainFault, NotJson, UnknownAction, BadField, LineTooLong}
 use Rattle.script_lines.specs.Script.{TooLong, NotUtf8, ReadFault, BadHeader, NoMemory}
 use Rattle.replay.specs.declared.status.Status.{Status}
-use Rattle.replay.specs.declared.status.Status.TheVariants.{Done, Usage, Script, List as ListStatus, Read, Write, Memory}
+use Rattle.replay.specs.declared.status.Status.TheVariants.{Done, Usage, Script, List as ListStatus}
+use Rattle.replay.specs.declared.status.Status.TheVariants.{Read, Write, Memory}
 
 -- the line of a list's fault. No run ends with a list's `ReadFault` or `NoMemory`: these are the
 -- statuses `Read` and `Memory`, whose lines they have.
@@ -62,3 +63,9 @@ exit_status (ListStatus why) = 4
 exit_status Read = 6
 exit_status Write = 7
 exit_status Memory = 9
+
+-- two statuses that differ in nothing but the memory of a text
+abbrev pub SameStatus : Status → Status → Type 0
+SameStatus (Script why) (Script other) = fault_of why ≡ fault_of other
+SameStatus (Script why) status = ⊥
+SameStatus status other = status ≡ other

@@ -1,5 +1,6 @@
 -- What the command names that the words of the command line are.
-use Rattle.std.specs.Prelude.{ℕ, List, Option, Some, None}
+-- Source: none; the words of the program are our own.
+use Rattle.std.specs.Prelude.{ℕ, List, Option, Some, None, option_and_then}
 use Rattle.command_line.specs.Words.{PlainCommand, Help, Replay, command_of}
 
 -- the path of the list that a command names
@@ -8,6 +9,6 @@ list_named None = None
 list_named (Some Help) = None
 list_named (Some (Replay list start)) = Some list
 
--- the path of the list that the words name
-abbrev pub list_path : List (List ℕ) → Option (List ℕ)
-list_path words = list_named (command_of words)
+-- what a host tells of the list that the words name, from what it tells of each path
+abbrev pub list_told : (List ℕ → Option (List ℕ)) → List (List ℕ) → Option (List ℕ)
+list_told lists words = option_and_then lists (list_named (command_of words))

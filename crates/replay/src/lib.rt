@@ -6,10 +6,12 @@
 #![tactic(auto)]
 
 mod host;
+mod lines;
 mod memory_host;
 mod real_host;
 mod runs;
 mod status;
+mod system;
 mod told;
 
 pub use host::Host;
@@ -17,4 +19,5 @@ pub use memory_host::MemHost;
 pub use real_host::RealHost;
 pub use runs::run;
 pub use status::Status;
+pub use system::program;
 pub use told::tell;

@@ -2,6 +2,7 @@
 ghost use Rattle.std.specs.Prelude.{◌≡◌, None};
 
 use crate::Host;
+use crate::host::count_up;
 use agent_base::{Fault, ReadSource};
 use std::fs::{File, Files};
 
@@ -9,6 +10,7 @@ use std::fs::{File, Files};
 #[derive(Drop)]
 pub struct RealHost<R: Files + Drop> {
     files: R,
+    lists_out: u64,
     faults: u64,
     reads: u64,
 }
@@ -16,10 +18,12 @@ pub struct RealHost<R: Files + Drop> {
 impl<R: Files + Drop> RealHost<R> {
     /// A host over these files.
     pub fn new(files: R) -> RealHost<R>
-        ensures faults { result.faults ≡ 0 }
+        ensures out { result.lists_out ≡ 0 }
+        ensures faults { (result.faults ≡ 0) × (result.reads ≡ 0) }
     {
         RealHost {
             files,
+            lists_out: 0,
             faults: 0,
             reads: 0,
         }
@@ -31,22 +35,27 @@ impl<R: Files + Drop> Host for RealHost<R> {
 
     ghost lists = { λ _ _. None };
 
+    ghost lists_out = { λ h. h.lists_out };
+
     ghost faults = { λ h. h.faults };
 
     ghost reads = { λ h. h.reads };
 
+    // A host that has as many lists out as it can count opens no other.
     fn open_list(&mut self, path: &str) -> Result<ReadSource<R::File>, Fault> {
-        match File::open(&self.files, path) {
-            Ok(file) => Ok(ReadSource::new(file)),
-            Err(_) => {
-                self.faults = self.faults.saturating_add(1);
-                Err(Fault::Failed)
-            }
+        if self.lists_out < u64::MAX
+            && let Ok(file) = File::open(&self.files, path)
+        {
+            self.lists_out += 1;
+            return Ok(ReadSource::new(file));
         }
+        self.faults = self.faults.saturating_add(1);
+        Err(Fault::Failed)
     }
 
     fn close_list(&mut self, list: ReadSource<R::File>) {
-        self.faults = self.faults.saturating_add(list.faults());
-        self.reads = self.reads.saturating_add(list.faults());
+        self.lists_out -= 1;
+        self.faults = count_up(self.faults, list.faults());
+        self.reads = count_up(self.reads, list.faults());
     }
 }

@@ -1,8 +1,10 @@
 //! How a run ended.
-ghost use Rattle.std.specs.Prelude.{◌≡◌};
-ghost use Rattle.replay.specs.FaultLines.{exit_status};
+ghost use Rattle.std.specs.Prelude.{◌≡◌, IfOk};
+ghost use Rattle.replay.specs.FaultLines.{SameStatus, exit_status};
 
+use agent_base::NoMemory;
 use script_lines::ScriptFault;
+use std::alloc::Global;
 use suffix_list::ListFault;
 
 /// How a run ended.
@@ -37,6 +39,21 @@ impl Status {
             Status::Read => 6,
             Status::Write => 7,
             Status::Memory => 9,
+        }
+    }
+
+    /// The same status, over memory of its own.
+    pub fn copy(&self, alloc: Global) -> Result<Status, NoMemory>
+        ensures same { IfOk result (λ status. SameStatus self.now status) }
+    {
+        match self {
+            Status::Done => Ok(Status::Done),
+            Status::Usage => Ok(Status::Usage),
+            Status::Script(why) => Ok(Status::Script(why.copy(alloc)?)),
+            Status::List(why) => Ok(Status::List(*why)),
+            Status::Read => Ok(Status::Read),
+            Status::Write => Ok(Status::Write),
+            Status::Memory => Ok(Status::Memory),
         }
     }
 }

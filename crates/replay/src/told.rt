@@ -5,7 +5,8 @@ ghost use Rattle.agent_base.specs.Streams.{Takes, TakesPrefix};
 ghost use Rattle.script_lines.specs.Plain.{fault_of};
 ghost use Rattle.replay.specs.FaultLines as spec;
 ghost use Rattle.replay.specs.LineParts.{line_text, number_text, rest_text};
-ghost use Rattle.replay.specs.Runs.{TellsFault};
+ghost use Rattle.replay.specs.BeforeAfter.{from_to};
+ghost use Rattle.replay.specs.Causes.{TellsFault};
 
 use crate::Status;
 use agent_base::{Failed, Sink, write_all};
@@ -28,7 +29,8 @@ pub const USAGE: &str = "usage: replay LIST, twin SITE LIST, dump LIST STORE, se
 
 /// Writes the line of a status to `err`, and nothing where the run is done. Takes no memory.
 pub fn tell<E: Sink>(err: &mut E, status: &Status)
-    ensures told { TellsFault status.now (E.taken err.old) (E.taken err.new) (E.faults err.old) (E.faults err.new) }
+    ensures told { TellsFault status.now (from_to (E.taken err.old) (E.taken err.new))
+        (from_to (E.faults err.old) (E.faults err.new)) }
 {
     let _ = write_line(err, &fault_line(status));
 }
@@ -103,7 +105,8 @@ fn numbered<'a>(front: &'static str, number: u32, back: &'static str) -> FaultLi
 
 fn bad_field(number: u32, name: &str) -> FaultLine<'_>
     ensures { line_text result
-        ≡ codes "script line " ++ (decimal number ++ (codes ": bad field " ++ (name.now ++ 10 ∷ []))) }
+        ≡ codes "script line "
+        ++ (decimal number ++ (codes ": bad field " ++ (name.now ++ 10 ∷ []))) }
 {
     FaultLine {
         front: "script line ",
@@ -116,7 +119,8 @@ fn bad_field(number: u32, name: &str) -> FaultLine<'_>
 
 fn write_line<E: Sink>(err: &mut E, line: &FaultLine<'_>) -> Result<(), Failed>
     ensures all { OnOk result (Takes (E.taken err.old) (E.taken err.new) (line_text line.now)) }
-    ensures prefix { OnErr result (TakesPrefix (E.taken err.old) (E.taken err.new) (line_text line.now)) }
+    ensures prefix { OnErr result
+        (TakesPrefix (E.taken err.old) (E.taken err.new) (line_text line.now)) }
     ensures cause { HasCause (E.faults err.old) (E.faults err.new) result }
 {
     match write_all(err, line.front.as_bytes()) {
@@ -126,8 +130,11 @@ fn write_line<E: Sink>(err: &mut E, line: &FaultLine<'_>) -> Result<(), Failed>
 }
 
 fn write_tail<E: Sink>(err: &mut E, line: &FaultLine<'_>) -> Result<(), Failed>
-    ensures all { OnOk result (Takes (E.taken err.old) (E.taken err.new) (number_text line.now.number ++ rest_text line.now)) }
-    ensures prefix { OnErr result (TakesPrefix (E.taken err.old) (E.taken err.new)
+    ensures all { OnOk result
+        (Takes (E.taken err.old) (E.taken err.new)
+        (number_text line.now.number ++ rest_text line.now)) }
+    ensures prefix { OnErr result
+        (TakesPrefix (E.taken err.old) (E.taken err.new)
         (number_text line.now.number ++ rest_text line.now)) }
     ensures cause { HasCause (E.faults err.old) (E.faults err.new) result }
 {
@@ -139,7 +146,8 @@ fn write_tail<E: Sink>(err: &mut E, line: &FaultLine<'_>) -> Result<(), Failed>
 
 fn write_rest<E: Sink>(err: &mut E, line: &FaultLine<'_>) -> Result<(), Failed>
     ensures all { OnOk result (Takes (E.taken err.old) (E.taken err.new) (rest_text line.now)) }
-    ensures prefix { OnErr result (TakesPrefix (E.taken err.old) (E.taken err.new) (rest_text line.now)) }
+    ensures prefix { OnErr result
+        (TakesPrefix (E.taken err.old) (E.taken err.new) (rest_text line.now)) }
     ensures cause { HasCause (E.faults err.old) (E.faults err.new) result }
 {
     match write_all(err, line.back.as_bytes()) {
@@ -149,8 +157,10 @@ fn write_rest<E: Sink>(err: &mut E, line: &FaultLine<'_>) -> Result<(), Failed>
 }
 
 fn write_two<E: Sink>(err: &mut E, first: &str, second: &str) -> Result<(), Failed>
-    ensures all { OnOk result (Takes (E.taken err.old) (E.taken err.new) (first.now ++ second.now)) }
-    ensures prefix { OnErr result (TakesPrefix (E.taken err.old) (E.taken err.new) (first.now ++ second.now)) }
+    ensures all { OnOk result
+        (Takes (E.taken err.old) (E.taken err.new) (first.now ++ second.now)) }
+    ensures prefix { OnErr result
+        (TakesPrefix (E.taken err.old) (E.taken err.new) (first.now ++ second.now)) }
     ensures cause { HasCause (E.faults err.old) (E.faults err.new) result }
 {
     match write_all(err, first.as_bytes()) {
@@ -161,7 +171,8 @@ fn write_two<E: Sink>(err: &mut E, first: &str, second: &str) -> Result<(), Fail
 
 fn write_number<E: Sink>(err: &mut E, number: Option<u32>) -> Result<(), Failed>
     ensures all { OnOk result (Takes (E.taken err.old) (E.taken err.new) (number_text number)) }
-    ensures prefix { OnErr result (TakesPrefix (E.taken err.old) (E.taken err.new) (number_text number)) }
+    ensures prefix { OnErr result
+        (TakesPrefix (E.taken err.old) (E.taken err.new) (number_text number)) }
     ensures cause { HasCause (E.faults err.old) (E.faults err.new) result }
 {
     match number {

@@ -1,43 +1,8 @@
-//! The program: words, files and standard streams are handed to `replay::run`.
+//! The program.
 #![tactic(auto)]
 
-use agent_base::{ReadSource, WriteSink};
-use replay::{RealHost, Status, run, tell};
 use std::process::ExitCode;
-use std::{env, io};
-
-// The words of the command line, without the program's name.
-fn words_of(rt: &HostRuntime) -> Result<Vec<String>, Status> {
-    let args = match env::args(rt) {
-        Ok(args) => args,
-        Err(why) if why.kind() == io::ErrorKind::InvalidData => return Err(Status::Usage),
-        Err(_) => return Err(Status::Memory),
-    };
-    match args.skip(1).collect(rt.alloc()) {
-        Ok(words) => Ok(words),
-        Err(_) => Err(Status::Memory),
-    }
-}
 
 fn main(rt: HostRuntime) -> ExitCode {
-    let mut err = WriteSink::new(rt.stderr());
-    let words = match words_of(&rt) {
-        Ok(words) => words,
-        Err(status) => {
-            tell(&mut err, &status);
-            return ExitCode::from(status.code());
-        }
-    };
-    let mut host = RealHost::new(rt);
-    let mut script = ReadSource::new(rt.stdin());
-    let mut out = WriteSink::new(rt.stdout());
-    let status = run(
-        rt.alloc(),
-        &words,
-        &mut host,
-        &mut script,
-        &mut out,
-        &mut err,
-    );
-    ExitCode::from(status.code())
+    replay::program(rt)
 }

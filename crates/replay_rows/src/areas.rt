@@ -1,8 +1,7 @@
 //! Whole areas, buckets that persist, and evictions.
-use crate::row::{REPLAY, Row, check};
-use std::test::Fail;
+use crate::row::{REPLAY, Row};
 
-const ROWS: [Row; 5] = [
+pub const ROWS: &[Row] = &[
     Row {
         name: "names keep their places, and an eviction empties the area once",
         words: REPLAY,
@@ -155,11 +154,3 @@ const ROWS: [Row; 5] = [
         status: 3,
     },
 ];
-
-#[test]
-fn whole_areas_and_buckets_print_their_replies(rt: HostRuntime) -> Result<(), Fail> {
-    for row in &ROWS {
-        check(&rt, rt.alloc(), row)?;
-    }
-    Ok(())
-}

@@ -1,10 +1,9 @@
 //! Storage events: who hears of a write, and how many wait.
-use crate::row::{REPLAY, Row, check, host, sink_of, source, words};
-use replay::run;
+use crate::row::{REPLAY, Row, run_of, sink_of, source};
 use std::alloc::Global;
 use std::test::Fail;
 
-const ROWS: [Row; 3] = [
+pub const ROWS: &[Row] = &[
     Row {
         name: "every other document of the key hears of a write",
         words: REPLAY,
@@ -96,14 +95,6 @@ const ROWS: [Row; 3] = [
     },
 ];
 
-#[test]
-fn writes_are_told(rt: HostRuntime) -> Result<(), Fail> {
-    for row in &ROWS {
-        check(&rt, rt.alloc(), row)?;
-    }
-    Ok(())
-}
-
 const OPENED: &str =
     "{\"cookie\":null,\"do\":\"open\",\"is\":\"ok\",\"set\":[],\"site\":\"https://a.test\"}\n";
 
@@ -158,19 +149,14 @@ fn many_replies(alloc: Global) -> Result<String, Fail> {
 #[test]
 fn a_full_queue_counts_what_it_loses(rt: HostRuntime) -> Result<(), Fail> {
     let alloc = rt.alloc();
-    let mut list_host = host(alloc, source(alloc, "", &[])?)?;
-    let mut lines = source(alloc, &many_writes(alloc)?, &[])?;
-    let mut out = sink_of(alloc, 400_000, &[])?;
-    let mut err = sink_of(alloc, 1_000, &[])?;
-    let status = run(
+    let ended = run_of(
         alloc,
-        &words(alloc, REPLAY)?,
-        &mut list_host,
-        &mut lines,
-        &mut out,
-        &mut err,
-    );
-    assert_eq!(rt; status.code(), 0);
-    assert!(rt; out.bytes() == many_replies(alloc)?.as_bytes());
+        source(alloc, "", &[])?,
+        source(alloc, &many_writes(alloc)?, &[])?,
+        sink_of(alloc, 400_000, &[])?,
+        sink_of(alloc, 1_000, &[])?,
+    )?;
+    assert_eq!(rt; ended.status, 0);
+    assert!(rt; ended.out.bytes() == many_replies(alloc)?.as_bytes());
     Ok(())
 }

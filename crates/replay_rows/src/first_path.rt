@@ -1,8 +1,7 @@
 //! Tabs, areas and sites of the three actions.
-use crate::row::{REPLAY, Row, check};
-use std::test::Fail;
+use crate::row::{REPLAY, Row};
 
-const ROWS: [Row; 8] = [
+pub const ROWS: &[Row] = &[
     Row {
         name: "a value that was set is got",
         words: REPLAY,
@@ -139,11 +138,3 @@ const ROWS: [Row; 8] = [
         status: 3,
     },
 ];
-
-#[test]
-fn scripts_print_their_replies(rt: HostRuntime) -> Result<(), Fail> {
-    for row in &ROWS {
-        check(&rt, rt.alloc(), row)?;
-    }
-    Ok(())
-}

@@ -1,8 +1,7 @@
 //! Frames, navigations, sandboxes, and the areas of embedded documents.
-use crate::row::{REPLAY, Row, check};
-use std::test::Fail;
+use crate::row::{REPLAY, Row};
 
-const EMBEDDED: [Row; 4] = [
+pub const EMBEDDED: &[Row] = &[
     Row {
         name: "a widget under two sites has an area under each",
         words: REPLAY,
@@ -113,7 +112,7 @@ const EMBEDDED: [Row; 4] = [
     },
 ];
 
-const TABS: [Row; 3] = [
+pub const TABS: &[Row] = &[
     Row {
         name: "a navigation takes the frames below, and a dropped number is free again",
         words: REPLAY,
@@ -200,19 +199,3 @@ const TABS: [Row; 3] = [
         status: 0,
     },
 ];
-
-#[test]
-fn embedded_documents_print_their_replies(rt: HostRuntime) -> Result<(), Fail> {
-    for row in &EMBEDDED {
-        check(&rt, rt.alloc(), row)?;
-    }
-    Ok(())
-}
-
-#[test]
-fn tabs_print_their_replies(rt: HostRuntime) -> Result<(), Fail> {
-    for row in &TABS {
-        check(&rt, rt.alloc(), row)?;
-    }
-    Ok(())
-}

@@ -30,4 +30,8 @@ mod script_faults;
 #[cfg(test)]
 mod sessions;
 #[cfg(test)]
+mod sizes;
+#[cfg(test)]
+mod tables;
+#[cfg(test)]
 mod words;

@@ -1,9 +1,8 @@
 //! Sites under suffix lists, and lists that are refused.
-use crate::row::{REPLAY, Row, check, host, sink, source, words};
-use replay::run;
+use crate::row::{REPLAY, Row, run_of, sink, source};
 use std::test::Fail;
 
-const ROWS: [Row; 8] = [
+pub const ROWS: &[Row] = &[
     Row {
         name: "a wildcard and its exception",
         words: REPLAY,
@@ -99,15 +98,6 @@ const ROWS: [Row; 8] = [
     },
 ];
 
-#[test]
-fn sites_under_a_list(rt: HostRuntime) -> Result<(), Fail> {
-    let alloc = rt.alloc();
-    for row in &ROWS {
-        check(&rt, alloc, row)?;
-    }
-    Ok(())
-}
-
 // how many lines `a` a list has, its last line, and the fault line of the run
 const LIMITS: [(u32, &str, &str); 3] = [
     (32_767, "b", ""),
@@ -124,21 +114,19 @@ fn a_list_past_a_limit_is_named(rt: HostRuntime) -> Result<(), Fail> {
             text.push_str("a\n")?;
         }
         text.push_str(last)?;
-        let mut list_host = host(alloc, source(alloc, text.as_str(), &[])?)?;
-        let mut script = source(alloc, "", &[])?;
-        let mut out = sink(alloc, &[])?;
-        let mut err = sink(alloc, &[])?;
-        let status = run(
+        let ended = run_of(
             alloc,
-            &words(alloc, REPLAY)?,
-            &mut list_host,
-            &mut script,
-            &mut out,
-            &mut err,
-        );
+            source(alloc, text.as_str(), &[])?,
+            source(alloc, "", &[])?,
+            sink(alloc, &[])?,
+            sink(alloc, &[])?,
+        )?;
         let wanted = if line == "" { 0 } else { 4 };
-        assert_eq!(rt; status.code(), wanted, "{lines} lines and {last}");
-        assert!(rt; err.bytes() == line.as_bytes(), "{lines} lines and {last}");
+        assert_eq!(rt; ended.status, wanted, "{lines} lines and {last}");
+        assert!(rt;
+            ended.err.bytes() == line.as_bytes(),
+            "{lines} lines and {last}"
+        );
     }
     Ok(())
 }

@@ -1,6 +1,5 @@
 //! The quota of an area: 5,242,880 bytes of names and values.
-use crate::row::{REPLAY, host, sink, source, words};
-use replay::run;
+use crate::row::{run_of, sink, source};
 use std::alloc::Global;
 use std::test::Fail;
 
@@ -28,19 +27,14 @@ fn an_area_is_filled_to_its_last_byte(rt: HostRuntime) -> Result<(), Fail> {
     script.push_str(&set_line(alloc, "a", 1_000_000)?)?;
     script.push_str("{\"do\":\"get\",\"tab\":1,\"key\":\"g\"}\n")?;
     script.push_str("{\"do\":\"estimate\",\"tab\":1}\n{\"do\":\"len\",\"tab\":1}\n")?;
-    let mut list_host = host(alloc, source(alloc, "", &[])?)?;
-    let mut lines = source(alloc, &script, &[])?;
-    let mut out = sink(alloc, &[])?;
-    let mut err = sink(alloc, &[])?;
-    let status = run(
+    let ended = run_of(
         alloc,
-        &words(alloc, REPLAY)?,
-        &mut list_host,
-        &mut lines,
-        &mut out,
-        &mut err,
-    );
-    assert_eq!(rt; status.code(), 0);
+        source(alloc, "", &[])?,
+        source(alloc, &script, &[])?,
+        sink(alloc, &[])?,
+        sink(alloc, &[])?,
+    )?;
+    assert_eq!(rt; ended.status, 0);
     let want = concat!(
         "{\"cookie\":null,\"do\":\"open\",\"is\":\"ok\",\"set\":[],\"site\":\"https://a.test\"}\n",
         "{\"do\":\"set\",\"is\":\"ok\",\"site\":\"https://a.test\"}\n",
@@ -56,6 +50,6 @@ fn an_area_is_filled_to_its_last_byte(rt: HostRuntime) -> Result<(), Fail> {
         "{\"do\":\"estimate\",\"is\":\"ok\",\"quota\":5242880,\"site\":\"https://a.test\",\"usage\":5242880}\n",
         "{\"do\":\"len\",\"is\":\"ok\",\"site\":\"https://a.test\",\"value\":6}\n",
     );
-    assert!(rt; out.bytes() == want.as_bytes());
+    assert!(rt; ended.out.bytes() == want.as_bytes());
     Ok(())
 }

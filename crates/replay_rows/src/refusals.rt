@@ -1,10 +1,9 @@
 //! Words and lists that are refused. Nothing is printed then.
-use crate::row::{REPLAY, Row, check};
-use std::test::Fail;
+use crate::row::{REPLAY, Row};
 
-const USAGE: &str = "usage: replay LIST, twin SITE LIST, dump LIST STORE, selftest N\n";
+pub const USAGE: &str = "usage: replay LIST, twin SITE LIST, dump LIST STORE, selftest N\n";
 
-const WORDS: [(&str, &[&str]); 12] = [
+pub const WORDS: &[(&str, &[&str])] = &[
     ("no word", &[]),
     ("no list", &["replay"]),
     ("an empty list", &["replay", ""]),
@@ -28,7 +27,7 @@ const WORDS: [(&str, &[&str]); 12] = [
     ),
 ];
 
-const LISTS: [Row; 2] = [
+pub const LISTS: &[Row] = &[
     Row {
         name: "a list at fault, before a script at fault",
         words: REPLAY,
@@ -48,23 +47,3 @@ const LISTS: [Row; 2] = [
         status: 6,
     },
 ];
-
-#[test]
-fn refusals_are_named(rt: HostRuntime) -> Result<(), Fail> {
-    for (name, words) in WORDS {
-        let row = Row {
-            name,
-            words,
-            list: "",
-            script: "",
-            out: "",
-            err: USAGE,
-            status: 2,
-        };
-        check(&rt, rt.alloc(), &row)?;
-    }
-    for row in &LISTS {
-        check(&rt, rt.alloc(), row)?;
-    }
-    Ok(())
-}

@@ -38,22 +38,13 @@ pub fn source(alloc: Global, text: &str, fails: &[u64]) -> Result<MemSource, Fai
     Ok(MemSource::new(bytes_of(alloc, text)?, numbers))
 }
 
-/// Texts of their own.
-pub fn words(alloc: Global, words: &[&str]) -> Result<Vec<String>, Fail> {
+// Texts of their own.
+fn words(alloc: Global, words: &[&str]) -> Result<Vec<String>, Fail> {
     let mut owned = Vec::new(alloc);
     for word in words {
         owned.push(String::from_str(alloc, word)?)?;
     }
     Ok(owned)
-}
-
-/// A host that has one list, under the path `LIST`.
-pub fn host(alloc: Global, list: MemSource) -> Result<MemHost, Fail>
-    requires { list.faults ≡ 0 }
-{
-    let mut lists = Vec::new(alloc);
-    lists.push((String::from_str(alloc, "LIST")?, list))?;
-    Ok(MemHost::new(lists))
 }
 
 /// Room for what a row prints.
@@ -71,28 +62,75 @@ pub fn sink_of(alloc: Global, room: usize, fails: &[u64]) -> Result<MemSink, Fai
     }
 }
 
-/// Runs a row, and names it where it fails.
-pub fn check(rt: &impl Abort, alloc: Global, row: &Row) -> Result<(), Fail> {
-    let mut host = host(alloc, source(alloc, row.list, &[])?)?;
-    let mut script = source(alloc, row.script, &[])?;
-    let mut out = sink(alloc, &[])?;
-    let mut err = sink(alloc, &[])?;
+/// How a run ended, and what it wrote.
+#[derive(Drop)]
+pub struct Ended {
+    pub status: u8,
+    pub out: MemSink,
+    pub err: MemSink,
+}
+
+/// Runs a script under a list.
+pub fn run_of(
+    alloc: Global,
+    list: MemSource,
+    script: MemSource,
+    out: MemSink,
+    err: MemSink,
+) -> Result<Ended, Fail>
+    requires { list.faults ≡ 0 }
+{
+    make_ended(alloc, REPLAY, list, script, out, err)
+}
+
+fn make_ended(
+    alloc: Global,
+    line: &[&str],
+    list: MemSource,
+    mut script: MemSource,
+    mut out: MemSink,
+    mut err: MemSink,
+) -> Result<Ended, Fail>
+    requires { list.faults ≡ 0 }
+{
+    let mut lists = Vec::new(alloc);
+    lists.push((String::from_str(alloc, "LIST")?, list))?;
+    let mut host = MemHost::new(lists);
     let status = run(
         alloc,
-        &words(alloc, row.words)?,
+        &words(alloc, line)?,
         &mut host,
         &mut script,
         &mut out,
         &mut err,
     );
-    assert_eq!(rt; status.code(), row.status, "the status of: {}", row.name);
+    Ok(Ended {
+        status: status.code(),
+        out,
+        err,
+    })
+}
+
+/// Runs a row, and names it where it fails.
+pub fn check(rt: &impl Abort, alloc: Global, row: &Row) -> Result<(), Fail> {
+    let list = source(alloc, row.list, &[])?;
+    let script = source(alloc, row.script, &[])?;
+    let ended = make_ended(
+        alloc,
+        row.words,
+        list,
+        script,
+        sink(alloc, &[])?,
+        sink(alloc, &[])?,
+    )?;
+    assert_eq!(rt; ended.status, row.status, "the status of: {}", row.name);
     assert!(rt;
-        out.bytes() == row.out.as_bytes(),
+        ended.out.bytes() == row.out.as_bytes(),
         "the replies of: {}",
         row.name
     );
     assert!(rt;
-        err.bytes() == row.err.as_bytes(),
+        ended.err.bytes() == row.err.as_bytes(),
         "the fault line of: {}",
         row.name
     );

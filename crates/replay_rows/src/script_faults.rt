@@ -1,9 +1,7 @@
 //! Scripts that are refused: the line of the first fault, status 3, and nothing printed.
-use crate::row::{REPLAY, Row, check};
-use std::test::Fail;
 
 // In each row the lines before the fault are good.
-const SCRIPTS: [(&str, &str, &str); 20] = [
+pub const SCRIPTS: &[(&str, &str, &str)] = &[
     (
         "a third line that is no JSON",
         "{\"do\":\"tick\",\"s\":1}\n{\"do\":\"tick\",\"s\":1}\nx\n",
@@ -105,20 +103,3 @@ const SCRIPTS: [(&str, &str, &str); 20] = [
         "script line 1: bad field a\nb\n",
     ),
 ];
-
-#[test]
-fn scripts_are_refused_with_their_first_fault(rt: HostRuntime) -> Result<(), Fail> {
-    for (name, script, err) in SCRIPTS {
-        let row = Row {
-            name,
-            words: REPLAY,
-            list: "",
-            script,
-            out: "",
-            err,
-            status: 3,
-        };
-        check(&rt, rt.alloc(), &row)?;
-    }
-    Ok(())
-}

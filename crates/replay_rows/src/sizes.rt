@@ -1,0 +1,105 @@
+//! A run of many tabs, frames, storage keys and pairs, whose replies are written in several parts.
+use crate::row::{run_of, sink_of, source};
+use std::alloc::Global;
+use std::test::Fail;
+
+const TABS: u32 = 3_000;
+
+const FRAMES: u32 = 255;
+
+const PAIRS: u32 = 2_000;
+
+// A script, and the replies that it has to print.
+#[derive(Drop)]
+struct Lines {
+    script: String,
+    replies: String,
+}
+
+impl Lines {
+    fn add(&mut self, line: &str, reply: &str) -> Result<(), Fail> {
+        self.script.push_str(line)?;
+        self.script.push_str("\n")?;
+        self.replies.push_str(reply)?;
+        self.replies.push_str("\n")?;
+        Ok(())
+    }
+}
+
+// Each tab shows a site of its own, and sets a pair there.
+fn add_tab(alloc: Global, lines: &mut Lines, tab: u32) -> Result<(), Fail> {
+    lines.add(
+        &format!(in alloc; "{{\"do\":\"open\",\"tab\":{tab},\"url\":\"https://s{tab}.test/\"}}")?,
+        &format!(in alloc;
+            "{{\"cookie\":null,\"do\":\"open\",\"is\":\"ok\",\"set\":[],\"site\":\"https://s{tab}.test\"}}"
+        )?,
+    )?;
+    lines.add(
+        &format!(in alloc; "{{\"do\":\"set\",\"tab\":{tab},\"key\":\"k\",\"value\":\"{tab}\"}}")?,
+        &format!(in alloc; "{{\"do\":\"set\",\"is\":\"ok\",\"site\":\"https://s{tab}.test\"}}")?,
+    )
+}
+
+fn add_frame(alloc: Global, lines: &mut Lines, frame: u32) -> Result<(), Fail> {
+    lines.add(
+        &format!(in alloc;
+            "{{\"do\":\"frame\",\"tab\":1,\"frame\":{frame},\"url\":\"https://w{frame}.test/\"}}"
+        )?,
+        "{\"cookie\":null,\"do\":\"frame\",\"is\":\"ok\",\"set\":[],\"site\":\"https://s1.test\"}",
+    )
+}
+
+fn add_pair(alloc: Global, lines: &mut Lines, area: &str, pair: u32) -> Result<(), Fail> {
+    lines.add(
+        &format!(in alloc;
+            "{{\"do\":\"set\",\"tab\":2,\"area\":\"{area}\",\"key\":\"k{pair}\",\"value\":\"v\"}}"
+        )?,
+        "{\"do\":\"set\",\"is\":\"ok\",\"site\":\"https://s2.test\"}",
+    )
+}
+
+fn many_lines(alloc: Global) -> Result<Lines, Fail> {
+    let mut lines = Lines {
+        script: String::new(alloc),
+        replies: String::new(alloc),
+    };
+    for tab in 1..TABS + 1 {
+        add_tab(alloc, &mut lines, tab)?;
+    }
+    for frame in 1..FRAMES + 1 {
+        add_frame(alloc, &mut lines, frame)?;
+    }
+    for pair in 0..PAIRS {
+        add_pair(alloc, &mut lines, "local", pair)?;
+        add_pair(alloc, &mut lines, "session", pair)?;
+    }
+    lines.add(
+        "{\"do\":\"len\",\"tab\":2}",
+        "{\"do\":\"len\",\"is\":\"ok\",\"site\":\"https://s2.test\",\"value\":2001}",
+    )?;
+    lines.add(
+        "{\"do\":\"get\",\"tab\":3000,\"key\":\"k\"}",
+        "{\"do\":\"get\",\"is\":\"ok\",\"site\":\"https://s3000.test\",\"value\":\"3000\"}",
+    )?;
+    Ok(lines)
+}
+
+#[test]
+fn a_run_of_many_lines_is_written_in_parts(rt: HostRuntime) -> Result<(), Fail> {
+    let alloc = rt.alloc();
+    let lines = many_lines(alloc)?;
+    for (fails, status) in [(&[] as &[u64], 0), (&[2], 7)] {
+        let ended = run_of(
+            alloc,
+            source(alloc, "", &[])?,
+            source(alloc, &lines.script, &[])?,
+            sink_of(alloc, 1_000_000, fails)?,
+            sink_of(alloc, 100, &[])?,
+        )?;
+        assert_eq!(rt; ended.status, status);
+        assert!(rt; lines.replies.as_bytes().starts_with(ended.out.bytes()));
+        let whole = ended.out.bytes().len() == lines.replies.len();
+        assert!(rt; whole == (status == 0) && ended.out.bytes().len() >= 65_536);
+    }
+    Ok(())
+}

@@ -1,7 +1,8 @@
 -- What each kind of line makes of a course: held, answered, down, and a flush between lines.
-use Rattle.std.proofs.Common.{◌≡◌, inl, inr, ⊎_elim, ℕ, ◌+◌, ◌*◌, ◌%◌, ◌<◌, Bool, true, false, List}
+use Rattle.std.proofs.Common.{◌≡◌, ◌⊎◌, inl, inr, ⊎_elim, ℕ, ◌+◌, ◌*◌, ◌%◌, ◌<◌, true, List}
 use Rattle.std.proofs.Common.{[], ◌∷◌, ◌++◌, Option, Some, None, length, sym, ap, subst, ◌∙◌}
 use Rattle.std.proofs.Common.{append_assoc, append-nil, arith}
+use Rattle.std.proofs.lemmas.Bool.{true≢false}
 use Rattle.std.proofs.lemmas.List.{length-append}
 use Rattle.std.proofs.Math.Nat.{mul-mod_right}
 use Rattle.unwinding.specs.Machine.{Machine}
@@ -31,11 +32,23 @@ module _
   keeps_down r e d n (inl at) = inl at
   keeps_down r e d n (inr one) = inr (one.0, last_more r.downs e one.0 one.1, one.2, one.3)
 
-  pub false_true : {b : Bool} (P : Type 0) → b ≡ false → b ≡ true → P
-  false_true P is_not is = absurd (two (sym is_not ∙ is))
-    where
-      two : ◌≡◌ {A = Bool} false true → ⊥
-      two e = cc
+  -- the course with these lines answered with a device fault
+  abbrev with_downs : Course Line → List (Step Line) → Course Line
+  with_downs r downs = record { closed = r.closed; answered = r.answered; waiting = r.waiting; downs = downs }
+
+  -- down, where what a restart may find is told
+  goes_down : (r : Course Line) (downs : List (Step Line)) (a b : SeenOf m k) (may may' other : MayFind m k)
+      → IsOn m k batch x r a may → GoesDown m k a b may may' other
+      → ((d : DurableOf k) (n : ℕ) → may d n ⊎ other d n → MayKeep m k batch (last_opening m k x r) (with_downs r downs) d n) → IsOn m k batch x (with_downs r downs) b may'
+  goes_down r downs a b may may' other on goes kept = record {
+    admissible = on.admissible;
+    batches = on.batches;
+    whole = on.whole;
+    short = on.short;
+    rest = goes.rest ∙ on.rest;
+    up = λ is. absurd (true≢false (sym is ∙ goes.down));
+    images = λ d n left. kept d n (goes.images d n left);
+  }
 
   -- held
   pub on_held : (r : Course Line) (l : Line) (a b : SeenOf m k) (may may' : MayFind m k)
@@ -73,28 +86,14 @@ module _
   -- answered with down
   pub on_down : (r : Course Line) (e : Step Line) (a b : SeenOf m k) (may may' other : MayFind m k)
       → IsOn m k batch x r a may → GoesDown m k a b may may' other → ((d : DurableOf k) (n : ℕ) → other d n → MayKeep m k batch (last_opening m k x r) (down_one r e) d n) → IsOn m k batch x (down_one r e) b may'
-  on_down r e a b may may' other on goes here = record {
-    admissible = on.admissible;
-    batches = on.batches;
-    whole = on.whole;
-    short = on.short;
-    rest = goes.rest ∙ on.rest;
-    up = λ is. false_true _ goes.down is;
-    images = λ d n left. ⊎_elim (λ was. keeps_down r e d n (on.images d n was)) (here d n) (goes.images d n left);
-  }
+  on_down r e a b may may' other on goes here =
+      goes_down r (r.downs ++ e ∷ []) a b may may' other on goes (λ d n. ⊎_elim (λ was. keeps_down r e d n (on.images d n was)) (here d n))
 
   -- down, with no line answered
   pub on_quiet_down : (r : Course Line) (a b : SeenOf m k) (may may' : MayFind m k)
       → IsOn m k batch x r a may → GoesDown m k a b may may' (λ d n. ⊥) → IsOn m k batch x r b may'
-  on_quiet_down r a b may may' on goes = record {
-    admissible = on.admissible;
-    batches = on.batches;
-    whole = on.whole;
-    short = on.short;
-    rest = goes.rest ∙ on.rest;
-    up = λ is. false_true _ goes.down is;
-    images = λ d n left. ⊎_elim (λ was. on.images d n was) (λ no. absurd no) (goes.images d n left);
-  }
+  on_quiet_down r a b may may' on goes =
+      goes_down r r.downs a b may may' (λ d n. ⊥) on goes (λ d n. ⊎_elim (on.images d n) (λ no. absurd no))
 
   -- where a line ends a batch, and its commit fails
   pub tried_keeps : (r : Course Line) (l : Line) (a : SeenOf m k) (may : MayFind m k) (d : DurableOf k) (n : ℕ)
@@ -111,13 +110,20 @@ module _
       times_mod : (b j n : ℕ) → n ≡ b * j → n % b ≡ 0
       times_mod b j n is = ap (λ i. i % b) is ∙ mul-mod_right b j
 
+  -- with nothing that waits, all lines are answered already
+  none_waits : (r : Course Line) → r.waiting ≡ [] → answer_all r ≡ r
+  none_waits r none = λ i. record { closed = r.closed; answered = (ap (λ ls. r.answered ++ ls) none ∙ append-nil r.answered) i; waiting = sym none i; downs = r.downs }
+
+  -- and a commit leaves the agent where it stands
+  flushed : (r : Course Line) (a : SeenOf m k) → r.waiting ≡ [] → a ≡ stands m k (last_opening m k x r) r → committed m k a ≡ stands m k (last_opening m k x r) r
+  flushed r a none was = ap (committed m k) was ∙ committed_stands m k (last_opening m k x r) r ∙ ap (stands m k (last_opening m k x r)) (none_waits r none)
+
   -- a flush with nothing that waits
   pub on_flush : (r : Course Line) (a b : SeenOf m k) (may may' : MayFind m k)
       → IsOn m k batch x r a may → r.waiting ≡ [] → a.up ≡ true → b ≡ committed m k a → AtBase b.base may' → IsOn m k batch x r b may'
   on_flush r a b may may' on none up is at_base =
       let was = on.up up in
-      let same_course : answer_all r ≡ r = λ i. record { closed = r.closed; answered = (ap (λ ls. r.answered ++ ls) none ∙ append-nil r.answered) i; waiting = sym none i; downs = r.downs } in
-      let same : b ≡ stands m k (last_opening m k x r) r = is ∙ ap (committed m k) was.1 ∙ committed_stands m k (last_opening m k x r) r ∙ ap (stands m k (last_opening m k x r)) same_course in
+      let same : b ≡ stands m k (last_opening m k x r) r = is ∙ flushed r a none was.1 in
       record {
         admissible = on.admissible;
         batches = on.batches;
@@ -131,15 +137,5 @@ module _
   pub on_flush_down : (r : Course Line) (a b : SeenOf m k) (may may' : MayFind m k)
       → IsOn m k batch x r a may → r.waiting ≡ [] → GoesDown m k a b may may' (λ d n. (a.up ≡ true) × IsAt (committed m k a).base d n) → IsOn m k batch x r b may'
   on_flush_down r a b may may' on none goes =
-      let same_course : answer_all r ≡ r = λ i. record { closed = r.closed; answered = (ap (λ ls. r.answered ++ ls) none ∙ append-nil r.answered) i; waiting = sym none i; downs = r.downs } in
-      record {
-        admissible = on.admissible;
-        batches = on.batches;
-        whole = on.whole;
-        short = on.short;
-        rest = goes.rest ∙ on.rest;
-        up = λ is. false_true _ goes.down is;
-        images = λ d n left. ⊎_elim (λ was. on.images d n was) (λ other.
-            let same = ap (committed m k) (on.up other.0).1 ∙ committed_stands m k (last_opening m k x r) r ∙ ap (stands m k (last_opening m k x r)) same_course in
-            inl (subst (λ s. IsAt s d n) (ap (λ s. s.base) same ∙ base_is m k (last_opening m k x r) r) other.1)) (goes.images d n left);
-      }
+      goes_down r r.downs a b may may' (λ d n. (a.up ≡ true) × IsAt (committed m k a).base d n) on goes (λ d n. ⊎_elim (on.images d n) (λ other.
+      inl (subst (λ s. IsAt s d n) (ap (λ s. s.base) (flushed r a none (on.up other.0).1) ∙ base_is m k (last_opening m k x r) r) other.1)))

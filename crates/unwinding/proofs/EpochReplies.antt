@@ -12,7 +12,8 @@ use Rattle.unwinding.specs.OneSite.{OwnOf, own_outcome, own_step, reply_list, ow
 use Rattle.unwinding.specs.OneSite.{entry_replies, own_after, own_beginning, epoch_script}
 use Rattle.unwinding.specs.OneSite.{epoch_run}
 use Rattle.unwinding.specs.Facts.{IsQuiet, Facts}
-use Rattle.unwinding.proofs.Tests.{home_of, and_true, held_before, added_before, true_false}
+use Rattle.std.proofs.lemmas.Bool.{true≢false, and_parts}
+use Rattle.unwinding.proofs.Tests.{home_of, held_before, added_before}
 use Rattle.unwinding.proofs.Runs.{run_append, after_append}
 use Rattle.unwinding.proofs.HeldCells.{in_append, used_seen}
 
@@ -72,7 +73,7 @@ module _ {Site Cell Cells Partition Content Rest Line Event Reply Change : Type 
     where
       at : (n : Bool) → is_in m.same_cell c (m.names (w.partition t) e) ≡ n → (b : Bool) → (m.sweeps (w.partition t) e && m.is_own t c) ≡ b → m.get w.cells c ≡ m.get (after_main m w (Some (record { site = t; event = e }))).cells c
       at true n b is_b = is_differing w.cells (after_main m w (Some (record { site = t; event = e }))).cells c (m.names (w.partition t) e) n clean
-      at false n true is_b = absurd (true_false (sym (f.own_alone s t c (and_true (m.sweeps (w.partition t) e) (m.is_own t c) is_b).1 home) ∙ is))
+      at false n true is_b = absurd (true≢false (sym (f.own_alone s t c (and_parts (m.sweeps (w.partition t) e) (m.is_own t c) is_b).1 home) ∙ is))
       at false n false is_b = sym (f.get_merge (consulted m t (w.partition t) e) (outcome m t (w.partition t) w.cells e).cells w.cells c ∙ rw (n, is_b) refl)
 
   module _ (s : Site) (touched : List Cell) (w : WorldOf m) (own : OwnOf m) (a : Agrees s touched w own) where

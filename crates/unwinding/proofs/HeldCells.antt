@@ -6,7 +6,8 @@ use Rattle.unwinding.specs.World.{is_in, consulted}
 use Rattle.unwinding.specs.LocalEntries.{HeldCell, is_held, held_cells, swept_cells, candidates}
 use Rattle.unwinding.specs.OneSite.{cells_used}
 use Rattle.unwinding.specs.Facts.{Facts}
-use Rattle.unwinding.proofs.Tests.{touched_of, or_later, or_first, or_true, and_true}
+use Rattle.std.proofs.lemmas.Bool.{and_parts, or_left, or_right}
+use Rattle.unwinding.proofs.Tests.{touched_of, or_true}
 
 module _ {Site Cell Cells Partition Content Rest Line Event Reply Change : Type 0}
     (m : Machine Site Cell Cells Partition Content Rest Line Event Reply Change)
@@ -58,10 +59,10 @@ module _ {Site Cell Cells Partition Content Rest Line Event Reply Change : Type 
   in_candidates s touched p e c asks held = f.in_listed (m.names p e ++ swept_cells m (m.sweeps p e) s touched) c ∙ in_append c (m.names p e) (swept_cells m (m.sweeps p e) s touched) ∙ at (is_in m.same_cell c (m.names p e)) refl
     where
       at : (b : Bool) → is_in m.same_cell c (m.names p e) ≡ b → (is_in m.same_cell c (m.names p e) || is_in m.same_cell c (swept_cells m (m.sweeps p e) s touched)) ≡ true
-      at true is = or_first (is_in m.same_cell c (m.names p e)) _ is
+      at true is = or_left (is_in m.same_cell c (m.names p e)) _ is
       at false is =
-          let both = and_true (m.sweeps p e) (m.is_own s c) (or_true (is_in m.same_cell c (m.names p e)) _ is asks) in
-          or_later (is_in m.same_cell c (m.names p e)) _ (in_swept s c (m.sweeps p e) both.0 both.1 touched (touched_of (m.is_home s c) _ (f.own_home s c both.1) held))
+          let both = and_parts (m.sweeps p e) (m.is_own s c) (or_true (is_in m.same_cell c (m.names p e)) _ is asks) in
+          or_right (is_in m.same_cell c (m.names p e)) _ (in_swept s c (m.sweeps p e) both.0 both.1 touched (touched_of (m.is_home s c) _ (f.own_home s c both.1) held))
 
   -- the cells that the machine goes by are those of the world
   pub used_seen : (s : Site) (touched : List Cell) (cells own : Cells) (p : Partition) (e : Event) → ((c : Cell) → is_held m s touched c ≡ false → m.get own c ≡ m.get cells c) →

@@ -8,7 +8,7 @@ use Rattle.unwinding.specs.LocalEntries.{side_entries, main_entries, main_touche
 use Rattle.unwinding.specs.LocalEntries.{line_touched, local_entries}
 use Rattle.unwinding.specs.Facts.{Facts}
 use Rattle.unwinding.specs.HeldOnly.{LeavesCell, OthersLeaveCell, IsNotAmong, NoneHolds}
-use Rattle.unwinding.proofs.Tests.{true_false}
+use Rattle.std.proofs.lemmas.Bool.{true≢false}
 use Rattle.unwinding.proofs.HeldCells.{in_append}
 
 module _ {Site Cell Cells Partition Content Rest Line Event Reply Change : Type 0}
@@ -24,7 +24,7 @@ module _ {Site Cell Cells Partition Content Rest Line Event Reply Change : Type 
       differs false is held = refl
       differs true is held =
           let not_held : is_held m s touched c ≡ false = rw (home, clean) refl in
-          absurd (true_false (sym held ∙ ap (is_held m s touched) (sym (f.cell_same c d is)) ∙ not_held))
+          absurd (true≢false (sym held ∙ ap (is_held m s touched) (sym (f.cell_same c d is)) ∙ not_held))
 
       at : (b : Bool) → is_held m s touched d ≡ b → IsNotAmong m c (held_cells m (is_held m s touched) cells ds)
           → IsNotAmong m c (cond b (record { cell = d; content = m.get cells d } ∷ held_cells m (is_held m s touched) cells ds) (held_cells m (is_held m s touched) cells ds))

@@ -12,7 +12,7 @@ use Rattle.unwinding.specs.Durable.{changes_of_site}
 use Rattle.unwinding.specs.Epochs.{Epoch, tried, all_changes, next_durable}
 use Rattle.unwinding.specs.SiteRun.{rows_of, own_partition_changes, own_cells_changes}
 use Rattle.unwinding.specs.Facts.{Facts, KeepingFacts}
-use Rattle.unwinding.proofs.Tests.{either_false, later_false}
+use Rattle.std.proofs.lemmas.Bool.{or_parts}
 use Rattle.unwinding.proofs.HeldCells.{in_append}
 use Rattle.unwinding.proofs.EpochReplies.{other_kept}
 
@@ -111,7 +111,7 @@ module _
     where
       at : (b : Bool) → m.same_site s a.site ≡ b → is_in m.same_cell c touched ≡ false
       at true is = rw is at e
-      at false is = either_false (is_in m.same_cell c touched) _ (sym (in_append m IsSound f c touched _) ∙ (rw is at e))
+      at false is = (or_parts (is_in m.same_cell c touched) _ (sym (in_append m IsSound f c touched _) ∙ (rw is at e))).0
 
   pub line_untouched : (s : Site) (touched : List Cell) (w : WorldOf m) (l : Line) (c : Cell) → is_in m.same_cell c (line_touched m s touched w l) ≡ false → is_in m.same_cell c touched ≡ false
   unfolding line_touched
@@ -154,7 +154,7 @@ module _
       at None is g = tt
       at (Some a) is g =
           inert_made_of s a.site c (outcome m a.site ((after_sides m w l).partition a.site) w.cells a.event).changes (k.cell_kept c (m.get w.cells c))
-          (λ differ. main_cell w l a ok is c ∙ ap (λ x. k.cell_kept c x) (sym (other_kept m IsSound f s (after_sides m w l) a.site a.event differ c home (later_false (is_in m.same_cell c touched) _ (sym (in_append m IsSound f c touched _) ∙ (rw differ at g))))))
+          (λ differ. main_cell w l a ok is c ∙ ap (λ x. k.cell_kept c x) (sym (other_kept m IsSound f s (after_sides m w l) a.site a.event differ c home (or_parts (is_in m.same_cell c touched) _ (sym (in_append m IsSound f c touched _) ∙ (rw differ at g))).1)))
 
   pub cell_inert : (s : Site) (touched : List Cell) (w : WorldOf m) → IsSound w → (c : Cell) → m.is_home s c ≡ true → (ls : List Line) → is_in m.same_cell c (touched_after m s touched w ls) ≡ false → CellInert s c (k.cell_kept c (m.get w.cells c)) (all_changes m w ls)
   cell_inert s touched w ok c home [] e = tt

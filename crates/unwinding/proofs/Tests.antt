@@ -1,5 +1,5 @@
 -- On tests: what an `or` of `not home` and `touched` says.
-use Rattle.std.proofs.Common.{◌≡◌, Bool, true, false, not, ◌&&◌, ◌||◌, refl}
+use Rattle.std.proofs.Common.{◌≡◌, Bool, true, false, not, ◌||◌, refl}
 
 pub home_of : (b t : Bool) → (not b || t) ≡ false → b ≡ true
 home_of true t h = refl
@@ -9,21 +9,9 @@ pub touched_of : (b t : Bool) → b ≡ true → (not b || t) ≡ true → t ≡
 touched_of true t e h = h
 touched_of false t e h = cc
 
-pub or_later : (t d : Bool) → d ≡ true → (t || d) ≡ true
-or_later true d h = refl
-or_later false d h = h
-
-pub or_first : (t d : Bool) → t ≡ true → (t || d) ≡ true
-or_first true d h = refl
-or_first false d h = cc
-
 pub or_true : (t d : Bool) → t ≡ false → (t || d) ≡ true → d ≡ true
 or_true true d e h = cc
 or_true false d e h = h
-
-pub and_true : (a b : Bool) → (a && b) ≡ true → (a ≡ true) × (b ≡ true)
-and_true true b e = (refl, e)
-and_true false b e = cc
 
 pub held_before : (b t u : Bool) → (not b || (t || u)) ≡ false → (not b || t) ≡ false
 held_before true true u h = cc
@@ -34,17 +22,6 @@ pub added_before : (b t u : Bool) → (not b || (t || u)) ≡ false → u ≡ fa
 added_before true true u h = cc
 added_before true false u h = h
 added_before false t u h = cc
-
-pub true_false : ◌≡◌ {A = Bool} true false → ⊥
-true_false e = cc
-
-pub either_false : (t d : Bool) → (t || d) ≡ false → t ≡ false
-either_false true d e = e
-either_false false d e = refl
-
-pub later_false : (t d : Bool) → (t || d) ≡ false → d ≡ false
-later_false true d e = cc
-later_false false d e = e
 
 pub held_was : (b t u : Bool) → (u ≡ false → t ≡ false) → (not b || u) ≡ false → (not b || t) ≡ false
 held_was true t u g e = g e

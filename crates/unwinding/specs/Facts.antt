@@ -60,66 +60,61 @@ pub record Facts
       → m.side w l s ≡ Some e → IsQuiet m w.cells (w.partition s) e
   pub sound : (w : WorldOf m) (l : Line) → IsSound w → IsSound (world_step m w l)
 
--- what it owes besides where there are restarts
-pub record KeepingFacts
+module _
     {Site Cell Cells Partition Content Rest Line Event Reply Change KeptPartition KeptCell KeptCells
     : Type 0}
     (m : Machine Site Cell Cells Partition Content Rest Line Event Reply Change)
     (k : Keeping Site Cell Cells Partition Content Rest Change KeptPartition KeptCell KeptCells)
     (IsSound : World Site Cells Partition Rest → Type 0)
-    (IsValid : DurableOf k → Type 0) : Type 0 where
-  -- the container of kept cells answers as a function from cells to kept cells
-  pub get_again : (x : KeptCells) (c : Cell)
-      → m.get (k.cells_again x) c ≡ k.cell_again c (k.kept_get x c)
-  pub get_kept_restrict : (test : Cell → Bool) (x : KeptCells) (c : Cell)
-      → k.kept_get (k.kept_restrict test x) c
-      ≡ (if test c then k.kept_get x c else k.cell_kept c m.blank)
-  pub get_change : (test : Cell → Bool) (h : Change) (x : KeptCells) (c : Cell)
-      → k.kept_get (k.cells_change test h x) c
-      ≡ (if test c then k.cell_change c h (k.kept_get x c) else k.kept_get x c)
-  -- the row changes of an event leave each other site's kept partition
-  pub other_partition : (w : WorldOf m) (l : Line) (a : Occurrence Site Event) → IsSound w
-      → m.main w l ≡ Some a → (s : Site) → m.same_site s a.site ≡ false → (p : KeptPartition)
-      → let q = (after_sides m w l).partition a.site in
-      partition_changes k s (outcome m a.site q w.cells a.event).changes p ≡ p
-  -- they leave each kept cell that the event does not consult
-  pub other_cell : (w : WorldOf m) (l : Line) (a : Occurrence Site Event) → IsSound w
-      → m.main w l ≡ Some a
-      → let q = (after_sides m w l).partition a.site in
-      (c : Cell) → consulted m a.site q a.event c ≡ false → (x : KeptCell)
-      → cell_changes k c (outcome m a.site q w.cells a.event).changes x ≡ x
-  -- of a cell that it consults they make what is kept of the new content
-  pub new_cell : (w : WorldOf m) (l : Line) (a : Occurrence Site Event) → IsSound w
-      → m.main w l ≡ Some a
-      → let q = (after_sides m w l).partition a.site in
-      let o = outcome m a.site q w.cells a.event in
-      (c : Cell) → consulted m a.site q a.event c ≡ true
-      → cell_changes k c o.changes (k.cell_kept c (m.get w.cells c))
-      ≡ k.cell_kept c (m.get o.cells c)
-  -- row changes keep a state valid, and a restart of a valid state is sound
-  pub valid : (d : DurableOf k) (cs : List Change) → IsValid d → IsValid (apply_changes k cs d)
-  pub opens : (r : Rest) (d : DurableOf k) → IsValid d → IsSound (restarted k r d)
-  -- of the cells that a restart opens the same is kept as before
-  pub opened : (d : DurableOf k) (c : Cell) → IsValid d
-      → k.cell_kept c (k.cell_again c (k.kept_get d.cells c)) ≡ k.kept_get d.cells c
+    (IsValid : DurableOf k → Type 0) where
+  -- what it owes besides where there are restarts
+  pub record KeepingFacts : Type 0 where
+    -- the container of kept cells answers as a function from cells to kept cells
+    pub get_again : (x : KeptCells) (c : Cell)
+        → m.get (k.cells_again x) c ≡ k.cell_again c (k.kept_get x c)
+    pub get_kept_restrict : (test : Cell → Bool) (x : KeptCells) (c : Cell)
+        → k.kept_get (k.kept_restrict test x) c
+        ≡ (if test c then k.kept_get x c else k.cell_kept c m.blank)
+    pub get_change : (test : Cell → Bool) (h : Change) (x : KeptCells) (c : Cell)
+        → k.kept_get (k.cells_change test h x) c
+        ≡ (if test c then k.cell_change c h (k.kept_get x c) else k.kept_get x c)
+    -- the row changes of an event leave each other site's kept partition
+    pub other_partition : (w : WorldOf m) (l : Line) (a : Occurrence Site Event) → IsSound w
+        → m.main w l ≡ Some a → (s : Site) → m.same_site s a.site ≡ false → (p : KeptPartition)
+        → let q = (after_sides m w l).partition a.site in
+        partition_changes k s (outcome m a.site q w.cells a.event).changes p ≡ p
+    -- they leave each kept cell that the event does not consult
+    pub other_cell : (w : WorldOf m) (l : Line) (a : Occurrence Site Event) → IsSound w
+        → m.main w l ≡ Some a
+        → let q = (after_sides m w l).partition a.site in
+        (c : Cell) → consulted m a.site q a.event c ≡ false → (x : KeptCell)
+        → cell_changes k c (outcome m a.site q w.cells a.event).changes x ≡ x
+    -- of a cell that it consults they make what is kept of the new content
+    pub new_cell : (w : WorldOf m) (l : Line) (a : Occurrence Site Event) → IsSound w
+        → m.main w l ≡ Some a
+        → let q = (after_sides m w l).partition a.site in
+        let o = outcome m a.site q w.cells a.event in
+        (c : Cell) → consulted m a.site q a.event c ≡ true
+        → cell_changes k c o.changes (k.cell_kept c (m.get w.cells c))
+        ≡ k.cell_kept c (m.get o.cells c)
+    -- row changes keep a state valid, and a restart of a valid state is sound
+    pub valid : (d : DurableOf k) (cs : List Change) → IsValid d → IsValid (apply_changes k cs d)
+    pub opens : (r : Rest) (d : DurableOf k) → IsValid d → IsSound (restarted k r d)
+    -- of the cells that a restart opens the same is kept as before
+    pub opened : (d : DurableOf k) (c : Cell) → IsValid d
+        → k.cell_kept c (k.cell_again c (k.kept_get d.cells c)) ≡ k.kept_get d.cells c
 
--- what it owes besides so that the durable state follows the world
-pub record DurableFacts
-    {Site Cell Cells Partition Content Rest Line Event Reply Change KeptPartition KeptCell KeptCells
-    : Type 0}
-    (m : Machine Site Cell Cells Partition Content Rest Line Event Reply Change)
-    (k : Keeping Site Cell Cells Partition Content Rest Change KeptPartition KeptCell KeptCells)
-    (IsSound : World Site Cells Partition Rest → Type 0)
-    (IsValid : DurableOf k → Type 0) : Type 0 where
-  -- an event beside the main one leaves what is kept of the partition
-  pub side_partition : (w : WorldOf m) (l : Line) (s : Site) → IsSound w
-      → k.partition_kept ((after_sides m w l).partition s) ≡ k.partition_kept (w.partition s)
-  -- the row changes of the main event make what is kept of the new partition
-  pub new_partition : (w : WorldOf m) (l : Line) (a : Occurrence Site Event) → IsSound w
-      → m.main w l ≡ Some a
-      → let q = (after_sides m w l).partition a.site in
-      let o = outcome m a.site q w.cells a.event in
-      partition_changes k a.site o.changes (k.partition_kept q) ≡ k.partition_kept o.partition
-  -- of the partitions that a restart opens the same is kept as before
-  pub opened_partition : (d : DurableOf k) (s : Site) → IsValid d
-      → k.partition_kept (k.partition_again s (d.partition s)) ≡ d.partition s
+  -- what it owes besides so that the durable state follows the world
+  pub record DurableFacts : Type 0 where
+    -- an event beside the main one leaves what is kept of the partition
+    pub side_partition : (w : WorldOf m) (l : Line) (s : Site) → IsSound w
+        → k.partition_kept ((after_sides m w l).partition s) ≡ k.partition_kept (w.partition s)
+    -- the row changes of the main event make what is kept of the new partition
+    pub new_partition : (w : WorldOf m) (l : Line) (a : Occurrence Site Event) → IsSound w
+        → m.main w l ≡ Some a
+        → let q = (after_sides m w l).partition a.site in
+        let o = outcome m a.site q w.cells a.event in
+        partition_changes k a.site o.changes (k.partition_kept q) ≡ k.partition_kept o.partition
+    -- of the partitions that a restart opens the same is kept as before
+    pub opened_partition : (d : DurableOf k) (s : Site) → IsValid d
+        → k.partition_kept (k.partition_again s (d.partition s)) ≡ d.partition s

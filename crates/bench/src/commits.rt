@@ -4,7 +4,7 @@ ghost use Rattle.journal.specs.Journal.{IsAtRest};
 
 use crate::watch::Watch;
 use agent_base::Failed;
-use disk_model::{Disk, FileDisk};
+use disk_model::{Disk, FileDisk, SystemFile};
 use journal::{Journal, OpenFault, Replay, ReplayFault};
 use std::alloc::Global;
 use std::fs::{File, OpenOptions};
@@ -122,7 +122,7 @@ fn failed() -> io::Error {
 
 /// Makes a store on a file, and commits so many bodies of so many bytes, one at least.
 pub fn run(rt: &HostRuntime, path: &str, count: u32, len: u32) -> io::Result<()> {
-    let mut disk = FileDisk::new(new_file(rt, path)?);
+    let mut disk = FileDisk::new(SystemFile::new(new_file(rt, path)?));
     let body = body_of(rt.alloc(), len)?;
     if body.is_empty() {
         return Err(io::ErrorKind::InvalidInput.into());

@@ -1,6 +1,6 @@
 -- What a disk in memory tells after each call.
 use Rattle.std.proofs.Common.{◌≡◌, inl, inr, ◌⊎◌, ⊎_elim, ℕ, zero, suc, ◌+◌, ◌≤◌, List, [], ◌∷◌, ◌++◌, length, take, arith, refl, sym, ◌∙◌, ap, subst, length-append}
-use Rattle.std.specs.Prelude.{Some, Result, Ok, Err, OnOk}
+use Rattle.std.specs.Prelude.{Some}
 use Rattle.std.proofs.lemmas.Grind.{same_number_lists}
 use Rattle.disk_model.specs.Disk.{Written, Torn, Follows, Goes, Elapses}
 use Rattle.disk_model.specs.Image.{IsImage}
@@ -12,11 +12,6 @@ use Rattle.disk_model.specs.MemDisk.{MemView, view_of}
 use Rattle.disk_model.specs.Recovery.{Recovered}
 use Rattle.disk_model.proofs.Recoveries.{recovered_image}
 use Rattle.disk_model.proofs.Past.{since_push, since_keeps}
-
--- whatever a call answers
-pub on_ok : {T E : Type 0} (r : Result T E) (P : Type 0) → P → OnOk r P
-on_ok (Ok v) P p = p
-on_ok (Err e) P p = tt
 
 -- with nothing pending there is one image
 pub image_exact : (file c : List ℕ) → IsImage file [] c → c ≡ file

@@ -46,6 +46,11 @@ view_of disk = record {
 abbrev pub pick_of : Plan → ℕ
 pick_of plan = unwrap_or plan.off 0
 
+-- a call that reads: when it fails, and that it changes the count of faults alone
+pub record Looks {T E : Type 0} (result : Result T E) (old new : MemView) : Type 0 where
+  pub refused : IsErr result ↔ IsTrue (is_some old.plan.off)
+  pub same : new ≡ record old { faults = new.faults }
+
 -- a changing call: when it fails, and what it does to all but the bytes and the counts of faults
 pub record Calls {T E : Type 0} (result : Result T E) (old new : MemView) : Type 0 where
   pub refused : IsErr result ↔ IsTrue (refuses old.plan)

@@ -1,9 +1,10 @@
 //! A disk: a file whose writes may be lost or torn until a sync.
-ghost use Rattle.std.specs.Prelude.{◌≡◌, ◌+◌, ◌<◌, ◌≤◌, List, ℕ, length, true, false, Some};
+ghost use Rattle.std.specs.Prelude.{◌≡◌, ◌+◌, ◌<◌, ◌≤◌, List, ℕ, length, false, Some};
 ghost use Rattle.std.specs.Prelude.{IfOk, OnOk, OnErr};
 ghost use Rattle.agent_base.specs.Counts.{HasCause};
 ghost use Rattle.disk_model.specs.Disk.{View, Holds, Written, Torn, Goes, Follows, IsSettled};
 ghost use Rattle.disk_model.specs.Disk.{Elapses, Stays, Device, HasFailed, UsesRoom};
+ghost use Rattle.disk_model.specs.DiskLaws.{IsLawful};
 
 use agent_base::{Failed, NoMemory};
 
@@ -85,22 +86,6 @@ pub trait Disk {
         ensures writes { OnOk result (writes ≤ (view self.new).room_writes) }
         ensures room { OnErr result (UsesRoom 0 (view self.old) (view self.new)) };
 
-    // This moment is one of those since an earlier one.
-    ghost counts_now: { (disk : Self) (t : ℕ) (c : List ℕ) → t ≤ (view disk).moment
-        → (view disk).may_leave c → (view disk).left_since t c };
-
-    // Since this moment there is no other.
-    ghost only_now: { (disk : Self) (c : List ℕ) → (view disk).left_since (view disk).moment c
-        → (view disk).may_leave c };
-
-    // A disk that tells has contents, and only such a disk.
-    ghost told: { (disk : Self) → (view disk).tells ≡ true
-        → (c : List ℕ) × ((view disk).contents ≡ Some c) };
-
-    ghost tells_contents: { (disk : Self) (c : List ℕ) → (view disk).contents ≡ Some c
-        → (view disk).tells ≡ true };
-
-    // What a read returns is one of the images.
-    ghost contents_may_stay: { (disk : Self) (c : List ℕ) → (view disk).contents ≡ Some c
-        → (view disk).may_leave c };
+    // what is told keeps to the laws
+    ghost lawful: { (disk : Self) → IsLawful (view disk) };
 }

@@ -13,9 +13,11 @@ mod mem_disk;
 mod raw_file;
 mod recovery;
 mod schedule;
+mod system_file;
 
 pub use disk::Disk;
 pub use file_disk::FileDisk;
 pub use mem_disk::MemDisk;
 pub use raw_file::RawFile;
 pub use schedule::Cut;
+pub use system_file::SystemFile;

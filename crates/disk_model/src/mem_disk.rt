@@ -8,9 +8,9 @@ ghost use Rattle.disk_model.specs.Disk.{Stays, Device, HasFailed, UsesRoom};
 ghost use Rattle.disk_model.specs.History.{held, after, wrote, synced, Grows};
 ghost use Rattle.disk_model.specs.Recovery.{Recovered};
 ghost use Rattle.disk_model.specs.Schedule.{AreFrom, next_fails};
-ghost use Rattle.disk_model.specs.MemDisk.{MemView, view_of, pick_of, numbers_of, Calls};
-ghost use Rattle.disk_model.specs.Laws.{contents_stay, now_counts, now_only};
-ghost use Rattle.disk_model.specs.MemLaws.{is_contents};
+ghost use Rattle.disk_model.specs.MemDisk.{MemView, view_of, pick_of, numbers_of, Looks, Calls};
+ghost use Rattle.disk_model.specs.Laws.{contents_stay};
+ghost use Rattle.disk_model.specs.MemLaws.{mem_lawful};
 
 use crate::disk::Disk;
 use crate::medium::Medium;
@@ -133,16 +133,7 @@ impl MemDisk {
 impl Disk for MemDisk {
     ghost view = { view_of };
 
-    ghost counts_now = { λ m t c le image.
-        now_counts m.past.first m.past.events m.base t c le image };
-
-    ghost only_now = { λ m c since. now_only m.past.first m.past.events m.base c since };
-
-    ghost told = { λ m e. ((held m.past).contents, refl) };
-
-    ghost tells_contents = { λ m c is. refl };
-
-    ghost contents_may_stay = { λ m c is. is_contents m.past c is };
+    ghost lawful = { mem_lawful };
 
     // Each call has the trait's clauses, and after them exactly what this disk does.
     fn len(&mut self) -> Result<u64, Failed>
@@ -150,8 +141,7 @@ impl Disk for MemDisk {
             → n ≡ length c) }
         ensures stays { Stays (view_of self.old) (view_of self.new) }
         ensures device { Device 0 0 result (view_of self.old) (view_of self.new) }
-        ensures refused { IsErr result ↔ IsTrue (is_some self.old.plan.off) }
-        ensures same { self.new ≡ record self.old { faults = self.new.faults } }
+        ensures look { Looks result self.old self.new }
     {
         if self.schedule.is_off() {
             return Err(self.fault());
@@ -166,8 +156,7 @@ impl Disk for MemDisk {
             → Holds c at into.new) }
         ensures stays { Stays (view_of self.old) (view_of self.new) }
         ensures device { Device 0 0 result (view_of self.old) (view_of self.new) }
-        ensures refused { IsErr result ↔ IsTrue (is_some self.old.plan.off) }
-        ensures same { self.new ≡ record self.old { faults = self.new.faults } }
+        ensures look { Looks result self.old self.new }
     {
         if self.schedule.is_off() {
             return Err(self.fault());

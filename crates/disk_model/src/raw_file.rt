@@ -1,17 +1,18 @@
 //! A file of the system, whose calls may read or write a part of what they are asked.
-ghost use Rattle.std.specs.Prelude.{◌≡◌, ◌+◌, ◌<◌, ◌≤◌, List, ℕ, length, true, Some};
+ghost use Rattle.std.specs.Prelude.{◌≡◌, ◌^◌, ◌<◌, ◌≤◌, List, ℕ, length, Some};
 ghost use Rattle.std.specs.Prelude.{IfOk, OnOk, OnErr};
 ghost use Rattle.disk_model.specs.Disk.{View, Torn, Goes, Follows, IsSettled, Elapses, Stays};
-ghost use Rattle.disk_model.specs.RawFile.{HoldsFirst, WrittenFirst};
+ghost use Rattle.disk_model.specs.DiskLaws.{IsLawful};
+ghost use Rattle.disk_model.specs.RawFile.{HoldsFirst, WrittenFirst, CountsFault};
 
 use agent_base::Failed;
-use std::fs::File;
-use std::os::unix::fs::FileExt;
 
-/// An open file. What it tells of its bytes is said as of a disk; its counts are not looked at.
+/// An open file. What it tells of its bytes and of its faults is said as of a disk; its other
+/// counts are not looked at.
 ///
 /// [`FileDisk`](crate::FileDisk) makes a disk of it. Its proof holds for each file that tells, so
-/// that of a file of the system only the few lines below are believed.
+/// that of a file of the system only the few lines of [`SystemFile`](crate::SystemFile) are
+/// believed.
 pub trait RawFile {
     // what the file tells
     ghost view: { Self → View };
@@ -20,7 +21,8 @@ pub trait RawFile {
     fn len(&mut self) -> Result<u64, Failed>
         ensures len { IfOk result (λ n. (c : List ℕ) → (view self.old).contents ≡ Some c
             → n ≡ length c) }
-        ensures stays { Stays (view self.old) (view self.new) };
+        ensures stays { Stays (view self.old) (view self.new) }
+        ensures faults { CountsFault result (view self.old) (view self.new) };
 
     /// Reads the first bytes from an offset, as many as it answers, and at least one.
     fn read_some(&mut self, at: u64, into: &mut [u8]) -> Result<usize, Failed>
@@ -28,7 +30,8 @@ pub trait RawFile {
         ensures some { IfOk result (λ n. (0 < n) × (n ≤ length into.old)) }
         ensures read { IfOk result (λ n. (c : List ℕ) → (view self.old).contents ≡ Some c
             → HoldsFirst c at n into.new) }
-        ensures stays { Stays (view self.old) (view self.new) };
+        ensures stays { Stays (view self.old) (view self.new) }
+        ensures faults { CountsFault result (view self.old) (view self.new) };
 
     /// Writes the first of these bytes, as many as it answers, and at least one.
     ///
@@ -46,7 +49,8 @@ pub trait RawFile {
             (view self.old).may_leave (view self.new).may_leave }
         ensures kept { (c : List ℕ) → (view self.old).may_leave c → (view self.new).may_leave c }
         ensures time { Elapses (view self.old) (view self.new) }
-        ensures tells { (view self.new).tells ≡ (view self.old).tells };
+        ensures tells { (view self.new).tells ≡ (view self.old).tells }
+        ensures faults { CountsFault result (view self.old) (view self.new) };
 
     /// At `Ok` a cut leaves what a read returns.
     fn sync(&mut self) -> Result<(), Failed>
@@ -54,7 +58,8 @@ pub trait RawFile {
         ensures settled { OnOk result (IsSettled (view self.new)) }
         ensures images { (c : List ℕ) → (view self.new).may_leave c → (view self.old).may_leave c }
         ensures time { Elapses (view self.old) (view self.new) }
-        ensures tells { (view self.new).tells ≡ (view self.old).tells };
+        ensures tells { (view self.new).tells ≡ (view self.old).tells }
+        ensures faults { CountsFault result (view self.old) (view self.new) };
 
     /// The power is cut and comes back. A file of the system stays as it is.
     fn restart(&mut self) -> Result<(), Failed>
@@ -64,70 +69,13 @@ pub trait RawFile {
             → (view self.new).contents ≡ Some c) }
         ensures failed { OnErr result ((c : List ℕ) → (view self.new).may_leave c
             → (view self.old).may_leave c) }
-        ensures tells { (view self.new).tells ≡ (view self.old).tells };
+        ensures tells { (view self.new).tells ≡ (view self.old).tells }
+        ensures faults { CountsFault result (view self.old) (view self.new) };
 
-    // The laws of a disk.
-    ghost counts_now: { (file : Self) (t : ℕ) (c : List ℕ) → t ≤ (view file).moment
-        → (view file).may_leave c → (view file).left_since t c };
+    // what is told keeps to the laws of a disk
+    ghost lawful: { (file : Self) → IsLawful (view file) };
 
-    ghost only_now: { (file : Self) (c : List ℕ) → (view file).left_since (view file).moment c
-        → (view file).may_leave c };
-
-    ghost told: { (file : Self) → (view file).tells ≡ true
-        → (c : List ℕ) × ((view file).contents ≡ Some c) };
-
-    ghost tells_contents: { (file : Self) (c : List ℕ) → (view file).contents ≡ Some c
-        → (view file).tells ≡ true };
-
-    ghost contents_may_stay: { (file : Self) (c : List ℕ) → (view file).contents ≡ Some c
-        → (view file).may_leave c };
-}
-
-// A file of the system tells nothing. What these lines do is believed.
-impl RawFile for File {
-    ghost use Rattle.disk_model.specs.TellsNothing.{untold, none_is, false_told};
-
-    ghost view = { λ f. untold 0 0 };
-
-    ghost counts_now = { λ f t c le left. absurd left };
-
-    ghost only_now = { λ f c left. left };
-
-    ghost told = { λ f e. false_told _ e };
-
-    ghost tells_contents = { λ f c is. absurd (none_is c is) };
-
-    ghost contents_may_stay = { λ f c is. none_is c is };
-
-    fn len(&mut self) -> Result<u64, Failed> {
-        match self.metadata() {
-            Ok(metadata) => Ok(metadata.len()),
-            Err(_) => Err(Failed),
-        }
-    }
-
-    fn read_some(&mut self, at: u64, into: &mut [u8]) -> Result<usize, Failed> {
-        match self.read_at(into, at) {
-            Ok(n) if n > 0 && n <= into.len() => Ok(n),
-            _ => Err(Failed),
-        }
-    }
-
-    fn write_some(&mut self, at: u64, bytes: &[u8]) -> Result<usize, Failed> {
-        match self.write_at(bytes, at) {
-            Ok(n) if n > 0 && n <= bytes.len() => Ok(n),
-            _ => Err(Failed),
-        }
-    }
-
-    fn sync(&mut self) -> Result<(), Failed> {
-        match self.sync_all() {
-            Ok(()) => Ok(()),
-            Err(_) => Err(Failed),
-        }
-    }
-
-    fn restart(&mut self) -> Result<(), Failed> {
-        Ok(())
-    }
+    // each offset in what is told is a number of 64 bits
+    ghost fits: { (file : Self) (c : List ℕ) → (view file).contents ≡ Some c
+        → length c < 2 ^ 64 };
 }

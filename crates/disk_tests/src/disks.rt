@@ -1,7 +1,7 @@
 //! What a restart leaves after each pick, and a disk over a file of the system.
 use crate::part_file::PartFile;
 use crate::shared::{bytes_of, disk_of, new_file, path_of};
-use disk_model::{Cut, Disk, FileDisk};
+use disk_model::{Cut, Disk, FileDisk, SystemFile};
 use std::alloc::Global;
 use std::fs::{self, OpenOptions};
 use std::test::Fail;
@@ -93,13 +93,14 @@ fn is_written<D: Disk>(disk: &mut D) -> bool {
 fn a_file_keeps_what_was_written(rt: HostRuntime) -> Result<(), Fail> {
     let alloc = rt.alloc();
     let path = path_of(&rt, "file_disk")?;
-    let mut disk = FileDisk::new(new_file(&rt, &path)?);
+    let mut disk = FileDisk::new(SystemFile::new(new_file(&rt, &path)?));
     let is_so = is_written(&mut disk);
     let after = restarted(alloc, &mut disk)?;
     assert!(rt; is_so);
     assert_eq!(rt; after.as_slice(), b"abXYZ".as_slice());
     assert!(rt; disk.read_at(4, &mut [0; 2]).is_err());
-    let mut read_alone = FileDisk::new(OpenOptions::new().read(true).open(&rt, &path)?);
+    let read_alone = OpenOptions::new().read(true).open(&rt, &path)?;
+    let mut read_alone = FileDisk::new(SystemFile::new(read_alone));
     assert_eq!(rt; read_alone.len(), Ok(5));
     assert!(rt; read_alone.write_at(0, b"abc").is_err());
     let after = restarted(alloc, &mut read_alone)?;
@@ -111,7 +112,7 @@ fn a_file_keeps_what_was_written(rt: HostRuntime) -> Result<(), Fail> {
 #[test]
 fn a_full_device_is_a_fault(rt: HostRuntime) -> Result<(), Fail> {
     let full = OpenOptions::new().write(true).open(&rt, "/dev/full")?;
-    let mut disk = FileDisk::new(full);
+    let mut disk = FileDisk::new(SystemFile::new(full));
     assert!(rt; disk.write_at(0, b"abc").is_err());
     Ok(())
 }

@@ -1,16 +1,20 @@
 //! A file in memory whose calls read or write at most so many bytes, and one of which fails.
+ghost use Rattle.std.specs.Prelude.{◌≡◌, ◌+◌, ◌≤◌};
+ghost use Rattle.agent_base.specs.Counts.{next_count};
+
 use agent_base::Failed;
 use disk_model::RawFile;
 use std::alloc::{AllocError, Global};
 use std::test::Fail;
 
-/// It tells nothing, as a file of the system.
+/// It tells its count of faults and nothing else, as a file of the system.
 #[derive(Debug, Drop)]
 pub struct PartFile {
     bytes: Vec<u8>,
     most: usize,
     fails: u64,
     calls: u64,
+    faults: u64,
 }
 
 impl PartFile {
@@ -24,13 +28,26 @@ impl PartFile {
             most,
             fails,
             calls: 0,
+            faults: 0,
         })
     }
 
     // One call more: whether it fails.
-    fn call(&mut self) -> bool {
+    fn call(&mut self) -> bool
+        ensures faults { self.new.faults ≡ self.old.faults }
+    {
         self.calls = self.calls.saturating_add(1);
         self.calls == self.fails
+    }
+
+    // A call that failed.
+    fn fault(&mut self) -> Failed
+        ensures later { self.old.faults ≤ self.new.faults }
+        ensures one { self.new.faults ≤ self.old.faults + 1 }
+        ensures counted { self.new.faults ≡ next_count self.old.faults }
+    {
+        self.faults = self.faults.saturating_add(1);
+        Failed
     }
 }
 
@@ -45,19 +62,13 @@ fn put(bytes: &mut Vec<u8>, at: usize, piece: &[u8]) -> Result<(), AllocError> {
 }
 
 impl RawFile for PartFile {
-    ghost use Rattle.disk_model.specs.TellsNothing.{untold, none_is, false_told};
+    ghost use Rattle.disk_model.specs.TellsNothing.{untold, untold_lawful, untold_fits};
 
-    ghost view = { λ f. untold 0 0 };
+    ghost view = { λ f. untold f.faults };
 
-    ghost counts_now = { λ f t c le left. absurd left };
+    ghost lawful = { λ f. untold_lawful f.faults };
 
-    ghost only_now = { λ f c left. left };
-
-    ghost told = { λ f e. false_told _ e };
-
-    ghost tells_contents = { λ f c is. absurd (none_is c is) };
-
-    ghost contents_may_stay = { λ f c is. none_is c is };
+    ghost fits = { λ f c is. untold_fits f.faults c is };
 
     fn len(&mut self) -> Result<u64, Failed> {
         Ok(self.bytes.len() as u64)
@@ -66,7 +77,7 @@ impl RawFile for PartFile {
     fn read_some(&mut self, at: u64, into: &mut [u8]) -> Result<usize, Failed> {
         let at = at as usize;
         if self.call() || at >= self.bytes.len() || self.most == 0 {
-            return Err(Failed);
+            return Err(self.fault());
         }
         let n = into.len().min(self.most).min(self.bytes.len() - at);
         into[..n].copy_from_slice(&self.bytes[at..at + n]);
@@ -75,11 +86,11 @@ impl RawFile for PartFile {
 
     fn write_some(&mut self, at: u64, bytes: &[u8]) -> Result<usize, Failed> {
         if self.call() || self.most == 0 {
-            return Err(Failed);
+            return Err(self.fault());
         }
         let n = bytes.len().min(self.most);
         let Ok(()) = put(&mut self.bytes, at as usize, &bytes[..n]) else {
-            return Err(Failed);
+            return Err(self.fault());
         };
         Ok(n)
     }

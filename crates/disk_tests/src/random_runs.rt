@@ -4,7 +4,7 @@ ghost use Rattle.journal.specs.Journal.{IsAtRest};
 
 use crate::journals::{is_made, kept, worked};
 use crate::shared::{Bodies, DIGEST, add, disk_of, new_file, path_of};
-use disk_model::{Cut, Disk, FileDisk};
+use disk_model::{Cut, Disk, FileDisk, SystemFile};
 use journal::{Journal, OpenFault};
 use std::alloc::Global;
 use std::fs;
@@ -132,7 +132,7 @@ fn a_cut_keeps_what_random_commits_acknowledged(rt: HostRuntime) -> Result<(), F
 fn a_file_of_the_system_has_the_worked_store(rt: HostRuntime) -> Result<(), Fail> {
     let alloc = rt.alloc();
     let path = path_of(&rt, "journal")?;
-    let mut disk = FileDisk::new(new_file(&rt, &path)?);
+    let mut disk = FileDisk::new(SystemFile::new(new_file(&rt, &path)?));
     let is_so = is_made(alloc, &mut disk, true, false);
     let found = fs::read(&rt, &path)?;
     let again = kept(alloc, &mut disk);

@@ -34,34 +34,43 @@ module _ (v w x : View) (live : Bool) (number to : ℕ) (digest d : List ℕ) (b
       (next.0, next.1, both.0, both.1)
 
 -- of the store that a journal has
-module _ (j : JournalView) (v x : View) (body block : List ℕ) (to : ℕ) (apart : IsApart to (length block) j.begin j.end) (is_block : IsBlock (snapshot_frame j body) block) (to_fits : to < 2 ^ 64) where
+module _ (j : JournalView) (v x : View) (body block : List ℕ) (to : ℕ) (apart : IsApart to (length block) j.begin j.end) (is_block : IsBlock (snapshot_frame j body) block) (to_fits : to < 2 ^ 64) (k : JournalView) (same : j ≡ k) where
   abbrev pub MomentsOf : Type 0
   MomentsOf = (c digest : List ℕ) (begin end : ℕ) (frames : List Frame) (f : Frame) → v.contents ≡ Some c → IsRegion digest c j.live j.number begin end frames → IsApart to (length block) begin end → IsBlock f block
       → LeavesOnly v x (IsBeforeOrSnapshot digest frames f)
 
-  pub checkpoint_moments : MomentsOf → (c : List ℕ) (frames : List Frame) → v.contents ≡ Some c → Stands j c frames → LeavesOnly v x (IsBeforeOrSnapshot j.digest frames (snapshot_frame j body))
-  checkpoint_moments moments c frames is s = moments c j.digest j.begin j.end frames (snapshot_frame j body) is (region_of j c frames s) apart is_block
+  abbrev MomentsAt : JournalView → Type 0
+  MomentsAt i = (c : List ℕ) (frames : List Frame) → v.contents ≡ Some c → Stands i c frames → LeavesOnly v x (IsBeforeOrSnapshot i.digest frames (snapshot_frame i body))
+
+  pub checkpoint_moments : MomentsOf → MomentsAt k
+  checkpoint_moments moments = subst MomentsAt same (λ c frames is s. moments c j.digest j.begin j.end frames (snapshot_frame j body) is (region_of j c frames s) apart is_block)
 
   abbrev pub SwitchedOf : Type 0
   SwitchedOf = (c digest : List ℕ) (begin end : ℕ) (frames : List Frame) (f : Frame) → v.contents ≡ Some c → IsRegion digest c j.live j.number begin end frames → IsApart to (length block) begin end → IsBlock f block
       → (d : List ℕ) × (x.contents ≡ Some d) × Head digest d (not j.live) ((j.number + 1) % 2 ^ 64) to × FramesAt d to (f ∷ [])
 
   module _ (sw : SwitchedOf) (end room : ℕ) (shut : Bool) (ends : end ≡ to + 18 + length body) where
-    pub checkpoint_stands : (c : List ℕ) (frames : List Frame) → v.contents ≡ Some c → Stands j c frames
-        → (d : List ℕ) × (x.contents ≡ Some d) × Stands (record j { live = not j.live; number = (j.number + 1) % 2 ^ 64; begin = to; end = end; base = j.changes; shut = shut; room = room }) d (snapshot_frame j body ∷ [])
-    checkpoint_stands c frames is s =
+    stood : (c : List ℕ) (frames : List Frame) → v.contents ≡ Some c → Stands j c frames → (d : List ℕ) × (x.contents ≡ Some d) × Stands (record j { live = not j.live; number = (j.number + 1) % 2 ^ 64; begin = to; end = end; base = j.changes; shut = shut; room = room }) d (snapshot_frame j body ∷ [])
+    stood c frames is s =
         let d = sw c j.digest j.begin j.end frames (snapshot_frame j body) is (region_of j c frames s) apart is_block in
         (d.0, d.1, record { head = d.2; from = apart.0; fits = to_fits; frames_at = d.3; sized = (is_block.last, is_block.size, tt); end = omega (arith, ends); last = refl; base = refl })
 
+    abbrev StandsAfter : JournalView → Type 0
+    StandsAfter i = (c : List ℕ) (frames : List Frame) → v.contents ≡ Some c → Stands i c frames
+        → (d : List ℕ) × (x.contents ≡ Some d) × Stands (record j { live = not j.live; number = (j.number + 1) % 2 ^ 64; begin = to; end = end; base = j.changes; shut = shut; room = room }) d (snapshot_frame i body ∷ [])
+
+    pub checkpoint_stands : StandsAfter k
+    checkpoint_stands = subst StandsAfter same stood
+
     -- the disk that tells then told before
-    pub checkpoint_rests : IsAtRest j v → ((d : List ℕ) → x.contents ≡ Some d → (c : List ℕ) × (v.contents ≡ Some c)) → (d : List ℕ) → x.contents ≡ Some d
+    pub checkpoint_rests : IsAtRest k v → ((d : List ℕ) → x.contents ≡ Some d → (c : List ℕ) × (v.contents ≡ Some c)) → (d : List ℕ) → x.contents ≡ Some d
         → (frames : List Frame) × Stands (record j { live = not j.live; number = (j.number + 1) % 2 ^ 64; begin = to; end = end; base = j.changes; shut = shut; room = room }) d frames
     checkpoint_rests rest before d told =
         let was = before d told in
-        let s = rest.stands was.0 was.1 in
-        let stood = checkpoint_stands was.0 s.0 was.1 s.1 in
-        let same : stood.0 ≡ d = some_is stood.0 d (sym stood.1 ∙ told) in
-        (snapshot_frame j body ∷ [], subst (λ (l : List ℕ). Stands (record j { live = not j.live; number = (j.number + 1) % 2 ^ 64; begin = to; end = end; base = j.changes; shut = shut; room = room }) l (snapshot_frame j body ∷ [])) same stood.2)
+        let s = (subst (λ (i : JournalView). IsAtRest i v) (sym same) rest).stands was.0 was.1 in
+        let next = stood was.0 s.0 was.1 s.1 in
+        let is_d : next.0 ≡ d = some_is next.0 d (sym next.1 ∙ told) in
+        (snapshot_frame j body ∷ [], subst (λ (l : List ℕ). Stands (record j { live = not j.live; number = (j.number + 1) % 2 ^ 64; begin = to; end = end; base = j.changes; shut = shut; room = room }) l (snapshot_frame j body ∷ [])) is_d next.2)
       where
         some_is : (a b : List ℕ) → Some a ≡ Some b → a ≡ b
         some_is a b e = cc

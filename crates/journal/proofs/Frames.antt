@@ -3,7 +3,7 @@ use Rattle.std.proofs.Common.{◌≡◌, inl, inr, ℕ, ◌+◌, ◌≤◌, ◌<
 use Rattle.std.specs.Prelude.{replicate}
 use Rattle.std.specs.Int.{w64, to_le_bytes}
 use Rattle.journal.specs.Append.{Same}
-use Rattle.journal.specs.Store.{IsClosed, IsOpen, Frame, encoded, frame_len, frames_len, FramesAt, slot_bytes, IsOlder, magic, version_bytes, Head, last_of}
+use Rattle.journal.specs.Store.{IsClosed, IsOpen, Frame, encoded, frame_len, frames_len, FramesAt, slot_at, other_at, slot_bytes, IsOlder, magic, version_bytes, Head, last_of}
 use Rattle.journal.proofs.Ranges.{same_within, holds_same}
 
 pub length-encoded : (f : Frame) → length (encoded f) ≡ 17 + length f.body
@@ -45,26 +45,20 @@ older_same : (at number : ℕ) (x y : List ℕ) → at + 17 ≤ 128 → Same 0 1
 older_same at number x y within same (inl shut) = inl (closed_same 0 128 at x y (omega arith) (omega arith) same shut)
 older_same at number x y within same (inr o) = inr (o.0, o.1, open_same 0 128 at x y (omega arith) (omega arith) same o.2, o.3, holds_same 0 128 (at + 1) (slot_bytes o.0 o.1) x y (omega arith) (omega arith) same o.4)
 
+-- both slots stand before the zeros
+pub slots_small : (live : Bool) → (slot_at live ≤ 61) × (other_at live ≤ 61)
+slots_small true = (omega arith, omega arith)
+slots_small false = (omega arith, omega arith)
+
 pub head_same : (digest x y : List ℕ) (live : Bool) (number begin : ℕ) → Same 0 128 x y → Head digest x live number begin → Head digest y live number begin
-head_same digest x y true number begin same h = record {
+head_same digest x y live number begin same h = record {
   gate = open_same 0 128 0 x y (omega arith) (omega arith) same h.gate;
   name = holds_same 0 128 1 magic x y (omega arith) (omega arith) same h.name;
   version = holds_same 0 128 8 version_bytes x y (omega arith) (omega arith) same h.version;
   digest_size = h.digest_size;
   digest_at = holds_same 0 128 12 digest x y (omega arith) (omega (arith, h.digest_size)) same h.digest_at;
-  slot = open_same 0 128 61 x y (omega arith) (omega arith) same h.slot;
-  slot_says = holds_same 0 128 62 (slot_bytes number begin) x y (omega arith) (omega arith) same h.slot_says;
-  older = older_same 44 number x y (omega arith) same h.older;
-  zero = holds_same 0 128 78 (replicate 50 0) x y (omega arith) (omega arith) same h.zero;
-}
-head_same digest x y false number begin same h = record {
-  gate = open_same 0 128 0 x y (omega arith) (omega arith) same h.gate;
-  name = holds_same 0 128 1 magic x y (omega arith) (omega arith) same h.name;
-  version = holds_same 0 128 8 version_bytes x y (omega arith) (omega arith) same h.version;
-  digest_size = h.digest_size;
-  digest_at = holds_same 0 128 12 digest x y (omega arith) (omega (arith, h.digest_size)) same h.digest_at;
-  slot = open_same 0 128 44 x y (omega arith) (omega arith) same h.slot;
-  slot_says = holds_same 0 128 45 (slot_bytes number begin) x y (omega arith) (omega arith) same h.slot_says;
-  older = older_same 61 number x y (omega arith) same h.older;
+  slot = open_same 0 128 (slot_at live) x y (omega arith) (omega (arith, (slots_small live).0)) same h.slot;
+  slot_says = holds_same 0 128 (slot_at live + 1) (slot_bytes number begin) x y (omega arith) (omega (arith, (slots_small live).0)) same h.slot_says;
+  older = older_same (other_at live) number x y (omega (arith, (slots_small live).1)) same h.older;
   zero = holds_same 0 128 78 (replicate 50 0) x y (omega arith) (omega arith) same h.zero;
 }

@@ -1,5 +1,5 @@
 -- A head from its parts, and its live slot.
-use Rattle.std.proofs.Common.{◌≡◌, inl, inr, ⊎_elim, ℕ, ◌+◌, ◌%◌, ◌^◌, ◌≤◌, ◌<◌, Bool, true, false, List, length, slice_index, arith, refl}
+use Rattle.std.proofs.Common.{◌≡◌, inl, inr, ℕ, ◌+◌, ◌%◌, ◌^◌, ◌≤◌, ◌<◌, Bool, true, false, List, length, slice_index, arith, refl}
 use Rattle.std.specs.Prelude.{replicate, IsTrue, ◌↔◌}
 use Rattle.std.proofs.lemmas.Bool.{cases_eq}
 use Rattle.disk_model.specs.Disk.{Holds}
@@ -43,28 +43,20 @@ module _ (file : List ℕ) (first second : Bool) (a x b y : ℕ) (long : 129 ≤
   any_live true next = (b, y, second_live next)
   any_live false next = (a, x, first_live next)
 
+  -- the number of the live slot comes after that of the other one, where both are open
+  comes_after : (at other n k begun was : ℕ) → n < 2 ^ 64 → k < 2 ^ 64 → Holds file (at + 1) (slot_bytes n begun) → IsOpen file other → Holds file (other + 1) (slot_bytes k was)
+      → (number begin : ℕ) → Holds file (at + 1) (slot_bytes number begin) → IsOlder file other number → n ≡ (k + 1) % 2 ^ 64
+  comes_after at other n k begun was small_n small_k says is_open other_says number begin live_says (inl closed) = absurd (is_open.1 closed.1)
+  comes_after at other n k begun was small_n small_k says is_open other_says number begin live_says (inr o) =
+      follows number o.0 (same_number file (at + 1) number n begin begun live_says says) (same_number file (other + 1) o.0 k o.1 was o.4 other_says) o.3
+    where
+      follows : (m l : ℕ) → m % 2 ^ 64 ≡ n % 2 ^ 64 → l % 2 ^ 64 ≡ k % 2 ^ 64 → m ≡ (l + 1) % 2 ^ 64 → n ≡ (k + 1) % 2 ^ 64
+      follows m l one two is = omega (arith, small_n, small_k)
+
   -- a slot that is live by the file is so by its parts
   next_live : (small_a : a < 2 ^ 64) (small_b : b < 2 ^ 64) (p q : Bool) → first ≡ p → second ≡ q → (live : Bool) (number begin : ℕ) → IsLive file live number begin → IsNext p a q b live
-  next_live small_a small_b true true e f true number begin is = ⊎_elim
-      (λ (closed : IsClosed file 44). absurd ((first_gate.0 e).1 closed.1))
-      (λ (o : (older : ℕ) × (was : ℕ) × IsOpen file 44 × (number ≡ (older + 1) % 2 ^ 64) × Holds file 45 (slot_bytes older was)).
-      let one = same_number file 62 number b begin y is.says second_says in
-      let two = same_number file 45 o.0 a o.1 x o.4 first_says in
-      follows b number a o.0 small_b small_a one two o.3)
-      is.older
-    where
-      follows : (n m k l : ℕ) → n < 2 ^ 64 → k < 2 ^ 64 → m % 2 ^ 64 ≡ n % 2 ^ 64 → l % 2 ^ 64 ≡ k % 2 ^ 64 → m ≡ (l + 1) % 2 ^ 64 → n ≡ (k + 1) % 2 ^ 64
-      follows n m k l sn sk one two is = omega arith
-  next_live small_a small_b true true e f false number begin is = ⊎_elim
-      (λ (closed : IsClosed file 61). absurd ((second_gate.0 f).1 closed.1))
-      (λ (o : (older : ℕ) × (was : ℕ) × IsOpen file 61 × (number ≡ (older + 1) % 2 ^ 64) × Holds file 62 (slot_bytes older was)).
-      let one = same_number file 45 number a begin x is.says first_says in
-      let two = same_number file 62 o.0 b o.1 y o.4 second_says in
-      follows a number b o.0 small_a small_b one two o.3)
-      is.older
-    where
-      follows : (n m k l : ℕ) → n < 2 ^ 64 → k < 2 ^ 64 → m % 2 ^ 64 ≡ n % 2 ^ 64 → l % 2 ^ 64 ≡ k % 2 ^ 64 → m ≡ (l + 1) % 2 ^ 64 → n ≡ (k + 1) % 2 ^ 64
-      follows n m k l sn sk one two is = omega arith
+  next_live small_a small_b true true e f true number begin is = comes_after 61 44 b a y x small_b small_a second_says (first_gate.0 e) first_says number begin is.says is.older
+  next_live small_a small_b true true e f false number begin is = comes_after 44 61 a b x y small_a small_b first_says (second_gate.0 f) second_says number begin is.says is.older
   next_live small_a small_b true false e f true number begin is = absurd (true_false second (second_gate.1 is.slot) f)
   next_live small_a small_b true false e f false number begin is = refl
   next_live small_a small_b false true e f true number begin is = refl

@@ -52,7 +52,3 @@ err_of (Err w) P holds e is = let same : w ≡ e = cc in subst P same holds
 pub if_then : {T E : Type 0} (r : Result T E) (P Q : T → Type 0) → ((v : T) → P v → Q v) → IfOk r P → IfOk r Q
 if_then (Ok v) P Q to p = to v p
 if_then (Err e) P Q to p = tt
-
-pub on_then : {T E : Type 0} (r : Result T E) (P Q : Type 0) → (P → Q) → OnOk r P → OnOk r Q
-on_then (Ok v) P Q to p = to p
-on_then (Err e) P Q to p = tt

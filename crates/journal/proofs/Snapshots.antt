@@ -188,29 +188,33 @@ module _ (digest c : List ℕ) (live : Bool) (number begin end : ℕ) (frames : 
           let place : a + 0 ≡ other_at live = omega arith in
           between (omega (arith, w.len), ap (λ (k : ℕ). slice_index file k) (sym place) ∙ w.each 0 (omega arith))
 
+-- the slots change places
+other_is : (live : Bool) → other_at live ≡ slot_at (not live)
+other_is true = refl
+other_is false = refl
+
+slot_is : (live : Bool) → slot_at live ≡ other_at (not live)
+slot_is true = refl
+slot_is false = refl
+
 -- the head once the other slot is open
 new_head : (digest c file : List ℕ) (live : Bool) (number begin to : ℕ) → Around live c file → Head digest c live number begin
     → IsOpen file (other_at live) → Holds file (other_at live + 1) (slot_bytes ((number + 1) % 2 ^ 64) to) → Head digest file (not live) ((number + 1) % 2 ^ 64) to
-new_head digest c file true number begin to same h is_open says = record {
+new_head digest c file live number begin to same h is_open says = record {
   gate = open_same 0 44 0 c file (omega arith) (omega arith) same.low h.gate;
   name = holds_same 0 44 1 magic c file (omega arith) (omega arith) same.low h.name;
   version = holds_same 0 44 8 version_bytes c file (omega arith) (omega arith) same.low h.version;
   digest_size = h.digest_size;
   digest_at = holds_same 0 44 12 digest c file (omega arith) (omega (arith, h.digest_size)) same.low h.digest_at;
-  slot = is_open;
-  slot_says = says;
-  older = inr (number, begin, open_same 61 78 61 c file (omega arith) (omega arith) same.slot h.slot, refl, holds_same 61 78 62 (slot_bytes number begin) c file (omega arith) (omega arith) same.slot h.slot_says);
-  zero = holds_same 78 128 78 (replicate 50 0) c file (omega arith) (omega arith) same.high h.zero;
-}
-new_head digest c file false number begin to same h is_open says = record {
-  gate = open_same 0 44 0 c file (omega arith) (omega arith) same.low h.gate;
-  name = holds_same 0 44 1 magic c file (omega arith) (omega arith) same.low h.name;
-  version = holds_same 0 44 8 version_bytes c file (omega arith) (omega arith) same.low h.version;
-  digest_size = h.digest_size;
-  digest_at = holds_same 0 44 12 digest c file (omega arith) (omega (arith, h.digest_size)) same.low h.digest_at;
-  slot = is_open;
-  slot_says = says;
-  older = inr (number, begin, open_same 44 61 44 c file (omega arith) (omega arith) same.slot h.slot, refl, holds_same 44 61 45 (slot_bytes number begin) c file (omega arith) (omega arith) same.slot h.slot_says);
+  slot = subst (IsOpen file) (other_is live) is_open;
+  slot_says = subst (λ (k : ℕ). Holds file (k + 1) (slot_bytes ((number + 1) % 2 ^ 64) to)) (other_is live) says;
+  older = subst (λ (k : ℕ). IsOlder file k ((number + 1) % 2 ^ 64)) (slot_is live) (inr (
+    number,
+    begin,
+    open_same (slot_at live) (slot_at live + 17) (slot_at live) c file (omega arith) (omega arith) same.slot h.slot,
+    refl,
+    holds_same (slot_at live) (slot_at live + 17) (slot_at live + 1) (slot_bytes number begin) c file (omega arith) (omega arith) same.slot h.slot_says,
+  ));
   zero = holds_same 78 128 78 (replicate 50 0) c file (omega arith) (omega arith) same.high h.zero;
 }
 

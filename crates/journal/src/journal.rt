@@ -103,7 +103,8 @@ impl Journal {
     /// Adds a frame with this body. Takes no memory. Four changing calls.
     ///
     /// `changes` is how many changes the body has: another number, or an empty body, is a fault of
-    /// the store where it is opened. The number is not looked at, for the journal reads no body.
+    /// the store where it is opened. The number is not looked at, for the journal reads no body. A
+    /// batch without changes is not committed: the store has it already, as the frames before it.
     ///
     /// At `Ok` each cut from then on leaves a store that has the frame, until a checkpoint. After
     /// `DeviceFault` the journal is shut, and the store has the frames from before or these and

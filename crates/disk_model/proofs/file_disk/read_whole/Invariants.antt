@@ -9,6 +9,7 @@ invariant-pieces g l =
     record {
       within : l.done ≤ length l.into;
       stays : Stays (view l.fn.file) (view l.file);
+      faults : (view l.file).faults ≡ (view l.fn.file).faults;
       read : (c : List ℕ) → (view l.fn.file).contents ≡ Some c → (i : ℕ) → i < l.done → slice_index c (l.at + i) ≡ slice_index l.into i;
     }
 

@@ -30,4 +30,5 @@ pieces-preserved g c =
       kept = λ x left. e.kept x (i.kept x left);
       time = time_then old mid new i.time e.kept e.time;
       tells = e.tells ∙ i.tells;
+      faults = e.faults.cause.still ∙ i.faults;
     }

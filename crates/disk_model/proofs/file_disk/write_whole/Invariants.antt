@@ -14,6 +14,7 @@ invariant-pieces g l =
       kept : (c : List ℕ) → old.may_leave c → new.may_leave c;
       time : Elapses old new;
       tells : new.tells ≡ old.tells;
+      faults : new.faults ≡ old.faults;
     }
 
 abbrev pub decreases-pieces : goal.decreases-pieces

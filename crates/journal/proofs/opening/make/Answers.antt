@@ -1,32 +1,26 @@
-use Rattle.std.proofs.Common.{◌≡◌, ◌⊎◌, ◌∷◌, [], List, ℕ, length, arith, ◌∙◌, subst, refl, rules}
-use Rattle.disk_model.specs.Disk.{Written, LeavesOnly}
+use Rattle.std.proofs.Common.{◌≡◌, ◌⊎◌, ◌≤◌, ◌∷◌, [], List, ℕ, length, slice_index, arith, ◌∙◌, subst, refl, rules}
+use Rattle.disk_model.specs.Disk.{View, Written, LeavesOnly}
 use Rattle.journal.specs.Append.{IsAppending}
 use Rattle.journal.specs.Store.{IsUnborn, IsStore, new_head}
 use Rattle.journal.proofs.Moments.{weaker, goes_back}
 use Rattle.journal.proofs.Birth.{birth, born_parts, opened}
 use Rattle.journal.proofs.opening.make.Goals as goal
 
+-- what an append of the head leaves at each moment
+born : (v w : View) (digest block file : List ℕ) → length digest ≡ 32 → block ≡ new_head digest → (1 ≤ length file) × (slice_index file 0 ≡ 0) → LeavesOnly v w (IsAppending 0 block file) → LeavesOnly v w (λ image. IsUnborn image ⊎ IsStore digest image [])
+born v w digest block file size block_is here moments =
+    weaker v w (IsAppending 0 (new_head digest) file) (λ image. IsUnborn image ⊎ IsStore digest image []) (λ image. birth digest file image size here.0 here.1)
+    (subst (λ (b : List ℕ). LeavesOnly v w (IsAppending 0 b file)) block_is moments)
+
 pub returns-in_default-append-clause-any_moment : goal.returns-in_default-append-clause-any_moment
 returns-in_default-append-clause-any_moment g c = λ x is.
-    let d = c.args.digest.now in
-    let size : length d ≡ 32 = search rules in
-    let block = c.deref.ensures.value ∙ c.in-Ok.ensures in
-    let v = g.D.Disk.view c.args.disk.now in
-    let w = g.D.Disk.view c.append.new.disk in
-    let moments = subst (λ (b : List ℕ). LeavesOnly v w (IsAppending 0 b x)) block (c.append.ensures.any_moment x is) in
-    let here = c.requires.place x is in
-    weaker v w (IsAppending 0 (new_head d) x) (λ image. IsUnborn image ⊎ IsStore d image []) (λ image. birth d x image size here.0 here.1) moments
+    let size : length c.args.digest.now ≡ 32 = search rules in
+    born (g.D.Disk.view c.args.disk.now) (g.D.Disk.view c.append.new.disk) c.args.digest.now _ x size (c.deref.ensures.value ∙ c.in-Ok.ensures) (c.requires.place x is) (c.append.ensures.any_moment x is)
 
 pub returns-clause-any_moment : goal.returns-clause-any_moment
 returns-clause-any_moment g c = λ x is.
-    let d = c.args.digest.now in
-    let size : length d ≡ 32 = search rules in
-    let block = c.deref.ensures.value ∙ c.in-Ok.ensures in
-    let v = g.D.Disk.view c.args.disk.now in
-    let w = g.D.Disk.view c.append.new.disk in
-    let moments = subst (λ (b : List ℕ). LeavesOnly v w (IsAppending 0 b x)) block (c.append.ensures.any_moment x is) in
-    let here = c.requires.place x is in
-    weaker v w (IsAppending 0 (new_head d) x) (λ image. IsUnborn image ⊎ IsStore d image []) (λ image. birth d x image size here.0 here.1) moments
+    let size : length c.args.digest.now ≡ 32 = search rules in
+    born (g.D.Disk.view c.args.disk.now) (g.D.Disk.view c.append.new.disk) c.args.digest.now _ x size (c.deref.ensures.value ∙ c.in-Ok.ensures) (c.requires.place x is) (c.append.ensures.any_moment x is)
 
 pub returns-clause-made : goal.returns-clause-made
 returns-clause-made g c = λ d told.

@@ -1,11 +1,10 @@
-use Rattle.std.proofs.Common.{◌≡◌, ◌+◌, ◌%◌, ◌^◌, ◌≤◌, ◌∷◌, ◌++◌, [], true, false, not, List, ℕ, length, arith, length-append, sym, ap, ◌∙◌, subst, refl, rules}
+use Rattle.std.proofs.Common.{◌≡◌, ◌+◌, ◌^◌, ◌<◌, ◌≤◌, ◌∷◌, ◌++◌, [], true, false, List, ℕ, length, arith, length-append, sym, ap, ◌∙◌, subst, refl, rules}
 use Rattle.std.specs.Prelude.{Some, vec_capacity}
-use Rattle.disk_model.specs.Disk.{LeavesOnly}
 use Rattle.journal.specs.Store.{Frame, encoded}
-use Rattle.journal.specs.Journal.{JournalView, Stands, IsAtRest, IsBeforeOrSnapshot, snapshot_frame}
+use Rattle.journal.specs.Journal.{JournalView, IsAtRest}
 use Rattle.journal.specs.CheckpointParts.{IsApart, IsBlock}
 use Rattle.journal.proofs.Frames.{length-encoded}
-use Rattle.journal.proofs.Committed.{place_of}
+use Rattle.journal.proofs.Committed.{place_of, inside_of}
 use Rattle.journal.proofs.Checkpointed.{checkpoint_moments, checkpoint_stands, checkpoint_rests}
 use Rattle.journal.proofs.journal.Journal.checkpoint.Goals as goal
 
@@ -17,11 +16,14 @@ block_long f block is = ap length is ∙ omega (arith, length-append (encoded f)
 apart_from : (to len begin end : ℕ) (block : List ℕ) → len ≡ length block → IsApart to len begin end → IsApart to (length block) begin end
 apart_from to len begin end block is apart = subst (λ (n : ℕ). IsApart to n begin end) is apart
 
+-- the block is that of the snapshot's frame
+block_of : (changes : ℕ) (body block : List ℕ) → block ≡ 1 ∷ encoded (record { snapshot = true; last = changes; body = body }) ++ 0 ∷ [] → changes < 2 ^ 64 → length body < 2 ^ 64 → IsBlock (record { snapshot = true; last = changes; body = body }) block
+block_of changes body block is last size = record { bytes = is; last = last; size = size }
+
 pub switch-requires-clause-place : goal.switch-requires-clause-place
 switch-requires-clause-place g c = λ x is.
     let v = g.D.Disk.view c.args.disk.now in
-    let P : JournalView → Type 0 = λ j. IsAtRest j v in
-    let long : c.self.inside.end + 1 ≤ length x = place_of _ v (subst P (sym c.self.view_is) c.requires.at_rest) x is in
+    let long : c.self.inside.end + 1 ≤ length x = place_of _ v (subst (λ (j : JournalView). IsAtRest j v) (sym c.self.view_is) c.requires.at_rest) x is in
     (omega (arith, long, c.snapshot_place-to.ensures.within), omega (arith, long, c.self.invariant))
 
 pub switch-requires-clause-room : goal.switch-requires-clause-room
@@ -32,62 +34,45 @@ switch-requires-clause-room g c =
 
 pub returns-in_default-switch-clause-any_moment : goal.returns-in_default-switch-clause-any_moment
 returns-in_default-switch-clause-any_moment g c =
+    let V = g.D.Disk.view in
     let i = c.self.inside in
-    let j : JournalView = record { digest = i.digest; live = i.live; number = i.number; begin = i.begin; end = i.end; changes = i.changes; base = i.base; shut = i.shut; room = vec_capacity i.block } in
-    let v = g.D.Disk.view c.args.disk.now in
-    let x = g.D.Disk.view c.switch.new.disk in
-    let body = c.args.body.now in
     let block = c.deref.result.now in
     let apart = apart_from c.snapshot_place-to.result c.len.result i.begin i.end block (omega (arith, c.len.ensures, c.deref.ensures.len)) c.snapshot_place-to.ensures.apart in
-    let is_block : IsBlock (snapshot_frame j body) block = record { bytes = c.deref.ensures.value ∙ c.in-Ok.ensures.items; last = omega arith; size = omega (arith, c.requires.room.fits) } in
-    let P : JournalView → Type 0 = λ k. (y : List ℕ) (frames : List Frame) → v.contents ≡ Some y → Stands k y frames → LeavesOnly v x (IsBeforeOrSnapshot k.digest frames (snapshot_frame k body)) in
-    subst P c.self.view_is (checkpoint_moments j v x body block c.snapshot_place-to.result apart is_block (omega arith) c.switch.ensures.switches.any_moment)
+    let is_block = block_of i.changes c.args.body.now block (c.deref.ensures.value ∙ c.in-Ok.ensures.items) (omega arith) (omega (arith, c.requires.room.fits)) in
+    checkpoint_moments (inside_of c.self.view_is) (V c.args.disk.now) (V c.switch.new.disk) c.args.body.now block c.snapshot_place-to.result apart is_block (omega arith) c.args.self.now c.self.view_is c.switch.ensures.switches.any_moment
 
 pub returns-clause-any_moment : goal.returns-clause-any_moment
 returns-clause-any_moment g c =
+    let V = g.D.Disk.view in
     let i = c.self.inside in
-    let j : JournalView = record { digest = i.digest; live = i.live; number = i.number; begin = i.begin; end = i.end; changes = i.changes; base = i.base; shut = i.shut; room = vec_capacity i.block } in
-    let v = g.D.Disk.view c.args.disk.now in
-    let x = g.D.Disk.view c.switch.new.disk in
-    let body = c.args.body.now in
     let block = c.deref.result.now in
     let apart = apart_from c.snapshot_place-to.result c.len.result i.begin i.end block (omega (arith, c.len.ensures, c.deref.ensures.len)) c.snapshot_place-to.ensures.apart in
-    let is_block : IsBlock (snapshot_frame j body) block = record { bytes = c.deref.ensures.value ∙ c.in-Ok.ensures.items; last = omega arith; size = omega (arith, c.requires.room.fits) } in
-    let P : JournalView → Type 0 = λ k. (y : List ℕ) (frames : List Frame) → v.contents ≡ Some y → Stands k y frames → LeavesOnly v x (IsBeforeOrSnapshot k.digest frames (snapshot_frame k body)) in
-    subst P c.self.view_is (checkpoint_moments j v x body block c.snapshot_place-to.result apart is_block (omega arith) c.switch.ensures.switches.any_moment)
+    let is_block = block_of i.changes c.args.body.now block (c.deref.ensures.value ∙ c.in-Ok.ensures.items) (omega arith) (omega (arith, c.requires.room.fits)) in
+    checkpoint_moments (inside_of c.self.view_is) (V c.args.disk.now) (V c.switch.new.disk) c.args.body.now block c.snapshot_place-to.result apart is_block (omega arith) c.args.self.now c.self.view_is c.switch.ensures.switches.any_moment
 
 pub returns-clause-acknowledged : goal.returns-clause-acknowledged
 returns-clause-acknowledged g c =
+    let V = g.D.Disk.view in
     let i = c.self.inside in
-    let j : JournalView = record { digest = i.digest; live = i.live; number = i.number; begin = i.begin; end = i.end; changes = i.changes; base = i.base; shut = i.shut; room = vec_capacity i.block } in
-    let v = g.D.Disk.view c.args.disk.now in
-    let x = g.D.Disk.view c.switch.new.disk in
-    let body = c.args.body.now in
-    let to = c.snapshot_place-to.result in
     let block = c.deref.result.now in
-    let apart = apart_from to c.len.result i.begin i.end block (omega (arith, c.len.ensures, c.deref.ensures.len)) c.snapshot_place-to.ensures.apart in
-    let is_block : IsBlock (snapshot_frame j body) block = record { bytes = c.deref.ensures.value ∙ c.in-Ok.ensures.items; last = omega arith; size = omega (arith, c.requires.room.fits) } in
-    let new : JournalView = record j { live = not i.live; number = (i.number + 1) % 2 ^ 64; begin = to; end = to + 18 + length body; base = i.changes; shut = false; room = vec_capacity c.fill.new.block } in
-    let P : JournalView → Type 0 = λ k. (y : List ℕ) (frames : List Frame) → v.contents ≡ Some y → Stands k y frames → (d : List ℕ) × (x.contents ≡ Some d) × Stands new d (snapshot_frame k body ∷ []) in
-    subst P c.self.view_is (checkpoint_stands j v x body block to apart is_block (omega arith) c.in-Ok-switch.ensures.switches.switched (to + 18 + length body) (vec_capacity c.fill.new.block) false refl)
+    let apart = apart_from c.snapshot_place-to.result c.len.result i.begin i.end block (omega (arith, c.len.ensures, c.deref.ensures.len)) c.snapshot_place-to.ensures.apart in
+    let is_block = block_of i.changes c.args.body.now block (c.deref.ensures.value ∙ c.in-Ok.ensures.items) (omega arith) (omega (arith, c.requires.room.fits)) in
+    checkpoint_stands (inside_of c.self.view_is) (V c.args.disk.now) (V c.switch.new.disk) c.args.body.now block c.snapshot_place-to.result apart is_block (omega arith) c.args.self.now c.self.view_is
+    c.in-Ok-switch.ensures.switches.switched (c.snapshot_place-to.result + 18 + length c.args.body.now) (vec_capacity c.fill.new.block) false refl
 
 pub returns-clause-at_rest : goal.returns-clause-at_rest
 returns-clause-at_rest g c =
+    let V = g.D.Disk.view in
     let i = c.self.inside in
-    let j : JournalView = record { digest = i.digest; live = i.live; number = i.number; begin = i.begin; end = i.end; changes = i.changes; base = i.base; shut = i.shut; room = vec_capacity i.block } in
-    let v = g.D.Disk.view c.args.disk.now in
-    let x = g.D.Disk.view c.switch.new.disk in
-    let body = c.args.body.now in
-    let to = c.snapshot_place-to.result in
     let block = c.deref.result.now in
-    let apart = apart_from to c.len.result i.begin i.end block (omega (arith, c.len.ensures, c.deref.ensures.len)) c.snapshot_place-to.ensures.apart in
-    let is_block : IsBlock (snapshot_frame j body) block = record { bytes = c.deref.ensures.value ∙ c.in-Ok.ensures.items; last = omega arith; size = omega (arith, c.requires.room.fits) } in
-    let P : JournalView → Type 0 = λ k. IsAtRest k v in
-    let before : (d : List ℕ) → x.contents ≡ Some d → (y : List ℕ) × (v.contents ≡ Some y) = λ d told. g.met.D.Disk.told c.args.disk.now (sym c.switch.ensures.device.faults.tells ∙ g.met.D.Disk.tells_contents c.switch.new.disk d told) in
+    let apart = apart_from c.snapshot_place-to.result c.len.result i.begin i.end block (omega (arith, c.len.ensures, c.deref.ensures.len)) c.snapshot_place-to.ensures.apart in
+    let is_block = block_of i.changes c.args.body.now block (c.deref.ensures.value ∙ c.in-Ok.ensures.items) (omega arith) (omega (arith, c.requires.room.fits)) in
+    let before : (d : List ℕ) → (V c.switch.new.disk).contents ≡ Some d → (y : List ℕ) × ((V c.args.disk.now).contents ≡ Some y) = λ d told.
+    (g.met.D.Disk.lawful c.args.disk.now).told (sym c.switch.ensures.device.faults.tells ∙ (g.met.D.Disk.lawful c.switch.new.disk).tells_contents d told) in
     record {
       settled = c.in-Ok-switch.ensures.switches.settled;
-      stands = checkpoint_rests j v x body block to apart is_block (omega arith) c.in-Ok-switch.ensures.switches.switched (to + 18 + length body) (vec_capacity c.fill.new.block) false refl
-          (subst P (sym c.self.view_is) c.requires.at_rest) before;
+      stands = checkpoint_rests (inside_of c.self.view_is) (V c.args.disk.now) (V c.switch.new.disk) c.args.body.now block c.snapshot_place-to.result apart is_block (omega arith) c.args.self.now c.self.view_is
+          c.in-Ok-switch.ensures.switches.switched (c.snapshot_place-to.result + 18 + length c.args.body.now) (vec_capacity c.fill.new.block) false refl c.requires.at_rest before;
     }
 
 pub returns-clause-done : goal.returns-clause-done

@@ -1,5 +1,6 @@
 use Rattle.std.proofs.Common.{◌≡◌, length, rules}
-use Rattle.journal.proofs.Openings.{if_then, on_then}
+use Rattle.std.proofs.lemmas.Result.{on_ok_weaker}
+use Rattle.journal.proofs.Openings.{if_then}
 use Rattle.journal.proofs.Refusals.{opens_means, opens_exactly}
 use Rattle.journal.proofs.journal.Journal.open.Goals as goal
 
@@ -20,4 +21,4 @@ returns-clause-exactly g c = λ why x is of_file cause.
     let o = c.open_store.ensures in
     let size : length c.args.digest.now ≡ 32 = search rules in
     opens_exactly R.takes R.refuses R.empty law.one_state law.one_count law.one_fault law.apart c.args.limit c.args.digest.now x (V c.args.disk.now).contents (V c.open_store.new.disk).contents is (R.state c.open_store.new.into)
-    c.open_store.result o.opened o.usable (o.kept x is) (λ why e. o.refused why e x is) size (on_then c.open_store.result _ _ (λ within. within x is) o.within) why of_file cause
+    c.open_store.result o.opened o.usable (o.kept x is) (λ why e. o.refused why e x is) size (on_ok_weaker c.open_store.result (λ within. within x is) o.within) why of_file cause

@@ -1,0 +1,16 @@
+-- What holds of all that a disk tells, whatever was called.
+-- Our own choice: the laws are part of the model of a device.
+use Rattle.std.specs.Prelude.{true, ◌≡◌, ℕ, ◌≤◌, List, Some}
+use Rattle.disk_model.specs.Disk.{View}
+
+-- what a disk tells, or a file, keeps to these
+pub record IsLawful (view : View) : Type 0 where
+  -- this moment is one of those since an earlier one
+  pub counts_now : (t : ℕ) (c : List ℕ) → t ≤ view.moment → view.may_leave c → view.left_since t c
+  -- since this moment there is no other
+  pub only_now : (c : List ℕ) → view.left_since view.moment c → view.may_leave c
+  -- what tells has contents, and nothing else has
+  pub told : view.tells ≡ true → (c : List ℕ) × (view.contents ≡ Some c)
+  pub tells_contents : (c : List ℕ) → view.contents ≡ Some c → view.tells ≡ true
+  -- what a read returns is one of the images
+  pub contents_may_stay : (c : List ℕ) → view.contents ≡ Some c → view.may_leave c

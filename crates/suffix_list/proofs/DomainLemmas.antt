@@ -4,6 +4,7 @@ use Rattle.std.specs.Prelude.{max, ◌&&◌, ◌||◌, filter, fold, Some, None,
 use Rattle.std.specs.List.{list_any, join_with_byte, onto_first}
 use Rattle.std.proofs.lemmas.Bool.{both_ways, false_from_ne_true, cond-true, cond-false, cases_lt}
 use Rattle.std.proofs.lemmas.Bool.Decides.{nat_tests}
+use Rattle.std.proofs.lemmas.List.{drop_all}
 use Rattle.std.proofs.lemmas.Slice.Eq.{bytes_eq-Decides}
 use Rattle.suffix_list.specs.Suffix.{Rule, labels_of, last_of, last_labels, covers, matches_labels, most_labels, prevailing_labels, suffix_labels, is_public_suffix, domain}
 use Rattle.suffix_list.proofs.LabelLemmas.{join_labels, some_label, last_labels_all}
@@ -73,6 +74,16 @@ last_labels_end count name some =
     let found = labels_behind (length (labels_of name) - count) name (omega arith) in
     let same : last_labels count name ≡ found.0 = ap (join_with_byte 46) (sym found.1.0) ∙ join_labels found.0 in
     (ap labels_of same ∙ found.1.0, ⊎_elim (λ whole. inl (same ∙ whole)) (λ dotted. inr (dotted.0, dotted.1 ∙ ap (λ r. dotted.0 ++ 46 ∷ r) (sym same))) found.1.1)
+
+-- a name that is not empty is not its last labels where it has more
+pub last_labels_fewer : (count : ℕ) (name : List ℕ) → count < length (labels_of name) → (name ≡ [] → ⊥) → last_labels count name ≡ name → ⊥
+last_labels_fewer zero name fewer some same =
+    some (sym same ∙ ap (join_with_byte 46) (drop_all (length (labels_of name) - 0) (labels_of name) (omega arith)))
+last_labels_fewer (suc count) name fewer some same =
+    let ends = (last_labels_end (suc count) name (omega arith)).0 in
+    let long : length (labels_of name) ≡ length (last_of (suc count) (labels_of name)) = ap length (sym (ap labels_of same) ∙ ends) in
+    let left : length (last_of (suc count) (labels_of name)) ≡ suc count = length-drop (length (labels_of name) - suc count) (labels_of name) ∙ omega (arith, fewer) in
+    absurd (omega (arith, long, left, fewer))
 
 -- the domain of a host is a text that the host ends at
 pub domain_end : (rules : List Rule) (host : List ℕ) → EndsAt host (domain rules host)

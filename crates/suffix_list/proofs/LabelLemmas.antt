@@ -1,19 +1,30 @@
 -- The labels of a name: its first label and the rest, and its last labels.
-use Rattle.std.proofs.Common.{◌≡◌, ◌≢◌, ◌==◌, ℕ, suc, ◌-◌, ◌<◌, ◌≤◌, List, [], ◌∷◌, ◌++◌, length, get_or, drop, refl, ap, ◌∙◌, sym, arith, All, false}
+use Rattle.std.proofs.Common.{◌≡◌, ◌==◌, ℕ, suc, ◌+◌, ◌-◌, ◌<◌, ◌≤◌, List, [], ◌∷◌, ◌++◌, length, get_or, take, drop, Some, None, refl, ap, ◌∙◌, sym, arith, All, false, drop-drop, length-drop}
+use Rattle.std.proofs.lemmas.Grind.{common_steps}
+use Rattle.memchr.specs.Find.{IsFirstByte}
 use Rattle.std.specs.List.{join_with_byte}
-use Rattle.std.proofs.lemmas.Bool.{ne_eqb}
+use Rattle.std.proofs.lemmas.Bool.{ne_eqb, eq-eqb, eqb-true}
+use Rattle.std.proofs.lemmas.List.{drop_all}
 use Rattle.std.proofs.lemmas.List.Elements.{All-from_get_or}
 use Rattle.std.proofs.lemmas.List.Splits.{slice_split_at, slice_split_none, join_with_byte-slice_split, length-slice_split}
 use Rattle.suffix_list.specs.Suffix.{labels_of, last_of, last_labels}
 
-no_dot : (bs : List ℕ) → ((i : ℕ) → i < length bs → get_or bs i 0 ≢ 46) → All (λ b. (b == 46) ≡ false) bs
-no_dot bs none = All-from_get_or (λ b. (b == 46) ≡ false) bs 0 (λ i inside. ne_eqb (get_or bs i 0) 46 (none i inside))
+-- the first dot ends the first label
+pub labels_of-dotted : (name : List ℕ) (dot : ℕ) → IsFirstByte (λ b. b == 46) name (Some dot) → labels_of name ≡ take dot name ∷ labels_of (drop (dot + 1) name)
+labels_of-dotted name dot first =
+    let inside = first.0.high in
+    let is : get_or name dot 0 ≡ 46 = eqb-true (get_or name dot 0) 46 first.1 in
+    let whole : name ≡ take dot name ++ 46 ∷ drop (dot + 1) name = grind (arith, common_steps) in
+    let free : All (λ b. (b == 46) ≡ false) (take dot name) = All-from_get_or (λ b. (b == 46) ≡ false) (take dot name) 0
+    (λ k below. let before : k < dot = grind (arith, common_steps) in
+    let same : get_or (take dot name) k 0 ≡ get_or name k 0 = grind (arith, common_steps) in
+    rw same (ne_eqb (get_or name k 0) 46 (λ e. first.0.before k (omega arith) before (eq-eqb _ 46 e)))) in
+    ap labels_of whole ∙ slice_split_at (λ b. b == 46) (take dot name) 46 (drop (dot + 1) name) free refl
 
-pub labels_of-dotted : (name label rest : List ℕ) → name ≡ label ++ (46 ∷ rest) → ((i : ℕ) → i < length label → get_or label i 0 ≢ 46) → labels_of name ≡ label ∷ labels_of rest
-labels_of-dotted name label rest same none = ap labels_of same ∙ slice_split_at (λ b. b == 46) label 46 rest (no_dot label none) refl
-
-pub labels_of-whole : (name : List ℕ) → ((i : ℕ) → i < length name → get_or name i 0 ≢ 46) → labels_of name ≡ name ∷ []
-labels_of-whole name none = slice_split_none (λ b. b == 46) name (no_dot name none)
+-- a name without a dot is one label
+pub labels_of-whole : (name : List ℕ) → IsFirstByte (λ b. b == 46) name None → labels_of name ≡ name ∷ []
+labels_of-whole name none = slice_split_none (λ b. b == 46) name
+    (All-from_get_or (λ b. (b == 46) ≡ false) name 0 (λ k inside. ne_eqb (get_or name k 0) 46 (λ e. none k (omega arith) inside (eq-eqb _ 46 e))))
 
 -- the labels give the name back
 pub join_labels : (name : List ℕ) → join_with_byte 46 (labels_of name) ≡ name
@@ -46,3 +57,11 @@ last_of_rest count name label rest same many =
     let longer : length (labels_of name) ≡ suc (length (labels_of rest)) = ap length same in
     let few : count ≤ length (labels_of rest) = omega arith in
     sym (ap (last_of count) same ∙ last_of_more count label (labels_of rest) few)
+
+-- behind a label that is left are the labels from the next place on
+pub behind_next : (place : ℕ) (labels : List (List ℕ)) (label : List ℕ) (rest : List (List ℕ)) → drop place labels ≡ label ∷ rest → drop (place + 1) labels ≡ rest
+behind_next place labels label rest is = sym (drop-drop 1 place labels) ∙ ap (drop 1) is
+
+-- behind the last label that is left is none
+pub behind_last : (place from : ℕ) (labels : List (List ℕ)) (label : List ℕ) → drop place labels ≡ label ∷ [] → place < from → drop from labels ≡ []
+behind_last place from labels label is above = drop_all from labels (omega (arith, ap length is, length-drop place labels))

@@ -1,6 +1,6 @@
 //! The labels of a name, which stand between its dots.
-ghost use Rattle.std.specs.Prelude.{◌≡◌, ◌==◌, ◌∷◌, ◌<◌, ◌^◌, length, IfSome, option_copied, option_map};
-ghost use Rattle.std.specs.List.{list_all, list_any};
+ghost use Rattle.std.specs.Prelude.{◌≡◌, ◌==◌, ◌∷◌, ◌<◌, ◌≤◌, drop, length, IfSome, option_copied, option_map};
+ghost use Rattle.std.specs.List.{join_with_byte, list_all, list_any};
 ghost use Rattle.std.specs.Str.{byte};
 ghost use Rattle.suffix_list.specs.ListText as text;
 ghost use Rattle.suffix_list.specs.Suffix.{labels_of, last_of};
@@ -8,13 +8,15 @@ ghost use Rattle.suffix_list.specs.Suffix as suffix;
 ghost use Rattle.suffix_list.specs.Names.{labels_after};
 ghost use Rattle.suffix_list.specs.Names as spec;
 
+use memchr::memchr;
+
 /// The first label, and what follows its dot.
 pub(crate) fn next_label(name: &str) -> (&str, Option<&str>)
     ensures labels { labels_of name.now ≡ result.0.now ∷ labels_after (option_copied result.1) }
     ensures shorter { IfSome result.1 (λ rest. length rest.now < length name.now) }
 {
-    match name.split_once('.') {
-        Some((label, rest)) => (label, Some(rest)),
+    match memchr(b'.', name.as_bytes()) {
+        Some(dot) => (&name[..dot], Some(&name[dot + 1..])),
         None => (name, None),
     }
 }
@@ -22,36 +24,47 @@ pub(crate) fn next_label(name: &str) -> (&str, Option<&str>)
 pub(crate) fn count_labels(name: &str) -> usize
     ensures { result ≡ length (labels_of name.now) }
 {
-    name.split('.').count()
+    name.as_bytes().iter().filter(|b| **b == b'.').count() + 1
 }
 
 /// The last labels of a name, or all where it has no more.
 pub(crate) fn last_labels(name: &str, count: usize) -> &str
     ensures value { result.now ≡ suffix.last_labels count name.now }
     ensures labels { 0 < count → labels_of result.now ≡ last_of count (labels_of name.now) }
-    ensures countable { length (labels_of name.now) < 2 ^ 64 }
 {
-    let mut rest = name;
-    let mut left = count_labels(name);
-    'labels: while left > count {
-        match next_label(rest) {
-            (_, Some(more)) => rest = more,
-            (_, None) => return "",
-        }
-        left -= 1;
-    }
-    rest
+    labels_from(name, count_labels(name).saturating_sub(count))
 }
 
 /// The last labels of a name and one more, or none where the last labels are the name.
 pub(crate) fn one_label_more(name: &str, count: usize) -> Option<&str>
     ensures { option_map (λ text. text.now) result ≡ spec.one_label_more count name.now }
 {
-    if last_labels(name, count) == name {
-        None
-    } else {
-        Some(last_labels(name, count + 1))
+    let labels = count_labels(name);
+    if name.is_empty() {
+        return None;
     }
+    if labels <= count {
+        return None;
+    }
+    Some(labels_from(name, labels - count - 1))
+}
+
+// The labels of a name from a place on.
+fn labels_from(name: &str, place: usize) -> &str
+    requires { place ≤ length (labels_of name.now) }
+    ensures value { let labels = drop place (labels_of name.now) in
+        result.now ≡ join_with_byte (byte ".") labels }
+    ensures labels { place < length (labels_of name.now)
+        → labels_of result.now ≡ drop place (labels_of name.now) }
+{
+    let mut rest = name;
+    'labels: for _ in 0..place {
+        match next_label(rest) {
+            (_, Some(more)) => rest = more,
+            (_, None) => return "",
+        }
+    }
+    rest
 }
 
 /// Whether each label of a name stands for itself in a rule.

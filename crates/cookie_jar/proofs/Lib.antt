@@ -6,5 +6,10 @@ mod RemovalLemmas
 mod PutLemmas
 mod NewCookieLemmas
 mod PlanLemmas
+mod PerformLemmas
 mod SendingLemmas
+mod MarkLemmas
+mod OrderLemmas
+mod HeaderLemmas
 mod StandardFacts
+mod StoreLemmas

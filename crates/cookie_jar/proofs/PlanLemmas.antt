@@ -1,5 +1,5 @@
 -- A plan, or why a cookie is dropped, from the parts of both.
-use Rattle.std.proofs.Common.{◌≡◌, ℤ, ℕ, Bool, true, false, List, [], ◌∷◌, map, refl, ap, ◌∙◌, sym, subst, inl, inr, ⊎_elim}
+use Rattle.std.proofs.Common.{◌≡◌, ℤ, ℕ, Bool, true, false, List, [], ◌∷◌, map, refl, ap, ◌∙◌, sym, subst, inl, ⊎_elim}
 use Rattle.std.specs.Prelude.{◌&&◌, ◌||◌, not, Option, Some, None, Result, Ok, Err, IsOk, IsErrOf, is_ok, MatchResult, ⊤, ◌+◌, ◌≤◌, length}
 use Rattle.std.proofs.lemmas.Bool.{false≢true}
 use Rattle.agent_base.specs.Answers.{Answers, Decides}
@@ -11,7 +11,7 @@ use Rattle.cookie_jar.specs.declared.cookie.Cookie.{Cookie}
 use Rattle.cookie_jar.specs.declared.cause.CookieDrop.{CookieDrop}
 use Rattle.cookie_jar.specs.declared.cause.CookieDrop.TheVariants as why
 use Rattle.cookie_jar.specs.Access.{PlainAccess}
-use Rattle.cookie_jar.specs.Cookie.{PlainCookie, PlainJar}
+use Rattle.cookie_jar.specs.Cookie.{PlainCookie, PlainJar, copies}
 use Rattle.cookie_jar.specs.Views.{plain_cookie}
 use Rattle.cookie_jar.specs.NewCookie.{has_such, made_with, own_domain}
 use Rattle.cookie_jar.specs.Drops as spec
@@ -62,11 +62,6 @@ plan_drops rules lower text access kind now cs drop some = rw some refl
 pub decides : {T E : Type 0} (r : Result T E) (x : T) (m : E) (expected : Result T E) → MatchResult r (λ p. p ≡ x) (λ w. w ≡ m) → expected ≡ Ok x → Decides (λ p. p) m expected r
 decides (Ok p) x m expected h e = e ∙ ap Ok (sym h)
 decides (Err w) x m expected h e = inl (h, ap is_ok e)
-
--- what is decided is answered
-pub answered : {T E : Type 0} (r : Result T E) (m : E) (expected : Result T E) → Decides (λ p. p) m expected r → Answers (λ p. p) m expected r
-answered (Ok p) m expected h = h
-answered (Err w) m expected h = ⊎_elim (λ free. inl free.0) (λ is. inr is) h
 
 -- a Domain in ASCII is decided by the later rows
 pub planned_is : (rules : List Rule) (text : CookieText) (access : PlainAccess) (kind : CellKind) (now : ℤ) (cs : List PlainCookie) → spec.is_not_ascii_domain text ≡ false
@@ -130,7 +125,7 @@ planned_plan plan p None h = ap (from_ok plan) h
 planned_plan plan p (Some w) h = absurd (false≢true (ap is_ok h))
 
 -- what is planned for a cell is a plan for it
-pub plan_fits : (rules : List Rule) (text : CookieText) (access : PlainAccess) (jar : PlainJar) (now : ℤ) (r : Result PlainPlan CookieDrop) → length text.name + length text.value ≤ 4096
+pub plan_fits : (rules : List Rule) (text : CookieText) (access : PlainAccess) (jar : PlainJar) (now : ℤ) (r : Result PlainPlan CookieDrop) → length text.name + length text.value ≤ 4096 → ((c : PlainCookie) → copies c jar.cookies ≤ 1)
     → Answers (λ p. p) why.NoMemory (planned rules text access jar.kind now jar.cookies) r → MatchResult r (λ p. IsPlanFor jar p) (λ w. ⊤)
-plan_fits rules text access jar now (Ok p) pair h = subst (IsPlanFor jar) (planned_plan _ p _ h) (now, refl, pair)
-plan_fits rules text access jar now (Err w) pair h = tt
+plan_fits rules text access jar now (Ok p) pair once h = subst (IsPlanFor jar) (planned_plan _ p _ h) (now, refl, pair, once)
+plan_fits rules text access jar now (Err w) pair once h = tt

@@ -1,7 +1,7 @@
 -- What putting a cookie makes of the weight of a cell.
 use Rattle.std.proofs.Common.{◌≡◌, ℕ, ◌+◌, ◌≤◌, ◌<◌, ℤ, Bool, true, false, cond, not, List, [], ◌∷◌, ◌++◌, length, refl, ap, ◌∙◌, sym, arith}
 use Rattle.std.specs.Prelude.{nat_lt, ◌==◌}
-use Rattle.std.specs.List.{sum_by, count_by, list_any, range_with_len}
+use Rattle.std.specs.List.{sum_by, count_by, list_any, range_with_len, remove}
 use Rattle.std.proofs.lemmas.Bool.{ltb-true, ltb-false, lt-ltb}
 use Rattle.std.proofs.lemmas.Bool.Decides.{nat_tests}
 use Rattle.std.proofs.lemmas.List.{length-set, length-append}
@@ -12,11 +12,11 @@ use Rattle.partition_limits.specs.declared.tally.CellKind.TheVariants.{Own, Part
 use Rattle.partition_limits.specs.declared.tally.Tally.{Tally}
 use Rattle.partition_limits.specs.Limits.{fits}
 use Rattle.cookie_jar.specs.Cookie.{PlainCookie, IsCell, same, counted, keeps_limits, pair_bytes}
-use Rattle.partition_limits.specs.Victims.{without}
 use Rattle.cookie_jar.specs.Lifetime.{is_expired}
-use Rattle.cookie_jar.specs.Steps.{place_of, put, going, place_now, removals, removal_at, remove_step, put_step, steps}
+use Rattle.cookie_jar.specs.Performed.{after_removals}
+use Rattle.cookie_jar.specs.Steps.{place_of, put, going, place_now, removals, removal_at, remove_step, put_step, steps, after_steps}
 use Rattle.cookie_jar.proofs.CellLemmas.{fits_less}
-use Rattle.cookie_jar.proofs.StepLaws.{put_there, put_last, rows_hold, removals_from_all, going_apart}
+use Rattle.cookie_jar.proofs.StepLaws.{put_there, put_last, rows_hold}
 
 -- a cookie that is put makes a cell heavier by no more than itself
 put_sum : (f : PlainCookie → ℕ) (fresh : PlainCookie) (cs : List PlainCookie) → sum_by f (put fresh cs) ≤ sum_by f cs + f fresh
@@ -83,9 +83,13 @@ pub removal_alone : (place : ℕ) (cs : List PlainCookie) → place < length cs 
 removal_alone place cs lt =
     ap (λ p. remove_step p cs ∷ []) (place_stays place) ∙ ap (λ b. cond b (remove_step place cs ∷ []) []) (sym (lt-ltb place (length cs) lt))
 
+-- removals are done alike, whichever cookie is put after them
+pub all_removed : (fresh : PlainCookie) (cs : List PlainCookie) (gone ps : List ℕ) → after_removals cs (removals cs gone ps) ≡ after_steps fresh cs (removals cs gone ps)
+all_removed fresh cs gone [] = refl
+all_removed fresh cs gone (p ∷ ps) = all_removed fresh (remove cs (place_now gone p)) (p ∷ gone) ps
+
 -- the steps of storing a cookie that is not expired
 pub steps_are : (kind : CellKind) (now : ℤ) (fresh : PlainCookie) (cs : List PlainCookie) (gone : List ℕ) (place : ℕ) → is_expired now fresh ≡ false
-    → gone ≡ going kind now fresh cs → place ≡ place_of fresh cs → removals cs [] gone ++ put_step (place_now gone place) (without gone cs) ∷ [] ≡ steps kind now fresh cs
+    → gone ≡ going kind now fresh cs → place ≡ place_of fresh cs → removals cs [] gone ++ put_step (place_now gone place) (after_removals cs (removals cs [] gone)) ∷ [] ≡ steps kind now fresh cs
 steps_are kind now fresh cs gone place live went here =
-    let left = removals_from_all fresh cs (going kind now fresh cs) (going_apart kind now fresh cs) in
-    rw (went, here, live) (ap (λ xs. removals cs [] (going kind now fresh cs) ++ put_step (place_now (going kind now fresh cs) (place_of fresh cs)) xs ∷ []) (sym left))
+    rw (went, here, live) (ap (λ xs. removals cs [] (going kind now fresh cs) ++ put_step (place_now (going kind now fresh cs) (place_of fresh cs)) xs ∷ []) (all_removed fresh cs [] (going kind now fresh cs)))

@@ -12,6 +12,7 @@ use Rattle.cookie_jar.specs.Cookie.{PlainCookie, same}
 use Rattle.cookie_jar.specs.Steps.{weigh, put, place_of, place_now, removals, remove_step, put_step}
 use Rattle.cookie_jar.specs.Lifetime.{is_persistent}
 use Rattle.cookie_jar.specs.Flags.{flag_removal, flag_put}
+use Rattle.cookie_jar.specs.Performed.{after_removals}
 use Rattle.cookie_jar.proofs.CellLemmas.{map-remove}
 use Rattle.cookie_jar.proofs.StepLaws.{among, gone_after, among_after, no_more, put_there, put_last}
 
@@ -19,6 +20,11 @@ use Rattle.cookie_jar.proofs.StepLaws.{among, gone_after, among_after, no_more, 
 abbrev pub left_after : List PlainCookie → List ℕ → List ℕ → List PlainCookie
 left_after cs gone [] = cs
 left_after cs gone (p ∷ ps) = left_after (remove cs (place_now gone p)) (p ∷ gone) ps
+
+-- that is what the removals leave
+pub left_is : (cs : List PlainCookie) (gone ps : List ℕ) → after_removals cs (removals cs gone ps) ≡ left_after cs gone ps
+left_is cs gone [] = refl
+left_is cs gone (p ∷ ps) = left_is (remove cs (place_now gone p)) (p ∷ gone) ps
 
 count_map : (cs : List PlainCookie) → count_by (λ b. b) (map is_persistent cs) ≡ count_by is_persistent cs
 count_map [] = refl

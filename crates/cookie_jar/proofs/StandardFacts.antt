@@ -1,5 +1,4 @@
--- Values of the definitions, the paths and domains from RFC 6265bis and the rest worked out by hand,
--- so that a wrong rule in the specs does not check.
+-- Values of the definitions, worked out by hand, so that a wrong rule in the specs does not check.
 use Rattle.std.proofs.Common.{◌≡◌, refl, List, [], ◌∷◌, true, false, Some, None, ℕ}
 use Rattle.std.specs.Prelude.{codes, pos, ℤ}
 use Rattle.suffix_list.specs.Suffix.{Rule}
@@ -11,34 +10,9 @@ use Rattle.cookie_jar.specs.declared.step.JarStep.TheVariants.{Replace}
 use Rattle.cookie_jar.specs.Access.{PlainAccess}
 use Rattle.cookie_jar.specs.Cookie.{PlainCookie}
 use Rattle.cookie_jar.specs.Drops.{dropped}
-use Rattle.cookie_jar.specs.Matching.{domain_matches, path_matches, default_path}
 use Rattle.cookie_jar.specs.NewCookie.{made}
 use Rattle.cookie_jar.specs.Sending.{select}
 use Rattle.cookie_jar.specs.Steps.{steps}
-
-path_below : path_matches (codes "/docs/web") (codes "/docs") ≡ true
-path_below = refl
-
-path_beside : path_matches (codes "/docsweb") (codes "/docs") ≡ false
-path_beside = refl
-
-path_with_slash : path_matches (codes "/docs/web") (codes "/docs/") ≡ true
-path_with_slash = refl
-
-default_of_three : default_path (codes "/a/b/c") ≡ codes "/a/b"
-default_of_three = refl
-
-default_of_one : default_path (codes "/c") ≡ codes "/"
-default_of_one = refl
-
-domain_below : domain_matches false (codes "w.a.test") (codes "a.test") ≡ true
-domain_below = refl
-
-domain_beside : domain_matches false (codes "wa.test") (codes "a.test") ≡ false
-domain_beside = refl
-
-domain_of_address : domain_matches true (codes "1.2.3.4") (codes "3.4") ≡ false
-domain_of_address = refl
 
 -- `pub.test`
 abbrev list : List Rule

@@ -1,30 +1,16 @@
--- A cookie that is kept, and a cell of cookies.
--- Source: RFC 6265bis, "Storage Model" (the fields of a cookie, and when two are the same).
--- Our own choice: the persistent-flag is that there is an expiry; bytes count in a partition alone,
--- since nothing limits those of an unpartitioned cell.
-use Rattle.std.specs.Prelude.{◌≡◌, ℕ, ℤ, ◌+◌, ◌≤◌, Bool, true, ◌&&◌, List, length, sum_by}
-use Rattle.std.specs.Prelude.{bytes_eq, Option}
+-- A cell of cookies, and when two of them are the same.
+-- Source: RFC 6265bis, "Storage Model".
+-- Our own choice: bytes count in a partition alone, since nothing limits those of an unpartitioned
+-- cell.
+use Rattle.std.specs.Prelude.{◌≡◌, ℕ, ◌+◌, ◌≤◌, Bool, true, ◌&&◌, List, length, sum_by}
+use Rattle.std.specs.Prelude.{bytes_eq}
 use Rattle.std.specs.Bool.{beq}
 use Rattle.std.specs.List.{count_by}
-use Rattle.setcookie_parse.specs.declared.cookie.SameSite.{SameSite}
+pub use Rattle.stored_cookie.specs.StoredCookie.{PlainCookie}
 use Rattle.partition_limits.specs.declared.tally.CellKind.{CellKind}
 use Rattle.partition_limits.specs.declared.tally.CellKind.TheVariants.{Own, Partition}
 use Rattle.partition_limits.specs.declared.tally.Tally.{Tally}
 use Rattle.partition_limits.specs.Limits.{fits}
-
--- a cookie, as contracts see it: each text is the list of its bytes
-pub record PlainCookie : Type 0 where
-  pub name : List ℕ
-  pub value : List ℕ
-  pub domain : List ℕ
-  pub path : List ℕ
-  pub host_only : Bool
-  pub secure : Bool
-  pub http_only : Bool
-  pub same_site : SameSite
-  pub creation : ℤ
-  pub expiry : Option ℤ
-  pub last : ℤ
 
 -- a cell: its kind, its cookies in order of place, and for how many more there is room
 pub record PlainJar : Type 0 where

@@ -18,7 +18,7 @@ use Rattle.cookie_jar.specs.declared.cause.CookieDrop.TheVariants as why
 use Rattle.cookie_jar.specs.Access.{PlainAccess, destination, is_nowhere}
 use Rattle.cookie_jar.specs.Cookie.{PlainCookie, same}
 use Rattle.cookie_jar.specs.Lifetime.{is_expired}
-use Rattle.cookie_jar.specs.Matching.{domain_matches, path_matches}
+use Rattle.cookie_match.specs.Matching.{domain_matches, path_matches}
 use Rattle.cookie_jar.specs.NewCookie.{has_such, is_suffix_to, lower_domain}
 use Rattle.cookie_jar.specs.NewCookie.{made_with, own_domain}
 

@@ -3,7 +3,6 @@ pub mod Cookie
 pub mod Views
 pub mod Access
 pub mod Key
-pub mod Matching
 pub mod Lifetime
 pub mod NewCookie
 pub mod Drops
@@ -11,5 +10,10 @@ pub mod Steps
 pub mod Persistent
 pub mod Planned
 pub mod Sending
-pub mod Drafts
+pub mod Stored
+-- What private functions compute. No public clause rests on it.
+pub mod Borrowed
 pub mod Flags
+pub mod Marked
+pub mod Performed
+pub mod Sent

@@ -15,7 +15,7 @@ use Rattle.cookie_jar.specs.declared.plan.StoredKind.TheVariants.{Added, Replace
 use Rattle.cookie_jar.specs.Access.{PlainAccess}
 use Rattle.cookie_jar.specs.Cookie.{PlainCookie, same}
 use Rattle.cookie_jar.specs.Lifetime.{is_expired}
-use Rattle.cookie_jar.specs.Matching.{default_path}
+use Rattle.cookie_match.specs.Matching.{default_path}
 
 -- whether an attribute's value is there and passes a test
 abbrev pub has_such : (List ℕ → Bool) → Option (List ℕ) → Bool

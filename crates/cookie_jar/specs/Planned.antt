@@ -9,7 +9,7 @@ use Rattle.cookie_jar.specs.declared.cause.CookieDrop.{CookieDrop}
 use Rattle.cookie_jar.specs.declared.plan.StoredKind.{StoredKind}
 use Rattle.cookie_jar.specs.declared.step.JarStep.{JarStep}
 use Rattle.cookie_jar.specs.Access.{PlainAccess}
-use Rattle.cookie_jar.specs.Cookie.{PlainCookie, PlainJar, pair_bytes}
+use Rattle.cookie_jar.specs.Cookie.{PlainCookie, PlainJar, copies, pair_bytes}
 use Rattle.cookie_jar.specs.Drops.{dropped, first_drop, later_rows}
 use Rattle.cookie_jar.specs.NewCookie.{made_with, lower_domain, own_domain}
 use Rattle.cookie_jar.specs.NewCookie.{renewed, stored_kind}
@@ -51,11 +51,11 @@ planned rules text access cell now cs =
     (plan_of cell now (made_with (own_domain rules access (lower_domain text)) text access now) cs)
     (dropped rules text access now cs)
 
--- a plan is one for a cell as it stands
+-- a plan is one for a cell as it stands, in which no two cookies are the same
 abbrev pub IsPlanFor : PlainJar → PlainPlan → Type 0
 IsPlanFor jar plan =
     (now : ℤ) × (plan.steps ≡ steps jar.kind now plan.fresh jar.cookies)
-    × (pair_bytes plan.fresh ≤ 4096)
+    × (pair_bytes plan.fresh ≤ 4096) × ((c : PlainCookie) → copies c jar.cookies ≤ 1)
 
 -- what a store answers: its kind and its steps
 pub record PlainStored : Type 0 where

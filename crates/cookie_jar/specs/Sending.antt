@@ -7,6 +7,8 @@ use Rattle.std.specs.Prelude.{ℕ, ℤ, Bool, true, false, ◌&&◌, ◌||◌, n
 use Rattle.std.specs.Prelude.{map, filter, fold, length, take, drop, flat_map, codes, bytes_eq}
 use Rattle.std.specs.Prelude.{if◌then◌else◌}
 use Rattle.std.specs.List.{list_any, enumerate_from}
+use Rattle.std.specs.List.Sorted.{IsPermutation, IsSortedBy}
+use Rattle.std.specs.declared.cmp.Ordering.{Ordering}
 use Rattle.std.specs.Ordering.{nat_cmp, int_cmp, bool_cmp, ordering_then, is_lt}
 use Rattle.setcookie_parse.specs.declared.cookie.SameSite.{SameSite}
 use Rattle.setcookie_parse.specs.declared.cookie.SameSite.TheVariants as site
@@ -16,7 +18,7 @@ use Rattle.cookie_jar.specs.Access.{PlainAccess}
 use Rattle.cookie_jar.specs.Cookie.{PlainCookie}
 use Rattle.cookie_jar.specs.Drops.{is_none}
 use Rattle.cookie_jar.specs.Lifetime.{is_expired}
-use Rattle.cookie_jar.specs.Matching.{domain_matches, path_matches}
+use Rattle.cookie_match.specs.Matching.{domain_matches, path_matches}
 
 -- SameSite is Strict
 abbrev pub is_strict : SameSite → Bool
@@ -71,12 +73,16 @@ pub record PlainSent : Type 0 where
   pub place : ℕ
   pub cookie : PlainCookie
 
--- longer path, then earlier creation, then unpartitioned, then lower place
-abbrev pub stands_before : PlainSent → PlainSent → Bool
-stands_before a b =
-    is_lt (ordering_then (nat_cmp (length b.cookie.path) (length a.cookie.path))
+-- how two of them compare: longer path, then earlier creation, then unpartitioned, then lower place
+abbrev pub sent_cmp : PlainSent → PlainSent → Ordering
+sent_cmp a b =
+    ordering_then (nat_cmp (length b.cookie.path) (length a.cookie.path))
     (ordering_then (int_cmp a.cookie.creation b.cookie.creation)
-    (ordering_then (bool_cmp a.partitioned b.partitioned) (nat_cmp a.place b.place))))
+    (ordering_then (bool_cmp a.partitioned b.partitioned) (nat_cmp a.place b.place)))
+
+-- one stands before another
+abbrev pub stands_before : PlainSent → PlainSent → Bool
+stands_before a b = is_lt (sent_cmp a b)
 
 -- the cookie at a place, if one is there
 abbrev pub sent_at : Bool → List PlainCookie → ℕ → List PlainSent
@@ -87,15 +93,24 @@ sent_at partitioned cs p =
 abbrev pub sent_of : Bool → List ℕ → List PlainCookie → List PlainSent
 sent_of partitioned places cs = flat_map (sent_at partitioned cs) places
 
--- cookies that are in order, with one more
-abbrev pub in_line : List PlainSent → PlainSent → List PlainSent
-in_line [] s = s ∷ []
-in_line (t ∷ ts) s = if stands_before s t then s ∷ t ∷ ts else t ∷ in_line ts s
+-- the cookies at these places of both cells
+abbrev pub sent : List PlainCookie → List ℕ → List PlainCookie → List ℕ → List PlainSent
+sent own own_places part part_places =
+    sent_of false own_places own ++ sent_of true part_places part
 
--- the cookies of both cells in order
-abbrev pub line : List PlainCookie → List ℕ → List PlainCookie → List ℕ → List PlainSent
-line own own_places part part_places =
-    fold in_line [] (sent_of false own_places own ++ sent_of true part_places part)
+-- cookies that are in order, with one more
+abbrev pub in_order : List PlainSent → PlainSent → List PlainSent
+in_order [] s = s ∷ []
+in_order (t ∷ ts) s = if stands_before s t then s ∷ t ∷ ts else t ∷ in_order ts s
+
+-- these cookies in order
+abbrev pub ordered : List PlainSent → List PlainSent
+ordered ss = fold in_order [] ss
+
+-- a list is an order of these cookies: it has each of them, and none stands before the one ahead
+pub record IsOrderOf (ss order : List PlainSent) : Type 0 where
+  pub same : IsPermutation ss order
+  pub sorted : IsSortedBy stands_before order
 
 -- `name=value`, or the value where the name is empty
 abbrev pub pair_text : PlainCookie → List ℕ
@@ -109,4 +124,4 @@ joined (s ∷ ss) =
 
 -- the text of the cookies at these places, empty where there is none
 abbrev pub header : List PlainCookie → List ℕ → List PlainCookie → List ℕ → List ℕ
-header own own_places part part_places = joined (line own own_places part part_places)
+header own own_places part part_places = joined (ordered (sent own own_places part part_places))

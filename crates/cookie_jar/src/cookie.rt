@@ -1,7 +1,7 @@
 //! Cookies, with texts of their own and borrowed ones.
-ghost use Rattle.std.specs.Prelude.{◌≡◌, ◌≤◌, IfOk, length};
+ghost use Rattle.std.specs.Prelude.{◌≡◌, ◌≤◌, IfOk, map, option_map, slice_get};
 ghost use Rattle.cookie_jar.specs.Cookie as spec;
-ghost use Rattle.cookie_jar.specs.Drafts.{plain_draft};
+ghost use Rattle.cookie_jar.specs.Borrowed.{plain_borrowed};
 ghost use Rattle.cookie_jar.specs.Lifetime as spec_of;
 ghost use Rattle.cookie_jar.specs.Views.{plain_cookie};
 
@@ -31,7 +31,7 @@ pub struct Cookie {
 
 /// A cookie whose texts are borrowed.
 #[derive(Debug, Clone, Copy, Drop)]
-pub struct Draft<'a> {
+pub struct BorrowedCookie<'a> {
     pub name: &'a str,
     pub value: &'a str,
     pub domain: &'a str,
@@ -50,13 +50,13 @@ impl Cookie {
     pub fn copy(&self, alloc: Global) -> Result<Cookie, NoMemory>
         ensures same { IfOk result (λ c. plain_cookie c ≡ plain_cookie self.now) }
     {
-        Ok(self.draft().to_cookie(alloc)?)
+        Ok(self.borrowed().to_cookie(alloc)?)
     }
 
-    pub(crate) fn draft(&self) -> Draft<'_>
-        ensures { plain_draft result ≡ plain_cookie self.now }
+    pub(crate) fn borrowed(&self) -> BorrowedCookie<'_>
+        ensures { plain_borrowed result ≡ plain_cookie self.now }
     {
-        Draft {
+        BorrowedCookie {
             name: self.name.as_str(),
             value: self.value.as_str(),
             domain: self.domain.as_str(),
@@ -72,9 +72,9 @@ impl Cookie {
     }
 }
 
-impl Draft<'_> {
+impl BorrowedCookie<'_> {
     pub(crate) fn to_cookie(&self, alloc: Global) -> Result<Cookie, AllocError>
-        ensures { IfOk result (λ c. plain_cookie c ≡ plain_draft self.now) }
+        ensures { IfOk result (λ c. plain_cookie c ≡ plain_borrowed self.now) }
     {
         Ok(Cookie {
             name: String::from_str(alloc, self.name)?,
@@ -92,13 +92,20 @@ impl Draft<'_> {
     }
 }
 
-pub fn is_same(new: &Draft<'_>, cookie: &Cookie) -> bool
-    ensures { result ≡ spec.same (plain_draft new.now) (plain_cookie cookie.now) }
+pub fn is_same(new: &BorrowedCookie<'_>, cookie: &Cookie) -> bool
+    ensures { result ≡ spec.same (plain_borrowed new.now) (plain_cookie cookie.now) }
 {
     new.name == cookie.name.as_str()
         && new.domain == cookie.domain.as_str()
         && new.host_only == cookie.host_only
         && new.path == cookie.path.as_str()
+}
+
+pub fn cookie_at(cookies: &[Cookie], place: usize) -> Option<&Cookie>
+    ensures { option_map (λ c. plain_cookie c.now) result
+        ≡ slice_get (map plain_cookie cookies.now) place }
+{
+    cookies.get(place)
 }
 
 pub fn is_expired(expiry: Option<i64>, now: i64) -> bool
@@ -111,20 +118,9 @@ pub fn is_expired(expiry: Option<i64>, now: i64) -> bool
 }
 
 /// The bytes that count in a cell.
-pub fn counted(kind: CellKind, cookie: &Cookie) -> u32
-    requires { spec.counted kind (plain_cookie cookie.now) ≤ 10240 }
-    ensures { result ≡ spec.counted kind (plain_cookie cookie.now) }
-{
-    match kind {
-        CellKind::Own => 0,
-        CellKind::Partition => (cookie.name.len() + cookie.value.len()) as u32,
-    }
-}
-
-/// The same of a draft.
-pub fn counted_draft(kind: CellKind, cookie: &Draft<'_>) -> u32
-    requires { spec.counted kind (plain_draft cookie.now) ≤ 10240 }
-    ensures { result ≡ spec.counted kind (plain_draft cookie.now) }
+pub fn counted(kind: CellKind, cookie: &BorrowedCookie<'_>) -> u32
+    requires { spec.counted kind (plain_borrowed cookie.now) ≤ 10240 }
+    ensures { result ≡ spec.counted kind (plain_borrowed cookie.now) }
 {
     match kind {
         CellKind::Own => 0,

@@ -2,7 +2,7 @@
 ghost use Rattle.std.specs.Prelude.{◌≡◌, ◌&&◌, not, map, option_copied};
 ghost use Rattle.std.specs.List.{list_any};
 ghost use Rattle.setcookie_parse.specs.Views.{cookie_view};
-ghost use Rattle.cookie_jar.specs.Drafts.{plain_draft};
+ghost use Rattle.cookie_jar.specs.Borrowed.{plain_borrowed};
 ghost use Rattle.cookie_jar.specs.Drops as spec;
 ghost use Rattle.cookie_jar.specs.NewCookie.{has_such, made_with};
 ghost use Rattle.cookie_jar.specs.NewCookie as new_cookie;
@@ -10,10 +10,10 @@ ghost use Rattle.cookie_jar.specs.Views.{plain_access, plain_cookie};
 
 use crate::access::{Access, Destination};
 use crate::cause::CookieDrop;
-use crate::cookie::{Cookie, Draft, is_expired, is_same};
+use crate::cookie::{BorrowedCookie, Cookie, is_expired, is_same};
 use crate::key::destination;
-use crate::matching::{domain_matches, path_matches};
 use crate::new_cookie::is_suffix_to;
+use cookie_match::{domain_matches, path_matches};
 use origin_site::domain_of;
 use setcookie_parse::{CookieText, SameSite};
 use suffix_list::SuffixList;
@@ -37,7 +37,7 @@ fn is_not_ascii(text: &str) -> bool
 pub fn later_drop(
     lower: Option<&str>,
     own: Option<&str>,
-    new: &Draft<'_>,
+    new: &BorrowedCookie<'_>,
     text: &CookieText<'_>,
     access: &Access<'_>,
     list: &SuffixList,
@@ -46,7 +46,7 @@ pub fn later_drop(
 ) -> Option<CookieDrop>
     requires own { option_copied own ≡ new_cookie.own_domain list.now.rules
         (plain_access access.now) (option_copied lower) }
-    requires new { plain_draft new.now ≡ made_with
+    requires new { plain_borrowed new.now ≡ made_with
         (option_copied own) (cookie_view text.now) (plain_access access.now) now }
     ensures { result ≡ spec.first_drop (spec.later_rows list.now.rules (option_copied lower.entry)
         (cookie_view text.now) (plain_access access.now) now (map plain_cookie cookies.now)) }
@@ -127,21 +127,26 @@ fn is_http_only_of_script(text: &CookieText<'_>, access: &Access<'_>) -> bool
 fn overlays_secure(
     text: &CookieText<'_>,
     access: &Access<'_>,
-    new: &Draft<'_>,
+    new: &BorrowedCookie<'_>,
     now: i64,
     cookies: &[Cookie],
 ) -> bool
     ensures { result ≡ (not text.now.secure && (not access.now.https && list_any
         (λ c. spec.is_live_such now
-        (spec.is_overlaid (plain_access access.now) (plain_draft new.now))
+        (spec.is_overlaid (plain_access access.now) (plain_borrowed new.now))
         (plain_cookie c)) cookies.now)) }
 {
     !text.secure && !access.https && has_live_overlaid(access, new, now, cookies)
 }
 
-fn has_live_overlaid(access: &Access<'_>, new: &Draft<'_>, now: i64, cookies: &[Cookie]) -> bool
+fn has_live_overlaid(
+    access: &Access<'_>,
+    new: &BorrowedCookie<'_>,
+    now: i64,
+    cookies: &[Cookie],
+) -> bool
     ensures { result ≡ list_any (λ c. spec.is_live_such now
-        (spec.is_overlaid (plain_access access.now) (plain_draft new.now)) (plain_cookie c))
+        (spec.is_overlaid (plain_access access.now) (plain_borrowed new.now)) (plain_cookie c))
         cookies.now }
 {
     cookies
@@ -149,16 +154,21 @@ fn has_live_overlaid(access: &Access<'_>, new: &Draft<'_>, now: i64, cookies: &[
         .any(|c| is_live_overlaid(access, new, now, c))
 }
 
-fn is_live_overlaid(access: &Access<'_>, new: &Draft<'_>, now: i64, cookie: &Cookie) -> bool
+fn is_live_overlaid(
+    access: &Access<'_>,
+    new: &BorrowedCookie<'_>,
+    now: i64,
+    cookie: &Cookie,
+) -> bool
     ensures { result ≡ spec.is_live_such now
-        (spec.is_overlaid (plain_access access.now) (plain_draft new.now))
+        (spec.is_overlaid (plain_access access.now) (plain_borrowed new.now))
         (plain_cookie cookie.now) }
 {
     !is_expired(cookie.expiry, now) && is_overlaid(access, new, cookie)
 }
 
-fn is_overlaid(access: &Access<'_>, new: &Draft<'_>, cookie: &Cookie) -> bool
-    ensures { result ≡ spec.is_overlaid (plain_access access.now) (plain_draft new.now)
+fn is_overlaid(access: &Access<'_>, new: &BorrowedCookie<'_>, cookie: &Cookie) -> bool
+    ensures { result ≡ spec.is_overlaid (plain_access access.now) (plain_borrowed new.now)
         (plain_cookie cookie.now) }
 {
     cookie.secure
@@ -212,15 +222,15 @@ fn lacks_secure_prefix(text: &CookieText<'_>) -> bool
     has_prefix("__Secure-", text.name) && !text.secure
 }
 
-fn lacks_host_prefix(text: &CookieText<'_>, new: &Draft<'_>) -> bool
+fn lacks_host_prefix(text: &CookieText<'_>, new: &BorrowedCookie<'_>) -> bool
     ensures { result ≡ (spec.has_prefix spec.host_prefix text.now.name.now
-        && not (spec.is_for_host (cookie_view text.now) (plain_draft new.now))) }
+        && not (spec.is_for_host (cookie_view text.now) (plain_borrowed new.now))) }
 {
     has_prefix("__Host-", text.name) && !is_for_host(text, new)
 }
 
-fn is_for_host(text: &CookieText<'_>, new: &Draft<'_>) -> bool
-    ensures { result ≡ spec.is_for_host (cookie_view text.now) (plain_draft new.now) }
+fn is_for_host(text: &CookieText<'_>, new: &BorrowedCookie<'_>) -> bool
+    ensures { result ≡ spec.is_for_host (cookie_view text.now) (plain_borrowed new.now) }
 {
     text.secure && new.host_only && text.has_path && new.path == "/"
 }
@@ -231,23 +241,28 @@ fn is_nameless_prefix(text: &CookieText<'_>) -> bool
     text.name == "" && (has_prefix("__Secure-", text.value) || has_prefix("__Host-", text.value))
 }
 
-fn overwrites_http_only(access: &Access<'_>, new: &Draft<'_>, now: i64, cookies: &[Cookie]) -> bool
-    ensures { result ≡ (access.now.script && list_any
-        (λ c. spec.is_live_such now (spec.is_same_http_only (plain_draft new.now)) (plain_cookie c))
-        cookies.now) }
+fn overwrites_http_only(
+    access: &Access<'_>,
+    new: &BorrowedCookie<'_>,
+    now: i64,
+    cookies: &[Cookie],
+) -> bool
+    ensures { let is_same = spec.is_same_http_only (plain_borrowed new.now) in
+        result ≡ (access.now.script && list_any
+        (λ c. spec.is_live_such now is_same (plain_cookie c)) cookies.now) }
 {
     access.script && has_live_http_only(new, now, cookies)
 }
 
-fn has_live_http_only(new: &Draft<'_>, now: i64, cookies: &[Cookie]) -> bool
+fn has_live_http_only(new: &BorrowedCookie<'_>, now: i64, cookies: &[Cookie]) -> bool
     ensures { result ≡ list_any (λ c. spec.is_live_such now
-        (spec.is_same_http_only (plain_draft new.now)) (plain_cookie c)) cookies.now }
+        (spec.is_same_http_only (plain_borrowed new.now)) (plain_cookie c)) cookies.now }
 {
     cookies.iter().any(|c| is_live_http_only(new, now, c))
 }
 
-fn is_live_http_only(new: &Draft<'_>, now: i64, cookie: &Cookie) -> bool
-    ensures { result ≡ spec.is_live_such now (spec.is_same_http_only (plain_draft new.now))
+fn is_live_http_only(new: &BorrowedCookie<'_>, now: i64, cookie: &Cookie) -> bool
+    ensures { result ≡ spec.is_live_such now (spec.is_same_http_only (plain_borrowed new.now))
         (plain_cookie cookie.now) }
 {
     !is_expired(cookie.expiry, now) && (is_same(new, cookie) && cookie.http_only)

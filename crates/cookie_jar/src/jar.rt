@@ -99,7 +99,7 @@ impl Jar {
     {
         self.tally = Tally {
             cookies: self.tally.cookies + 1,
-            bytes: self.tally.bytes + counted(self.kind, &cookie),
+            bytes: self.tally.bytes + counted(self.kind, &cookie.borrowed()),
         };
         let _ = self.cookies.insert(place, cookie);
     }
@@ -116,8 +116,8 @@ impl Jar {
             ≡ slice_set self.old.cookies place (plain_cookie cookie) }
         ensures spare { self.new.spare ≡ self.old.spare }
     {
-        let new = counted(self.kind, &cookie);
-        let old = counted(self.kind, &self.cookies[place]);
+        let new = counted(self.kind, &cookie.borrowed());
+        let old = counted(self.kind, &self.cookies[place].borrowed());
         self.tally = Tally {
             cookies: self.tally.cookies,
             bytes: self.tally.bytes - old + new,
@@ -135,7 +135,7 @@ impl Jar {
         let gone = self.cookies.remove(place);
         self.tally = Tally {
             cookies: self.tally.cookies - 1,
-            bytes: self.tally.bytes - counted(self.kind, &gone),
+            bytes: self.tally.bytes - counted(self.kind, &gone.borrowed()),
         };
     }
 
@@ -157,7 +157,7 @@ fn copies_of(alloc: Global, cookies: &[Cookie]) -> Result<Vec<Cookie>, AllocErro
 {
     let mut copies = Vec::new(alloc);
     for cookie in cookies {
-        copies.push(cookie.draft().to_cookie(alloc)?)?;
+        copies.push(cookie.borrowed().to_cookie(alloc)?)?;
     }
     Ok(copies)
 }

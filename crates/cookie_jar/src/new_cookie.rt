@@ -1,17 +1,17 @@
 //! The cookie that a Set-Cookie text gives.
 ghost use Rattle.std.specs.Prelude.{◌≡◌, true, is_some, IfOk, OnErr, map, option_copied};
-ghost use Rattle.std.specs.Prelude.{not, option_map, slice_get, string_bytes};
+ghost use Rattle.std.specs.Prelude.{not, option_map, string_bytes};
 ghost use Rattle.std.proofs.lemmas.Map.Entries.{option_filter};
 ghost use Rattle.setcookie_parse.specs.Views.{cookie_view};
-ghost use Rattle.cookie_jar.specs.Drafts.{plain_draft};
+ghost use Rattle.cookie_jar.specs.Borrowed.{plain_borrowed};
 ghost use Rattle.cookie_jar.specs.Lifetime.{is_expired as has_expired};
 ghost use Rattle.cookie_jar.specs.NewCookie as spec;
 ghost use Rattle.cookie_jar.specs.Steps.{place_of};
 ghost use Rattle.cookie_jar.specs.Views.{plain_access, plain_cookie};
 
 use crate::access::Access;
-use crate::cookie::{Cookie, Draft, is_expired};
-use crate::matching::default_path;
+use crate::cookie::{BorrowedCookie, Cookie, cookie_at, is_expired};
+use cookie_match::default_path;
 use setcookie_parse::CookieText;
 use std::alloc::{AllocError, Global};
 use suffix_list::SuffixList;
@@ -58,11 +58,11 @@ pub fn made<'a>(
     text: &CookieText<'a>,
     access: &Access<'a>,
     now: i64,
-) -> Draft<'a>
-    ensures { plain_draft result ≡ spec.made_with
+) -> BorrowedCookie<'a>
+    ensures { plain_borrowed result ≡ spec.made_with
         (option_copied own.entry) (cookie_view text.now) (plain_access access.now) now }
 {
-    Draft {
+    BorrowedCookie {
         name: text.name,
         value: text.value,
         domain: own.unwrap_or(access.host),
@@ -78,19 +78,17 @@ pub fn made<'a>(
 }
 
 /// The creation second of the cookie that a new one replaces, whose place was found.
-pub fn replaced_creation(cookies: &[Cookie], new: &Draft<'_>, place: usize, now: i64) -> Option<i64>
-    requires { place ≡ place_of (plain_draft new.now) (map plain_cookie cookies.now) }
+pub fn replaced_creation(
+    cookies: &[Cookie],
+    new: &BorrowedCookie<'_>,
+    place: usize,
+    now: i64,
+) -> Option<i64>
+    requires { place ≡ place_of (plain_borrowed new.now) (map plain_cookie cookies.now) }
     ensures { result ≡ option_map (λ c. c.creation)
-        (spec.replaced now (plain_draft new.now) (map plain_cookie cookies.now)) }
+        (spec.replaced now (plain_borrowed new.now) (map plain_cookie cookies.now)) }
 {
     live_creation(cookie_at(cookies, place), now)
-}
-
-fn cookie_at(cookies: &[Cookie], place: usize) -> Option<&Cookie>
-    ensures { option_map (λ c. plain_cookie c.now) result
-        ≡ slice_get (map plain_cookie cookies.now) place }
-{
-    cookies.get(place)
 }
 
 fn live_creation(old: Option<&Cookie>, now: i64) -> Option<i64>

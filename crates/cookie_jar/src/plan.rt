@@ -4,7 +4,7 @@ ghost use Rattle.std.specs.Prelude.{IsErrOf, IsOk, MatchResult, length, map, opt
 ghost use Rattle.agent_base.specs.Answers.{Answers, Decides};
 ghost use Rattle.setcookie_parse.specs.Views.{cookie_view};
 ghost use Rattle.cookie_jar.specs.Cookie.{IsCell, pair_bytes};
-ghost use Rattle.cookie_jar.specs.Drafts.{plain_draft};
+ghost use Rattle.cookie_jar.specs.Borrowed.{plain_borrowed};
 ghost use Rattle.cookie_jar.specs.Drops.{is_not_ascii_domain};
 ghost use Rattle.cookie_jar.specs.NewCookie.{kind_with};
 ghost use Rattle.cookie_jar.specs.Planned as spec;
@@ -12,7 +12,7 @@ ghost use Rattle.cookie_jar.specs.Views.{plain_access, plain_cookie};
 
 use crate::access::Access;
 use crate::cause::CookieDrop;
-use crate::cookie::{Cookie, Draft, is_expired};
+use crate::cookie::{BorrowedCookie, Cookie, is_expired};
 use crate::drops::{is_not_ascii_domain, later_drop};
 use crate::jar::Jar;
 use crate::new_cookie::{lower_domain, made, own_domain, replaced_creation};
@@ -77,6 +77,17 @@ impl Plan {
         ensures value { plain_cookie result.now ≡ self.now.fresh }
     {
         &self.fresh
+    }
+
+    /// The same plan, over memory of its own.
+    pub fn copy(&self, alloc: Global) -> Result<Plan, NoMemory>
+        ensures same { IfOk result (λ p. p ≡ self.now) }
+    {
+        Ok(Plan {
+            kind: self.kind,
+            steps: Vec::from_slice(alloc, &self.steps)?,
+            fresh: self.fresh.borrowed().to_cookie(alloc)?,
+        })
     }
 }
 
@@ -150,13 +161,13 @@ fn plan_unless_memory(
     kind: CellKind,
     tally: Tally,
     cookies: &[Cookie],
-    new: &Draft<'_>,
+    new: &BorrowedCookie<'_>,
     now: i64,
 ) -> Result<Plan, CookieDrop>
     requires cell { IsCell kind tally (map plain_cookie cookies.now) }
-    requires pair { pair_bytes (plain_draft new.now) ≤ 4096 }
+    requires pair { pair_bytes (plain_borrowed new.now) ≤ 4096 }
     ensures { MatchResult result (λ p. p
-        ≡ spec.plan_of kind now (plain_draft new.now) (map plain_cookie cookies.now))
+        ≡ spec.plan_of kind now (plain_borrowed new.now) (map plain_cookie cookies.now))
         (λ why. why ≡ CookieDrop.NoMemory) }
 {
     Ok(plan_of(alloc, kind, tally, cookies, new, now)?)
@@ -167,17 +178,17 @@ fn plan_of(
     kind: CellKind,
     tally: Tally,
     cookies: &[Cookie],
-    new: &Draft<'_>,
+    new: &BorrowedCookie<'_>,
     now: i64,
 ) -> Result<Plan, NoMemory>
     requires cell { IsCell kind tally (map plain_cookie cookies.now) }
-    requires pair { pair_bytes (plain_draft new.now) ≤ 4096 }
+    requires pair { pair_bytes (plain_borrowed new.now) ≤ 4096 }
     ensures { IfOk result (λ p. p
-        ≡ spec.plan_of kind now (plain_draft new.now) (map plain_cookie cookies.now)) }
+        ≡ spec.plan_of kind now (plain_borrowed new.now) (map plain_cookie cookies.now)) }
 {
     let place = place_of(cookies, new);
     let old = replaced_creation(cookies, new, place, now);
-    let fresh = Draft {
+    let fresh = BorrowedCookie {
         creation: old.unwrap_or(new.creation),
         ..*new
     };
@@ -188,8 +199,8 @@ fn plan_of(
     })
 }
 
-fn stored_kind(new: &Draft<'_>, old: Option<i64>, now: i64) -> StoredKind
-    ensures { result ≡ kind_with now (plain_draft new.now) (is_some old) }
+fn stored_kind(new: &BorrowedCookie<'_>, old: Option<i64>, now: i64) -> StoredKind
+    ensures { result ≡ kind_with now (plain_borrowed new.now) (is_some old) }
 {
     if is_expired(new.expiry, now) {
         StoredKind::Removed

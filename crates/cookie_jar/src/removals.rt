@@ -1,9 +1,9 @@
 //! The steps that remove the cookies which go, and the step that puts the new one.
 ghost use Rattle.std.specs.Prelude.{◌≡◌, ◌==◌, ◌++◌, ◌≤◌, [], ◌∷◌, IfOk, length, map, take};
 ghost use Rattle.std.specs.List.{list_any, remove};
-ghost use Rattle.partition_limits.specs.Victims.{without};
 ghost use Rattle.cookie_jar.specs.Flags as flagged;
 ghost use Rattle.cookie_jar.specs.Lifetime.{is_persistent};
+ghost use Rattle.cookie_jar.specs.Performed.{after_removals};
 ghost use Rattle.cookie_jar.specs.Steps as spec;
 ghost use Rattle.cookie_jar.specs.Views.{plain_cookie};
 
@@ -21,10 +21,10 @@ pub fn live_steps(
     ensures { IfOk result (λ v. v.items
         ≡ spec.removals (map plain_cookie cookies.now) [] gone.now
         ++ spec.put_step (spec.place_now gone.now place)
-        (without gone.now (map plain_cookie cookies.now)) ∷ []) }
+        (after_removals (map plain_cookie cookies.now)
+        (spec.removals (map plain_cookie cookies.now) [] gone.now)) ∷ []) }
 {
-    let mut steps = removals(alloc, cookies, gone)?;
-    let flags = flags_left(alloc, cookies, gone)?;
+    let (mut steps, flags) = removals(alloc, cookies, gone)?;
     steps.push(put_step(&flags, place_now(gone, place)))?;
     Ok(steps)
 }
@@ -103,14 +103,18 @@ fn persistent_flags(alloc: Global, cookies: &[Cookie]) -> Result<Vec<bool>, Allo
     cookies.iter().map(|c| c.expiry.is_some()).collect(alloc)
 }
 
-/// The removals of these places, each counted at its own step.
+/// The removals of these places, each counted at its own step, and which of those that stay are
+/// persistent.
 pub fn removals(
     alloc: Global,
     cookies: &[Cookie],
     gone: &[usize],
-) -> Result<Vec<JarStep>, AllocError>
-    ensures { IfOk result (λ v. v.items
+) -> Result<(Vec<JarStep>, Vec<bool>), AllocError>
+    ensures steps { IfOk result (λ v. v.0.items
         ≡ spec.removals (map plain_cookie cookies.now) [] gone.now) }
+    ensures flags { IfOk result (λ v. v.1.items
+        ≡ map is_persistent (after_removals (map plain_cookie cookies.now)
+        (spec.removals (map plain_cookie cookies.now) [] gone.now))) }
 {
     let mut flags = persistent_flags(alloc, cookies)?;
     let mut steps = Vec::new(alloc);
@@ -119,19 +123,5 @@ pub fn removals(
         steps.push(remove_step(&flags, place))?;
         drop_flag(&mut flags, place);
     }
-    Ok(steps)
-}
-
-// The flags of those that stay.
-fn flags_left(alloc: Global, cookies: &[Cookie], gone: &[usize]) -> Result<Vec<bool>, AllocError>
-    ensures { IfOk result (λ v. v.items
-        ≡ map is_persistent (without gone.now (map plain_cookie cookies.now))) }
-{
-    let mut flags = Vec::new(alloc);
-    for (place, cookie) in cookies.iter().enumerate() {
-        if !is_among(gone, place) {
-            flags.push(cookie.expiry.is_some())?;
-        }
-    }
-    Ok(flags)
+    Ok((steps, flags))
 }

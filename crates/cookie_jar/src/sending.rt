@@ -2,14 +2,16 @@
 ghost use Rattle.std.specs.Prelude.{◌≡◌, IfOk, map, filter};
 ghost use Rattle.std.specs.List.{enumerate_from};
 ghost use Rattle.cookie_jar.specs.Drops.{is_none as is_none_of};
+ghost use Rattle.cookie_jar.specs.Marked.{used_at};
+ghost use Rattle.cookie_jar.specs.Persistent.{kept};
 ghost use Rattle.cookie_jar.specs.Sending as spec;
 ghost use Rattle.cookie_jar.specs.Views.{plain_access, plain_cookie};
 
 use crate::access::Access;
 use crate::cookie::{Cookie, is_expired};
 use crate::jar::Jar;
-use crate::matching::{domain_matches, path_matches};
 use agent_base::NoMemory;
+use cookie_match::{domain_matches, path_matches};
 use partition_limits::CellKind;
 use setcookie_parse::SameSite;
 use std::alloc::{AllocError, Global};
@@ -21,6 +23,35 @@ impl Jar {
             ≡ spec.select self.now.kind (plain_access access.now) now self.now.cookies) }
     {
         Ok(selected(alloc, self.kind, &self.cookies, access, now)?)
+    }
+
+    /// Sets the last use of the cookies at these places, as a sending does and a script's reading
+    /// does not. Takes no memory.
+    pub fn mark(&mut self, places: &[usize], now: i64)
+        ensures cookies { self.new.cookies ≡ spec.marked places.now now self.old.cookies }
+        ensures persistent { kept self.new.cookies ≡ kept self.old.cookies }
+        ensures kind { self.new.kind ≡ self.old.kind }
+        ensures spare { self.new.spare ≡ self.old.spare }
+    {
+        mark_all(&mut self.cookies, places, now);
+    }
+}
+
+fn mark_all(cookies: &mut [Cookie], places: &[usize], now: i64)
+    ensures { map plain_cookie cookies.new
+        ≡ spec.marked places.now now (map plain_cookie cookies.old) }
+{
+    for place in places {
+        mark_at(cookies, *place, now);
+    }
+}
+
+fn mark_at(cookies: &mut [Cookie], place: usize, now: i64)
+    ensures { map plain_cookie cookies.new
+        ≡ used_at place now (map plain_cookie cookies.old) }
+{
+    if place < cookies.len() {
+        cookies[place].last = now;
     }
 }
 

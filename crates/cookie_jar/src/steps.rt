@@ -3,19 +3,20 @@ ghost use Rattle.std.specs.Prelude.{◌≡◌, ◌+◌, ◌≤◌, IfOk, length,
 ghost use Rattle.std.specs.List.{All};
 ghost use Rattle.partition_limits.specs.Limits.{fits};
 ghost use Rattle.cookie_jar.specs.Cookie.{IsCell, counted};
-ghost use Rattle.cookie_jar.specs.Drafts.{plain_draft};
+ghost use Rattle.cookie_jar.specs.Borrowed.{plain_borrowed};
 ghost use Rattle.cookie_jar.specs.Steps as spec;
 ghost use Rattle.cookie_jar.specs.Views.{plain_cookie};
 
-use crate::cookie::{Cookie, Draft, counted, counted_draft, is_expired, is_same};
+use crate::cookie::{BorrowedCookie, Cookie, counted, is_expired, is_same};
 use crate::removals::{live_steps, removals};
 use crate::step::JarStep;
 use agent_base::NoMemory;
 use partition_limits::{CellKind, Tally, Weighed, victims};
 use std::alloc::{AllocError, Global};
 
-pub fn place_of(cookies: &[Cookie], fresh: &Draft<'_>) -> usize
-    ensures value { result ≡ spec.place_of (plain_draft fresh.now) (map plain_cookie cookies.now) }
+pub fn place_of(cookies: &[Cookie], fresh: &BorrowedCookie<'_>) -> usize
+    ensures value { let cs = map plain_cookie cookies.now in
+        result ≡ spec.place_of (plain_borrowed fresh.now) cs }
     ensures within { result ≤ length cookies.now }
 {
     for (place, cookie) in cookies.iter().enumerate() {
@@ -32,16 +33,16 @@ pub fn steps(
     kind: CellKind,
     tally: Tally,
     cookies: &[Cookie],
-    fresh: &Draft<'_>,
+    fresh: &BorrowedCookie<'_>,
     place: usize,
     now: i64,
 ) -> Result<Vec<JarStep>, NoMemory>
     requires cell { IsCell kind tally (map plain_cookie cookies.now) }
     requires place { place
-        ≡ spec.place_of (plain_draft fresh.now) (map plain_cookie cookies.now) }
-    requires small { counted kind (plain_draft fresh.now) ≤ 10240 }
+        ≡ spec.place_of (plain_borrowed fresh.now) (map plain_cookie cookies.now) }
+    requires small { counted kind (plain_borrowed fresh.now) ≤ 10240 }
     ensures { IfOk result (λ v. v.items
-        ≡ spec.steps kind now (plain_draft fresh.now) (map plain_cookie cookies.now)) }
+        ≡ spec.steps kind now (plain_borrowed fresh.now) (map plain_cookie cookies.now)) }
 {
     if is_expired(fresh.expiry, now) {
         Ok(removal_at(alloc, cookies, place)?)
@@ -56,7 +57,7 @@ fn removal_at(alloc: Global, cookies: &[Cookie], place: usize) -> Result<Vec<Jar
         ≡ spec.removal_at place (map plain_cookie cookies.now)) }
 {
     if place < cookies.len() {
-        removals(alloc, cookies, &[place])
+        Ok(removals(alloc, cookies, &[place])?.0)
     } else {
         Ok(Vec::new(alloc))
     }
@@ -68,16 +69,16 @@ fn going(
     kind: CellKind,
     tally: Tally,
     cookies: &[Cookie],
-    fresh: &Draft<'_>,
+    fresh: &BorrowedCookie<'_>,
     place: usize,
     now: i64,
 ) -> Result<Vec<usize>, NoMemory>
     requires cell { IsCell kind tally (map plain_cookie cookies.now) }
     requires place { place
-        ≡ spec.place_of (plain_draft fresh.now) (map plain_cookie cookies.now) }
-    requires small { counted kind (plain_draft fresh.now) ≤ 10240 }
+        ≡ spec.place_of (plain_borrowed fresh.now) (map plain_cookie cookies.now) }
+    requires small { counted kind (plain_borrowed fresh.now) ≤ 10240 }
     ensures { IfOk result (λ v. v.items
-        ≡ spec.going kind now (plain_draft fresh.now) (map plain_cookie cookies.now)) }
+        ≡ spec.going kind now (plain_borrowed fresh.now) (map plain_cookie cookies.now)) }
 {
     if holds_one_more(kind, tally, fresh) {
         return Ok(Vec::new(alloc));
@@ -87,41 +88,29 @@ fn going(
 }
 
 // Whether a cell of this tally holds one more cookie.
-fn holds_one_more(kind: CellKind, tally: Tally, fresh: &Draft<'_>) -> bool
+fn holds_one_more(kind: CellKind, tally: Tally, fresh: &BorrowedCookie<'_>) -> bool
     requires cookies { tally.cookies ≤ 180 }
     requires bytes { tally.bytes ≤ 10240 }
-    requires small { counted kind (plain_draft fresh.now) ≤ 10240 }
+    requires small { counted kind (plain_borrowed fresh.now) ≤ 10240 }
     ensures { result ≡ fits kind (tally.cookies + 1)
-        (tally.bytes + counted kind (plain_draft fresh.now)) }
+        (tally.bytes + counted kind (plain_borrowed fresh.now)) }
 {
     let after = Tally {
         cookies: tally.cookies + 1,
-        bytes: tally.bytes + counted_draft(kind, fresh),
+        bytes: tally.bytes + counted(kind, fresh),
     };
     after.fits(kind)
 }
 
-fn weigh(kind: CellKind, now: i64, cookie: &Cookie) -> Weighed
-    requires { counted kind (plain_cookie cookie.now) ≤ 10240 }
-    ensures { result ≡ spec.weigh kind now (plain_cookie cookie.now) }
+fn weigh(kind: CellKind, now: i64, cookie: &BorrowedCookie<'_>) -> Weighed
+    requires { counted kind (plain_borrowed cookie.now) ≤ 10240 }
+    ensures { result ≡ spec.weigh kind now (plain_borrowed cookie.now) }
 {
     Weighed {
         expired: is_expired(cookie.expiry, now),
         secure: cookie.secure,
         last: cookie.last,
         bytes: counted(kind, cookie),
-    }
-}
-
-fn weigh_draft(kind: CellKind, now: i64, cookie: &Draft<'_>) -> Weighed
-    requires { counted kind (plain_draft cookie.now) ≤ 10240 }
-    ensures { result ≡ spec.weigh kind now (plain_draft cookie.now) }
-{
-    Weighed {
-        expired: is_expired(cookie.expiry, now),
-        secure: cookie.secure,
-        last: cookie.last,
-        bytes: counted_draft(kind, cookie),
     }
 }
 
@@ -137,7 +126,7 @@ fn weigh_all(
 {
     let mut rows = Vec::new(alloc);
     for cookie in cookies {
-        rows.push(weigh(kind, now, cookie))?;
+        rows.push(weigh(kind, now, &cookie.borrowed()))?;
     }
     Ok(rows)
 }
@@ -148,19 +137,19 @@ fn weigh_put(
     kind: CellKind,
     now: i64,
     cookies: &[Cookie],
-    fresh: &Draft<'_>,
+    fresh: &BorrowedCookie<'_>,
     place: usize,
 ) -> Result<Vec<Weighed>, AllocError>
     requires all_small { All (λ c. counted kind (plain_cookie c) ≤ 10240) cookies.now }
-    requires small { counted kind (plain_draft fresh.now) ≤ 10240 }
+    requires small { counted kind (plain_borrowed fresh.now) ≤ 10240 }
     requires place { place
-        ≡ spec.place_of (plain_draft fresh.now) (map plain_cookie cookies.now) }
+        ≡ spec.place_of (plain_borrowed fresh.now) (map plain_cookie cookies.now) }
     ensures { IfOk result (λ v. v.items
         ≡ map (spec.weigh kind now)
-        (spec.put (plain_draft fresh.now) (map plain_cookie cookies.now))) }
+        (spec.put (plain_borrowed fresh.now) (map plain_cookie cookies.now))) }
 {
     let mut rows = weigh_all(alloc, kind, now, cookies)?;
-    let row = weigh_draft(kind, now, fresh);
+    let row = weigh(kind, now, fresh);
     if place < rows.len() {
         rows[place] = row;
     } else {

@@ -1,6 +1,6 @@
-//! Cookies of texts, planned for a jar or dropped.
+//! Cookies of texts, stored in a jar or dropped, and sent.
 use agent_base::MemSource;
-use cookie_jar::{Access, CookieDrop, Jar, JarStep, StoredKind};
+use cookie_jar::{Access, CookieDrop, Jar, JarStep, Stored, StoredKind, header};
 use partition_limits::CellKind;
 use setcookie_parse::{Parsed, parse};
 use std::alloc::Global;
@@ -88,5 +88,183 @@ fn a_new_cookie_is_planned_last(rt: HostRuntime) -> Result<(), Fail> {
         copy.pick(alloc, &access_of("www.host.test", "/"), 1)?.len(),
         0
     );
+    Ok(())
+}
+
+// Stores the cookies of these texts, which stand between bars, and gives what goes out a second
+// later to a host and a path.
+fn sent_after(
+    alloc: Global,
+    list: &SuffixList,
+    from: &Access<'_>,
+    texts: &str,
+    to: &Access<'_>,
+) -> Result<String, Fail> {
+    let mut jar = Jar::new(alloc, CellKind::Own);
+    for text in texts.split('|') {
+        store(alloc, &mut jar, list, from, text, 1)?;
+    }
+    let places = jar.pick(alloc, to, 2)?;
+    Ok(header(
+        alloc,
+        &jar,
+        &places,
+        &Jar::new(alloc, CellKind::Partition),
+        &[],
+    )?)
+}
+
+// Stores the cookie of a text, which is read in second 1.
+fn store(
+    alloc: Global,
+    jar: &mut Jar,
+    list: &SuffixList,
+    access: &Access<'_>,
+    text: &str,
+    now: i64,
+) -> Result<Stored, Fail> {
+    match parse(text, 1) {
+        Parsed::Kept(cookie) => Ok(jar.store(alloc, &cookie, access, list, now)?),
+        _ => Err(Fail::new("no cookie")),
+    }
+}
+
+// Texts stored from an address, divided by `|`, and the header that goes to another one.
+const HEADERS: &[(&str, &str, &str, &str, &str, &str)] = &[
+    (
+        "www.host.test",
+        "/",
+        "A=a; path=/foo/bar|B=b; path=/foo/bar/baz/qux|C=c; path=/foo/bar/baz|D=d; path=/foo",
+        "www.host.test",
+        "/foo/bar/baz/qux",
+        "B=b; C=c; A=a; D=d",
+    ),
+    (
+        "www.host.test",
+        "/",
+        "A=1; path=/|A=2; path=/path|A=3; path=/quux|A=4; domain=.host.test; path=/path",
+        "www.host.test",
+        "/path/foo",
+        "A=2; A=4; A=1",
+    ),
+    (
+        "www.google.izzle",
+        "/",
+        "a=1; path=/wee",
+        "www.google.izzle",
+        "/wee/war",
+        "a=1",
+    ),
+    (
+        "www.google.izzle",
+        "/",
+        "a=1; path=/wee",
+        "www.google.izzle",
+        "/weehee",
+        "",
+    ),
+    (
+        "www.host.test",
+        "/",
+        "a=1; domain=host.test",
+        "bar.host.test",
+        "/",
+        "a=1",
+    ),
+    (
+        "www.example.com",
+        "/dir/index.html",
+        "a=b",
+        "www.example.com",
+        "/dir/x",
+        "a=b",
+    ),
+    (
+        "www.example.com",
+        "/dir/index.html",
+        "a=b",
+        "x.www.example.com",
+        "/dir/x",
+        "",
+    ),
+    (
+        "www.example.com",
+        "/",
+        "a=b|=c|a=; Max-Age=-1",
+        "www.example.com",
+        "/",
+        "c",
+    ),
+];
+
+#[test]
+fn headers_of_outside_cases(rt: HostRuntime) -> Result<(), Fail> {
+    let alloc = rt.alloc();
+    let list = list_of(alloc)?;
+    for (host, path, texts, to, at, want) in HEADERS {
+        let text = sent_after(
+            alloc,
+            &list,
+            &access_of(host, path),
+            texts,
+            &access_of(to, at),
+        )?;
+        assert_eq!(rt; text.as_str(), *want, "{texts} at {host}, to {to}{at}");
+    }
+    Ok(())
+}
+
+// Texts stored one after another, each in its second, with what is answered and the step.
+const STORES: &[(&str, i64, StoredKind, JarStep)] = &[
+    (
+        "p=1; Max-Age=90",
+        1,
+        StoredKind::Added,
+        JarStep::Insert { place: 0, rank: 0 },
+    ),
+    (
+        "a=1",
+        2,
+        StoredKind::Added,
+        JarStep::Insert { place: 1, rank: 1 },
+    ),
+    (
+        "p=2",
+        3,
+        StoredKind::Replaced,
+        JarStep::Replace {
+            place: 0,
+            rank: 0,
+            was_persistent: true,
+        },
+    ),
+    (
+        "a=; Max-Age=0",
+        4,
+        StoredKind::Removed,
+        JarStep::Remove {
+            place: 1,
+            rank: 0,
+            was_persistent: false,
+        },
+    ),
+];
+
+#[test]
+fn a_cookie_is_added_replaced_and_removed(rt: HostRuntime) -> Result<(), Fail> {
+    let alloc = rt.alloc();
+    let list = list_of(alloc)?;
+    let access = access_of("www.host.test", "/");
+    let mut jar = Jar::new(alloc, CellKind::Own);
+    for (text, now, kind, step) in STORES {
+        let stored = store(alloc, &mut jar, &list, &access, text, *now)?.copy(alloc)?;
+        assert_eq!(rt; stored.kind, *kind, "{text}");
+        assert_eq!(rt; stored.steps.as_slice(), [*step].as_slice(), "{text}");
+    }
+    jar.mark(&[0], 9);
+    let Some(cookie) = jar.cookie(0) else {
+        return Err(Fail::new("no cookie"));
+    };
+    assert_eq!(rt; (cookie.creation, cookie.last), (1, 9));
     Ok(())
 }

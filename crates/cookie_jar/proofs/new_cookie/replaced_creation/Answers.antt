@@ -1,7 +1,7 @@
 use Rattle.std.proofs.Common.{rules, ◌≡◌, ◌∙◌, map, not}
 use Rattle.std.specs.Prelude.{option_map, slice_get}
 use Rattle.std.proofs.lemmas.Map.Entries.{option_filter}
-use Rattle.cookie_jar.specs.Drafts.{plain_draft}
+use Rattle.cookie_jar.specs.Borrowed.{plain_borrowed}
 use Rattle.cookie_jar.specs.Lifetime.{is_expired}
 use Rattle.cookie_jar.specs.Views.{plain_cookie}
 use Rattle.cookie_jar.proofs.NewCookieLemmas.{replaced_at}
@@ -11,4 +11,4 @@ pub returns : goal.returns
 returns c =
     let raw : c.live_creation.result ≡ option_map (λ x. x.creation) (option_filter (λ x. not (is_expired c.args.now x)) (slice_get (map plain_cookie c.args.cookies.now) c.args.place))
     = search (rules, c.live_creation.ensures, c.cookie_at.ensures) in
-    raw ∙ replaced_at c.args.now (plain_draft c.args.new.now) (map plain_cookie c.args.cookies.now) c.args.place c.requires
+    raw ∙ replaced_at c.args.now (plain_borrowed c.args.new.now) (map plain_cookie c.args.cookies.now) c.args.place c.requires

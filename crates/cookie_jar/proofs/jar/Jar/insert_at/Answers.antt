@@ -23,4 +23,4 @@ invariant_of-self c =
     let long = ap (λ (j : PlainJar). length j.cookies) c.self.view_is in
     let absent = ap (λ (j : PlainJar). copies new j.cookies) c.self.view_is ∙ c.requires.absent in
     let within = ap (λ (j : PlainJar). keeps_limits j.kind (insert j.cookies c.args.place new)) c.self.view_is ∙ c.requires.limits in
-    rw (inserted c, c.counted.ensures) (inserted_cell _ _ cs _ _ c.self.invariant (omega (arith, long, c.requires.place)) absent within)
+    rw (inserted c, c.counted.ensures, c.borrowed.ensures) (inserted_cell _ _ cs _ _ c.self.invariant (omega (arith, long, c.requires.place)) absent within)

@@ -1,14 +1,15 @@
-use Rattle.std.proofs.Common.{rules, ◌≡◌, ◌∙◌, ap, sym, subst, false, map, inr, w64, to_z, of_z}
+use Rattle.std.proofs.Common.{rules, ◌≤◌, ◌≡◌, ◌∙◌, ap, sym, subst, false, map, inr, w64, to_z, of_z}
 use Rattle.std.specs.Prelude.{IsOk, option_copied}
 use Rattle.agent_base.specs.Answers.{Answers}
 use Rattle.setcookie_parse.specs.Views.{cookie_view}
 use Rattle.cookie_jar.specs.declared.cause.CookieDrop.TheVariants as why
-use Rattle.cookie_jar.specs.Cookie.{PlainJar}
+use Rattle.cookie_jar.specs.Cookie.{PlainJar, copies}
 use Rattle.cookie_jar.specs.Drops.{is_not_ascii_domain}
 use Rattle.cookie_jar.specs.NewCookie.{lower_domain}
 use Rattle.cookie_jar.specs.Planned as spec
 use Rattle.cookie_jar.specs.Views.{plain_access, plain_cookie}
-use Rattle.cookie_jar.proofs.PlanLemmas.{answered, plan_fits, planned_is, planned_sure}
+use Rattle.agent_base.proofs.Logic.{answers_decided}
+use Rattle.cookie_jar.proofs.PlanLemmas.{plan_fits, planned_is, planned_sure}
 use Rattle.cookie_jar.proofs.jar.Jar.plan.Goals as goal
 use Rattle.cookie_jar.proofs.jar.Jar.plan.Goals.{Joined-lower}
 
@@ -29,7 +30,7 @@ expected c =
 
 pub returns-clause-answer : goal.returns-clause-answer
 returns-clause-answer c =
-    subst (λ x. Answers (λ p. p) why.NoMemory x c.planned_with.result) (expected c) (answered c.planned_with.result why.NoMemory _ c.planned_with.ensures.answer)
+    subst (λ x. Answers (λ p. p) why.NoMemory x c.planned_with.result) (expected c) (answers_decided (λ p. p) why.NoMemory _ c.planned_with.result c.planned_with.ensures.answer)
 
 pub returns-clause-memory : goal.returns-clause-memory
 returns-clause-memory c is =
@@ -38,4 +39,5 @@ returns-clause-memory c is =
 
 pub returns-clause-fit : goal.returns-clause-fit
 returns-clause-fit c =
-    plan_fits c.args.list.now.rules (cookie_view c.args.text.now) (plain_access c.args.access.now) c.args.self.now c.args.now c.planned_with.result c.requires.pair (returns-clause-answer c)
+    plan_fits c.args.list.now.rules (cookie_view c.args.text.now) (plain_access c.args.access.now) c.args.self.now c.args.now c.planned_with.result c.requires.pair
+    (λ x. subst (λ (j : PlainJar). copies x j.cookies ≤ 1) c.self.view_is (c.self.invariant.distinct x)) (returns-clause-answer c)

@@ -9,7 +9,7 @@ use Rattle.cookie_jar.proofs.jar.Jar.remove_at.Goals as goal
 pub counted-requires : goal.counted-requires
 counted-requires c =
     let lt : c.args.place < length (map plain_cookie c.self.inside.cookies.items) = rw (ap (λ (j : PlainJar). length j.cookies) c.self.view_is) c.requires.place in
-    let is = read_at c.self.inside.cookies.items c.args.place c.remove-gone.result c.remove-gone.ensures.value in
+    let is = c.borrowed.ensures ∙ read_at c.self.inside.cookies.items c.args.place c.remove-gone.result c.remove-gone.ensures.value in
     subst (λ d. counted c.self.inside.kind d ≤ 10240) (sym is) (counted_small _ _ _ _ _ c.self.invariant.within lt)
 
 pub returns-clause-cookies : goal.returns-clause-cookies
@@ -18,7 +18,7 @@ returns-clause-cookies c = ap (map plain_cookie) c.remove-gone.ensures.items ∙
 pub overflow_sub-self-2 : goal.overflow_sub-self-2
 overflow_sub-self-2 c =
     let lt : c.args.place < length (map plain_cookie c.self.inside.cookies.items) = rw (ap (λ (j : PlainJar). length j.cookies) c.self.view_is) c.requires.place in
-    let is = read_at c.self.inside.cookies.items c.args.place c.remove-gone.result c.remove-gone.ensures.value in
+    let is = c.borrowed.ensures ∙ read_at c.self.inside.cookies.items c.args.place c.remove-gone.result c.remove-gone.ensures.value in
     let e = c.counted.ensures ∙ ap (counted c.self.inside.kind) is in
     let le = get_or-le-sum_by (counted c.self.inside.kind) (map plain_cookie c.self.inside.cookies.items) c.args.place (plain_cookie c.remove-gone.result) lt in
     omega (arith, e, le, c.self.invariant.bytes)
@@ -26,6 +26,6 @@ overflow_sub-self-2 c =
 pub invariant_of-self : goal.invariant_of-self
 invariant_of-self c =
     let lt : c.args.place < length (map plain_cookie c.self.inside.cookies.items) = rw (ap (λ (j : PlainJar). length j.cookies) c.self.view_is) c.requires.place in
-    let is = read_at c.self.inside.cookies.items c.args.place c.remove-gone.result c.remove-gone.ensures.value in
+    let is = c.borrowed.ensures ∙ read_at c.self.inside.cookies.items c.args.place c.remove-gone.result c.remove-gone.ensures.value in
     let e = c.counted.ensures ∙ ap (counted c.self.inside.kind) is in
     rw (c.remove-gone.ensures.items, map-remove, e) (removed_cell _ _ _ _ _ c.self.invariant lt)

@@ -16,8 +16,8 @@ invariant_of-self c =
     let old = plain_cookie c.index.result.now in
     let lt : c.args.place < length cs = rw (ap (λ (j : PlainJar). length j.cookies) c.self.view_is) c.requires.place in
     let is = read_at c.self.inside.cookies.items c.args.place c.index.result.now c.index.ensures in
-    let gone = c.counted-old.ensures ∙ ap (counted c.self.inside.kind) is in
+    let gone = c.counted-old.ensures ∙ ap (counted c.self.inside.kind) (c.borrowed-2.ensures ∙ is) in
     let alike : same new (get_or cs c.args.place old) ≡ true =
     ap (same new) (get_or_default cs c.args.place old new lt) ∙ ap (λ (j : PlainJar). same new (get_or j.cookies c.args.place new)) c.self.view_is ∙ c.requires.same in
     let within = ap (λ (j : PlainJar). keeps_limits j.kind (slice_set j.cookies c.args.place new)) c.self.view_is ∙ c.requires.limits in
-    rw (map-set, gone, c.counted-new.ensures) (replaced_cell _ _ cs _ _ old c.self.invariant lt alike within)
+    rw (map-set, gone, c.counted-new.ensures, c.borrowed.ensures) (replaced_cell _ _ cs _ _ old c.self.invariant lt alike within)

@@ -3,7 +3,7 @@ use Rattle.std.specs.Prelude.{nat_lt}
 use Rattle.std.specs.Str.{IsCharBoundary}
 use Rattle.std.proofs.lemmas.Bool.{ltb-true, ltb-false}
 use Rattle.std.proofs.lemmas.Str.{IsCharBoundary-start}
-use Rattle.cookie_jar.proofs.matching.default_path.Goals as goal
+use Rattle.cookie_match.proofs.matching.default_path.Goals as goal
 
 pub range-requires-clause-end_boundary : goal.range-requires-clause-end_boundary
 range-requires-clause-end_boundary c = at (nat_lt 0 c.last_slash.result) refl

@@ -1,10 +1,12 @@
 //! Domains and paths that match.
 ghost use Rattle.std.specs.Prelude.{◌≡◌, ◌<◌, ◌-◌, not, length, slice_index};
 ghost use Rattle.std.specs.List.{count_by, suffix_len};
-ghost use Rattle.cookie_jar.specs.Matching as spec;
+ghost use Rattle.cookie_match.specs.Matching as spec;
 
+/// Whether a host domain-matches a domain. Both are in lower case; `ip` tells that the host is an
+/// IP address, which no domain but itself is matched by.
 pub fn domain_matches(ip: bool, host: &str, domain: &str) -> bool
-    ensures { result ≡ spec.domain_matches ip host.now domain.now }
+    ensures value { result ≡ spec.domain_matches ip host.now domain.now }
 {
     host == domain || (!ip && is_below(host.as_bytes(), domain.as_bytes()))
 }
@@ -17,8 +19,9 @@ fn is_below(host: &[u8], domain: &[u8]) -> bool
         && host[host.len() - domain.len() - 1] == b'.'
 }
 
+/// Whether the path of a URL path-matches the path of a cookie.
 pub fn path_matches(path: &str, base: &str) -> bool
-    ensures { result ≡ spec.path_matches path.now base.now }
+    ensures value { result ≡ spec.path_matches path.now base.now }
 {
     path == base
         || (path.as_bytes().starts_with(base.as_bytes())
@@ -38,8 +41,9 @@ fn goes_on_with_slash(text: &[u8], front: &[u8]) -> bool
     front.len() < text.len() && text[front.len()] == b'/'
 }
 
+/// The path of a cookie whose text has none, from the path of the URL.
 pub fn default_path(path: &str) -> &str
-    ensures { result.now ≡ spec.default_path path.now }
+    ensures value { result.now ≡ spec.default_path path.now }
 {
     if count_slashes(path) <= 1 {
         "/"

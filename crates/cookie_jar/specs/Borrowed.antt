@@ -1,10 +1,10 @@
 -- A cookie whose texts are borrowed, as private contracts see it.
-use Rattle.cookie_jar.specs.declared.cookie.Draft.{Draft}
+use Rattle.cookie_jar.specs.declared.cookie.BorrowedCookie.{BorrowedCookie}
 use Rattle.cookie_jar.specs.Cookie.{PlainCookie}
 
 -- the plain cookie
-abbrev pub plain_draft : Draft → PlainCookie
-plain_draft c =
+abbrev pub plain_borrowed : BorrowedCookie → PlainCookie
+plain_borrowed c =
     record {
       name = c.name.now;
       value = c.value.now;

@@ -43,6 +43,9 @@ apart-reversed (f ∷ fs) apart =
     subst Apart (sym (reverse-cons f fs))
     (apart-snoc (reverse fs) f (apart-reversed fs apart.1) (has-reversed f.frame fs ∙ apart.0))
 
+pub apart-tree : (fs : List PlainFrame) → IsTree fs → Apart fs
+apart-tree fs tree = subst Apart (reverse-reverse fs) (apart-reversed (reverse fs) (apart-grown (reverse fs) tree))
+
 pub has_at : (n : ℕ) (fs : List PlainFrame) (i : ℕ) (d : PlainFrame) → i < length fs → (get_or fs i d).frame ≡ n → has_frame n fs ≡ true
 has_at n [] i d low is = absurd (omega (arith, low))
 has_at n (f ∷ fs) zero d low is = ap (λ b. b || has_frame n fs) (eq-eqb f.frame n is)
@@ -74,14 +77,14 @@ pub put_nowhere : (frame : ℕ) (next : PlainDocument → PlainDocument) (fs : L
     → fs ≡ map (put_at frame next) fs
 put_nowhere frame next fs fresh = change_nowhere (λ (f : PlainFrame). f.frame) frame (with_next next) fs fresh
 
-any_at : {X : Type 0} (number : X → ℕ) (n : ℕ) (xs : List X) (i : ℕ) (d : X) → i < length xs → number (get_or xs i d) ≡ n
+pub any_at : {X : Type 0} (number : X → ℕ) (n : ℕ) (xs : List X) (i : ℕ) (d : X) → i < length xs → number (get_or xs i d) ≡ n
     → list_any (λ x. number x == n) xs ≡ true
 any_at number n [] i d low is = absurd (omega (arith, low))
 any_at number n (x ∷ xs) zero d low is = ap (λ b. b || list_any (λ x. number x == n) xs) (eq-eqb (number x) n is)
 any_at number n (x ∷ xs) (suc i) d low is =
     ap (λ b. (number x == n) || b) (any_at number n xs i d (omega (arith, low)) is) ∙ or_true (number x == n)
 
-elsewhere : {X : Type 0} (number : X → ℕ) (x : X) (n : ℕ) (xs : List X) → list_any (λ y. number y == number x) xs ≡ false
+pub elsewhere : {X : Type 0} (number : X → ℕ) (x : X) (n : ℕ) (xs : List X) → list_any (λ y. number y == number x) xs ≡ false
     → list_any (λ y. number y == n) xs ≡ true
     → (((number x == n) ≡ true) × (number x ≡ n)) ⊎ (((number x == n) ≡ false) × (number x ≢ n)) → (number x == n) ≡ false
 elsewhere number x n xs fresh there (inl is) =
@@ -125,11 +128,10 @@ put-frame frame made fs i v d tree low at is =
     let fs' : List PlainFrame = map plain_frame fs in
     let ks : List KeptFrame = map kept_frame fs in
     let read : get_or ks i (kept_frame d) ≡ kept_frame (get_or fs i d) = get_or-map kept_frame fs i d (kept_frame d) low in
-    let apart : Apart fs' = subst Apart (reverse-reverse fs') (apart-reversed (reverse fs') (apart-grown (reverse fs') tree)) in
     map-set kept_frame fs i v
     ∙ ap (set ks i) (is ∙ ap (kept_instead made) (sym read))
     ∙ change-place (λ (k : KeptFrame). k.plain.frame) frame (kept_instead made) ks i (kept_frame d)
-    (subst (λ n. i < n) (sym (length-map fs kept_frame)) low) (apart_kept fs apart)
+    (subst (λ n. i < n) (sym (length-map fs kept_frame)) low) (apart_kept fs (apart-tree fs' tree))
     (ap (λ (k : KeptFrame). k.plain.frame) read ∙ got fs i frame d at low)
 
 found_newer : (passes : PlainFrame → Bool) (next : PlainDocument → PlainDocument) (e : PlainFrame) (older fs : List PlainFrame)

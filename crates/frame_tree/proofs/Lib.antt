@@ -7,5 +7,6 @@ pub mod SetLemmas
 pub mod LastLemmas
 pub mod KeptLemmas
 pub mod KeyLemmas
+pub mod PlaceLemmas
 pub mod SoundLemmas
 pub mod LawLemmas

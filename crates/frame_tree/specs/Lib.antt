@@ -7,4 +7,5 @@ pub mod Calls
 pub mod Plain
 -- What private functions compute. No public clause rests on it.
 pub mod Kept
+pub mod Places
 pub mod Sets

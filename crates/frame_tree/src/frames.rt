@@ -6,8 +6,9 @@ ghost use Rattle.std.specs.List.{list_all};
 ghost use Rattle.origin_site.specs.Plain.{plain_origin};
 ghost use Rattle.frame_tree.specs.Calls.{origin_of};
 ghost use Rattle.frame_tree.specs.Kept.{kept_frame};
+ghost use Rattle.frame_tree.specs.Places.{ArePlaces, IsPlaceOf};
 ghost use Rattle.frame_tree.specs.Plain.{plain_chain_site, plain_document, plain_frame};
-ghost use Rattle.frame_tree.specs.Tree.{IsLastFrame, chain_back, document_of, has_frame};
+ghost use Rattle.frame_tree.specs.Tree.{IsLastFrame, IsTree, chain_back, document_of, has_frame};
 
 use crate::Document;
 use crate::document::copy_of_site;
@@ -165,4 +166,29 @@ pub fn copies_of(alloc: Global, frames: &[Frame]) -> Result<Vec<Frame>, NoMemory
         };
     }
     Ok(copies)
+}
+
+/// The frame of a number, which stands at this place if it is there.
+pub fn frame_at(frames: &[Frame], place: usize, frame: u8) -> Option<&Frame>
+    requires tree { IsTree (map plain_frame frames.now) }
+    requires place { IsPlaceOf frame place (map plain_frame frames.now) }
+    ensures found { option_copied result ≡ find (λ f. f.frame == frame) frames.now }
+{
+    match frames.get(place) {
+        Some(f) if f.frame == frame => Some(f),
+        _ => None,
+    }
+}
+
+/// The place of each frame by its number. A number without a frame has any place.
+pub fn places_of(frames: &[Frame]) -> [u8; 256]
+    requires tree { IsTree (map plain_frame frames.now) }
+    ensures places { ArePlaces result (map plain_frame frames.now) }
+{
+    let mut places = [0; 256];
+    for (place, f) in frames.iter().enumerate() {
+        let number = usize::from(f.frame);
+        places[number] = place as u8;
+    }
+    places
 }

@@ -5,6 +5,7 @@
 //! list of documents from the top to it. Each document's storage key is made at its load and kept.
 #![tactic(auto)]
 
+mod by_number;
 mod document;
 mod frames;
 mod keys;
@@ -14,6 +15,7 @@ mod sandbox;
 mod sets;
 mod tab;
 
+pub use by_number::ByNumber;
 pub use document::Document;
 pub use sandbox::Sandbox;
 pub use tab::{NoFrame, Tab, TreeFault};

@@ -62,11 +62,21 @@ module _ (number : ℕ) (frames : List PlainFrame) (last : ℕ) (is : IsLastFram
       ap (λ n. filter_map (keyed number frames) (range_with_len 0 n)) end
       ∙ sym (ap (λ n. filter_map (keyed number frames) (range_with_len 0 n)) all ∙ behind-last (256 - n))
 
+-- a document with its key, where that is the key of its frame
+pub keyed-as : (number : ℕ) (frames seen : List PlainFrame) (n : ℕ) (at : Label) (own : Option PlainKey) → seen ≡ frames
+    → at ≡ record { tab = number; frame = n } → own ≡ key_of_frame n seen → option_map (λ key. (at, key)) own ≡ keyed number frames n
+keyed-as number frames seen n at own same label key =
+    ap (λ l. option_map (λ key. (l, key)) own) label
+    ∙ ap (option_map {U = Label × PlainKey} (λ key. (record { tab = number; frame = n }, key))) (key ∙ ap (key_of_frame n) same)
+
 -- the documents of one frame more
-pub listed-more : (h : ℕ → Option (Label × PlainKey)) (before now : List (Label × StorageKey)) (n : ℕ)
-    → map plain_keyed now ≡ map plain_keyed before ++ filter_map h (range_with_len 0 n)
-    → map plain_keyed now ++ option_to_list (h n) ≡ map plain_keyed before ++ filter_map h (range_with_len 0 (n + 1))
-listed-more h before now n so_far =
-    ap (λ l. l ++ option_to_list (h n)) so_far
+pub listed-next : (h : ℕ → Option (Label × PlainKey)) (before now after : List (Label × StorageKey)) (n : ℕ) (found : Option (Label × PlainKey))
+    → found ≡ h n → map plain_keyed now ≡ map plain_keyed before ++ filter_map h (range_with_len 0 n)
+    → map plain_keyed after ≡ map plain_keyed now ++ option_to_list found
+    → map plain_keyed after ≡ map plain_keyed before ++ filter_map h (range_with_len 0 (n + 1))
+listed-next h before now after n found own so_far more =
+    more
+    ∙ ap (λ o. map plain_keyed now ++ option_to_list o) own
+    ∙ ap (λ l. l ++ option_to_list (h n)) so_far
     ∙ append_assoc (map plain_keyed before) (filter_map h (range_with_len 0 n)) (option_to_list (h n))
     ∙ ap (λ l. map plain_keyed before ++ l) (sym (filter_map-more h n))

@@ -1,5 +1,6 @@
 -- The queues that a tab holds, and the queue of each frame.
 use Rattle.std.proofs.Common.{◌≡◌, ℕ, Bool, true, false, cond, not, List, [], ◌∷◌, map, Option, Some, None, refl, ap, sym, ◌∙◌, inl, inr}
+use Rattle.std.proofs.lemmas.Bool.{and_parts, and_from, or_right}
 use Rattle.std.specs.Prelude.{◌&&◌, ◌||◌, ◌==◌, ◌≢◌, ◌⊎◌, filter, find, unwrap_or, if◌then◌else◌}
 use Rattle.std.specs.List.{list_all}
 use Rattle.std.proofs.lemmas.Bool.Decides.{eqb_tells}
@@ -7,7 +8,7 @@ use Rattle.frame_tree.specs.Tree.{PlainFrame, has_frame}
 use Rattle.live_state.specs.declared.frame_queue.FrameQueue.{FrameQueue}
 use Rattle.live_state.specs.ExistingQueues.{existing_at, are_of_frames, plain_by, queues_of}
 use Rattle.live_state.specs.Tabs.{empty_queue, is_fresh, queue_after, stays}
-use Rattle.live_state.proofs.ListLemmas.{all_pass, all_weaker, and_both, and_parts, find-kept}
+use Rattle.live_state.proofs.ListLemmas.{all_pass, all_weaker, find-kept}
 
 pub frame_by : (n : ℕ) (o : Option FrameQueue) → (plain_by n o).frame ≡ n
 frame_by n None = refl
@@ -86,17 +87,13 @@ own_by : (n : ℕ) (b : Bool) → (((n == n) ≡ true) × (n ≡ n)) ⊎ (((n ==
 own_by n b (inl is) = ap (λ t. t || b) is.0
 own_by n b (inr isnt) = absurd (isnt.1 refl)
 
-or_more : (a b : Bool) → b ≡ true → (a || b) ≡ true
-or_more true b is = refl
-or_more false b is = is
-
 -- each frame is there
 pub all_there : (fs : List PlainFrame) → list_all (λ f. has_frame f.frame fs) fs ≡ true
 all_there [] = refl
 all_there (f ∷ fs) =
-    and_both (has_frame f.frame (f ∷ fs)) (list_all (λ g. has_frame g.frame (f ∷ fs)) fs)
+    and_from (has_frame f.frame (f ∷ fs)) (list_all (λ g. has_frame g.frame (f ∷ fs)) fs)
     (own_by f.frame (has_frame f.frame fs) (eqb_tells f.frame f.frame))
-    (all_weaker (λ g. has_frame g.frame fs) (λ g. has_frame g.frame (f ∷ fs)) (λ g there. or_more (f.frame == g.frame) (has_frame g.frame fs) there) fs (all_there fs))
+    (all_weaker (λ g. has_frame g.frame fs) (λ g. has_frame g.frame (f ∷ fs)) (λ g there. or_right (f.frame == g.frame) (has_frame g.frame fs) there) fs (all_there fs))
 
 pub queues-put : (fresh : Option ℕ) (frames made : List PlainFrame) (existing : List FrameQueue) → are_of_frames frames existing ≡ true
     → map (λ f. queue_after fresh (queues_of frames existing) f.frame) made ≡ queues_of made (filter (λ q. stays fresh made q.frame) existing)

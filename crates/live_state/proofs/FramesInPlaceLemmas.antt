@@ -1,46 +1,116 @@
--- The open tabs after a change of the frames of one, at its place.
-use Rattle.std.proofs.Common.{◌≡◌, ◌<◌, ℕ, false, true, cond, not, List, [], length, get_or, set, Option, Some, refl, ap, sym, ◌∙◌}
-use Rattle.std.specs.Prelude.{◌&&◌, option_map}
+-- The open tabs after a change of one, at its place.
+use Rattle.std.proofs.Common.{◌≡◌, ◌<◌, ℕ, false, true, cond, not, List, [], length, get_or, map, set, Option, Some, refl, ap, sym, subst, ◌∙◌}
+use Rattle.std.specs.Prelude.{◌&&◌, ◌==◌, option_map}
+use Rattle.std.specs.BTreeMap.{BTreeMap}
+use Rattle.std.specs.Global.{Vec}
 use Rattle.std.proofs.lemmas.Bool.{eq-eqb}
 use Rattle.agent_base.specs.declared.refusals.Label.{Label}
+use Rattle.origin_site.specs.declared.site.Site.{Site}
+use Rattle.frame_tree.specs.Tree.{IsTree, PlainFrame, top_site}
 use Rattle.live_state.specs.ExistingQueues.{FramesStayReadyBut, PlainOpenTab}
 use Rattle.live_state.specs.FramesInPlace.{IsPutIn, IsRemade, frames_at}
-use Rattle.live_state.specs.Queues.{frames_by, goes}
+use Rattle.live_state.specs.Queues.{frames_by, goes, is_among}
+use Rattle.live_state.specs.SiteTabs.{AreIndexed}
 use Rattle.live_state.specs.TabPlaces.{IsAt, IsGap}
-use Rattle.live_state.specs.Tabs.{PlainTab, stays, tabs_put}
-use Rattle.live_state.proofs.LiveLemmas.{found, found-written, live_ready, ready-kept, tab-found}
+use Rattle.live_state.specs.Tabs.{PlainTab, stays, tab_at, tabs_put}
+use Rattle.live_state.proofs.IndexStepLemmas.{indexed-queues, indexed-same}
+use Rattle.live_state.proofs.LiveLemmas.{changed-set, found, found-written, live_ready, ready-at, ready-kept, ready-set, tab-found}
 use Rattle.live_state.proofs.SearchLemmas.{plain_of}
-use Rattle.live_state.proofs.StepLemmas.{put-open, tab-here}
+use Rattle.live_state.proofs.StepLemmas.{number-here, put-open, tab-here}
 use Rattle.live_state.proofs.TabPlaceLemmas.{found-gap}
 
-module _ (n : ℕ) (ts : List PlainOpenTab) (place : ℕ) (at : IsAt n (plain_of ts) place) (old : PlainOpenTab) (within : place < length ts) (read : old ≡ get_or ts place old) where
+-- a tab is written in the place of the one of a number, which it keeps
+pub record IsWritten (n : ℕ) (tabs : List PlainTab) (ts : List PlainOpenTab) (place : ℕ) (old new : PlainOpenTab) : Type 0 where
+  pub at : IsAt n (plain_of ts) place
+  pub within : place < length ts
+  pub read : old ≡ get_or ts place old
+  pub same : new.plain.number ≡ old.plain.number
+  pub seen : plain_of ts ≡ tabs
+
+-- it is so where a search of the tabs found the place
+pub written : (n : ℕ) (tabs : List PlainTab) (ts searched : List PlainOpenTab) (place : ℕ) (old new : PlainOpenTab) → searched ≡ ts
+    → IsAt n (plain_of searched) place → place < length ts → old ≡ get_or ts place old → new.plain.number ≡ old.plain.number → plain_of ts ≡ tabs
+    → IsWritten n tabs ts place old new
+written n tabs ts searched place old new equal at within read same seen = record {
+  at = subst (λ (l : List PlainOpenTab). IsAt n (plain_of l) place) equal at;
+  within = within;
+  read = read;
+  same = same;
+  seen = seen;
+}
+
+module _ {n : ℕ} {tabs : List PlainTab} {ts : List PlainOpenTab} {place : ℕ} {old new : PlainOpenTab} (is : IsWritten n tabs ts place old new) where
+  -- the number that both have
+  pub number-before : old.plain.number ≡ n
+  number-before = number-here n ts place is.at old is.within is.read
+
+  pub number-after : new.plain.number ≡ n
+  number-after = is.same ∙ number-before
+
+  -- the tab before
+  pub tab-before : tab_at n tabs ≡ Some old.plain
+  tab-before = ap (tab_at n) (sym is.seen) ∙ tab-here n ts place is.at old is.within is.read
+
   -- the frames of the tab before
-  pub frames-here : (tabs : List PlainTab) → plain_of ts ≡ tabs → old.plain.frames ≡ frames_at n tabs
-  frames-here tabs same = sym (ap frames_by (tab-here n ts place at old within read)) ∙ ap (frames_at n) same
+  frames_before : old.plain.frames ≡ frames_at n tabs
+  frames_before = sym (ap frames_by tab-before)
 
-  module _ (new : PlainOpenTab) (same : new.plain.number ≡ n) where
-    -- and afterwards
-    pub frames-after : frames_at n (plain_of (set ts place new)) ≡ new.plain.frames
-    frames-after =
-        ap frames_by (tab-found n (set ts place new)
-        ∙ ap (option_map (λ t. t.plain)) (found-written n ts place at old within read new same n ∙ ap (λ b. cond b (Some new) (found n ts)) (eq-eqb n n refl)))
+  -- and afterwards
+  frames_after : frames_at n (plain_of (set ts place new)) ≡ new.plain.frames
+  frames_after =
+      ap frames_by (tab-found n (set ts place new)
+      ∙ ap (option_map (λ t. t.plain))
+      (found-written n ts place is.at old is.within is.read new number-after n ∙ ap (λ b. cond b (Some new) (found n ts)) (eq-eqb n n refl)))
 
-    -- the tabs have the tab with its frames
-    pub put-in : (fresh : Option ℕ) → IsRemade fresh old.plain new.plain → (tabs : List PlainTab) → plain_of ts ≡ tabs → IsPutIn n fresh tabs (plain_of (set ts place new))
-    put-in fresh remade tabs equal =
-        put-open n new.plain.frames fresh ts place at old new within read remade
-        ∙ ap (λ frames. tabs_put n frames fresh (plain_of ts)) (sym frames-after)
-        ∙ ap (tabs_put n (frames_at n (plain_of (set ts place new))) fresh) equal
+  -- what is so of the frames of the two tabs is so of those that contracts see
+  pub framed : (So : List PlainFrame → List PlainFrame → Type 0) → So old.plain.frames new.plain.frames
+      → So (frames_at n tabs) (frames_at n (plain_of (set ts place new)))
+  framed So so =
+      subst (So (frames_at n tabs)) (sym frames_after) (subst (λ (fs : List PlainFrame). So fs new.plain.frames) frames_before so)
 
-    -- what was ready and stays is ready still
-    pub ready-remade : (fresh : Option ℕ) → FramesStayReadyBut (λ m. not (stays fresh new.plain.frames m)) old new → (l : Label)
-        → goes n (frames_at n (plain_of (set ts place new))) fresh l ≡ false → live_ready l ts ≡ true → live_ready l (set ts place new) ≡ true
-    ready-remade fresh kept l stay ready =
-        ready-kept n ts place at old within read new same l
-        (λ here. kept l.frame
-        (ap (λ fs. not (stays fresh fs l.frame)) (sym frames-after)
-        ∙ ap (λ b. b && not (stays fresh (frames_at n (plain_of (set ts place new))) l.frame)) (sym (eq-eqb l.tab n here))
-        ∙ stay)) ready
+  -- the tabs have the tab with its frames
+  pub put-in : (fresh : Option ℕ) → IsRemade fresh old.plain new.plain → IsPutIn n fresh tabs (plain_of (set ts place new))
+  put-in fresh remade =
+      put-open n new.plain.frames fresh ts place is.at old new is.within is.read remade
+      ∙ ap (λ frames. tabs_put n frames fresh (plain_of ts)) (sym frames_after)
+      ∙ ap (tabs_put n (frames_at n (plain_of (set ts place new))) fresh) is.seen
+
+  -- what was ready and stays is ready still
+  pub ready-written : (l : Label) → (l.tab ≡ n → is_among l.frame old.ready ≡ true → is_among l.frame new.ready ≡ true)
+      → live_ready l ts ≡ true → live_ready l (set ts place new) ≡ true
+  ready-written l stays ready = ready-kept n ts place is.at old is.within is.read new number-after l stays ready
+
+  pub ready-before : (l : Label) → l.tab ≡ n → live_ready l ts ≡ is_among l.frame old.ready
+  ready-before l here = ready-at n ts place is.at old is.within is.read l here
+
+  pub ready-after : (l : Label) → l.tab ≡ n → live_ready l (set ts place new) ≡ is_among l.frame new.ready
+  ready-after l here = ready-set n ts place is.at old is.within is.read new number-after l here
+
+  pub ready-remade : (fresh : Option ℕ) → FramesStayReadyBut (λ m. not (stays fresh new.plain.frames m)) old new → (l : Label)
+      → goes n (frames_at n (plain_of (set ts place new))) fresh l ≡ false → live_ready l ts ≡ true → live_ready l (set ts place new) ≡ true
+  ready-remade fresh kept l stay ready =
+      ready-written l
+      (λ here. kept l.frame
+      (ap (λ fs. not (stays fresh fs l.frame)) (sym frames_after)
+      ∙ ap (λ b. b && not (stays fresh (frames_at n (plain_of (set ts place new))) l.frame)) (sym (eq-eqb l.tab n here))
+      ∙ stay)) ready
+
+  -- the map of the tabs' numbers is theirs still
+  pub indexed-written : (numbers : BTreeMap Site (Vec ℕ)) → AreIndexed (plain_of ts) numbers → IsTree new.plain.frames
+      → top_site new.plain.frames ≡ top_site old.plain.frames → AreIndexed (plain_of (set ts place new)) numbers
+  indexed-written numbers before tree site =
+      indexed-same n ts place is.at old is.within is.read numbers before new number-after tree site
+
+  pub indexed-told : (numbers : BTreeMap Site (Vec ℕ)) → AreIndexed (plain_of ts) numbers → new.plain.frames ≡ old.plain.frames
+      → AreIndexed (plain_of (set ts place new)) numbers
+  indexed-told numbers before frames =
+      indexed-queues n ts place is.at old is.within is.read numbers before new is.same frames
+
+  -- the tabs, where a change leaves the others
+  pub tabs-changed : (change : PlainTab → PlainTab) → ((t : PlainTab) → not (t.number == n) ≡ true → change t ≡ t)
+      → new.plain ≡ change old.plain → plain_of (set ts place new) ≡ map change tabs
+  tabs-changed change others own =
+      changed-set n change others ts place is.at old new is.within is.read own ∙ ap (map change) is.seen
 
 -- a tab that is not open has no frames
 pub frames-gap : (n : ℕ) (ts : List PlainOpenTab) (place : ℕ) → IsGap n (plain_of ts) place → (tabs : List PlainTab) → plain_of ts ≡ tabs → frames_at n tabs ≡ []

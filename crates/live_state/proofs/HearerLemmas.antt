@@ -1,14 +1,16 @@
 -- The documents that hear of a change: those of the tabs at the site of the key, or of the writer's tab.
 use Rattle.std.proofs.Common.{◌≡◌, ◌+◌, ℕ, Bool, true, false, cond, not, List, [], ◌∷◌, ◌++◌, map, Option, Some, refl, ap, sym, ◌∙◌, append_assoc, arith}
-use Rattle.std.specs.Prelude.{◌==◌, ◌&&◌, filter, nat_lt}
+use Rattle.std.specs.Prelude.{◌==◌, ◌&&◌, IfOk, Result, filter, nat_lt}
+use Rattle.std.specs.Global.{Vec}
 use Rattle.std.specs.List.{AllByRecursion, filter_map, flat_map, list_all, range_with_len}
 use Rattle.std.specs.Option.{option_to_list}
 use Rattle.std.specs.Ordering.{eq_by_cmp}
 use Rattle.std.specs.Cmp.{Equal-is}
-use Rattle.std.proofs.lemmas.Bool.{eq-eqb}
+use Rattle.std.proofs.lemmas.Bool.{and_parts, eq-eqb}
 use Rattle.std.proofs.lemmas.Bool.Decides.{nat_tests}
 use Rattle.std.proofs.lemmas.List.{append-nil, map-append}
 use Rattle.std.proofs.lemmas.List.Elements.{filter-append}
+use Rattle.std.proofs.lemmas.Result.{IfOk-weaker}
 use Rattle.agent_base.specs.declared.refusals.Label.{Label}
 use Rattle.origin_site.proofs.SameLemmas.{same_plain_site-Decides}
 use Rattle.storage_key.specs.Context.{is_of}
@@ -25,11 +27,12 @@ use Rattle.frame_tree.specs.Tree.{IsTree}
 use Rattle.frame_tree.specs.Keys.{key_of_frame}
 use Rattle.live_state.specs.Documents.{documents, documents_in}
 use Rattle.live_state.specs.Hearers.{hearers, hearers_by, hearers_in, hearing}
+use Rattle.live_state.specs.Queues.{are_distinct, has_document}
 use Rattle.live_state.specs.SiteTabs.{AreTrees, is_at, numbers_at}
 use Rattle.live_state.specs.Tabs.{PlainTab, is_rising, tab_at}
 use Rattle.live_state.proofs.DocumentLemmas.{filter_map-more}
-use Rattle.live_state.proofs.ListLemmas.{and_parts, filter_none}
-use Rattle.live_state.proofs.OnceLemmas.{all-documents}
+use Rattle.live_state.proofs.ListLemmas.{filter_none}
+use Rattle.live_state.proofs.OnceLemmas.{all-documents, kept-once, kept-there}
 use Rattle.live_state.proofs.UnderLemmas.{key-under-top}
 
 -- the equality of the program's keys is that of the plain keys
@@ -47,11 +50,14 @@ module _ (kind : AreaKind) (writer : Label) (key : PlainKey) where
       ∙ map-append (λ d. d.0) (filter (hears (eq_by_cmp key_order) kind writer key) ds) (filter (hears (eq_by_cmp key_order) kind writer key) es)
 
   -- the hearers of one frame more
-  pub hearing-more : (h : ℕ → Option (Label × PlainKey)) (before now : List Label) (n : ℕ)
-      → now ≡ before ++ hearing kind writer key (filter_map h (range_with_len 0 n))
-      → now ++ hearing kind writer key (option_to_list (h n)) ≡ before ++ hearing kind writer key (filter_map h (range_with_len 0 (n + 1)))
-  hearing-more h before now n so_far =
-      ap (λ l. l ++ hearing kind writer key (option_to_list (h n))) so_far
+  pub hearing-next : (h : ℕ → Option (Label × PlainKey)) (before now after : List Label) (n : ℕ) (found : Option (Label × PlainKey))
+      → found ≡ h n → now ≡ before ++ hearing kind writer key (filter_map h (range_with_len 0 n))
+      → after ≡ now ++ hearing kind writer key (option_to_list found)
+      → after ≡ before ++ hearing kind writer key (filter_map h (range_with_len 0 (n + 1)))
+  hearing-next h before now after n found own so_far more =
+      more
+      ∙ ap (λ o. now ++ hearing kind writer key (option_to_list o)) own
+      ∙ ap (λ l. l ++ hearing kind writer key (option_to_list (h n))) so_far
       ∙ append_assoc before (hearing kind writer key (filter_map h (range_with_len 0 n))) (hearing kind writer key (option_to_list (h n)))
       ∙ ap (λ l. before ++ l)
       (sym (ap (hearing kind writer key) (filter_map-more h n) ∙ hearing-append (filter_map h (range_with_len 0 n)) (option_to_list (h n))))
@@ -61,6 +67,17 @@ module _ (kind : AreaKind) (writer : Label) (key : PlainKey) where
   hearers-flat [] = refl
   hearers-flat (t ∷ ts) =
       hearing-append (documents_in t) (documents ts) ∙ ap (λ l. hearers_in kind writer key t ++ l) (hearers-flat ts)
+
+  -- each hearer stands once, and is there
+  pub hearers-once : {E : Type 0} (r : Result (Vec Label) E) (tabs : List PlainTab) → is_rising tabs ≡ true
+      → IfOk r (λ to. to.items ≡ hearers kind writer key tabs) → IfOk r (λ to. are_distinct to.items ≡ true)
+  hearers-once r tabs rising told =
+      IfOk-weaker r _ _ (λ to is. ap are_distinct is ∙ kept-once (hears (eq_by_cmp key_order) kind writer key) tabs rising) told
+
+  pub hearers-there : {E : Type 0} (r : Result (Vec Label) E) (tabs : List PlainTab) → is_rising tabs ≡ true
+      → IfOk r (λ to. to.items ≡ hearers kind writer key tabs) → IfOk r (λ to. list_all (has_document tabs) to.items ≡ true)
+  hearers-there r tabs rising told =
+      IfOk-weaker r _ _ (λ to is. ap (list_all (has_document tabs)) is ∙ kept-there (hears (eq_by_cmp key_order) kind writer key) tabs rising) told
 
   -- no document of a tab hears where none does
   none_in : (tab : PlainTab) → ((frame : ℕ) (own : PlainKey) → key_of_frame frame tab.frames ≡ Some own

@@ -1,5 +1,6 @@
 -- The numbers of the tabs at a site after a change of the tabs, and the map that has them.
 use Rattle.std.proofs.Common.{◌≡◌, ℕ, Bool, true, false, cond, not, List, [], ◌∷◌, ◌++◌, map, Some, refl, ap, sym, ◌∙◌, arith}
+use Rattle.std.proofs.lemmas.Bool.{and_parts, and_from}
 use Rattle.std.specs.Prelude.{◌==◌, ◌&&◌, ◌||◌, filter, nat_lt, unwrap_or, if◌then◌else◌}
 use Rattle.std.specs.Global.{Vec}
 use Rattle.std.specs.List.{list_all, list_any}
@@ -19,7 +20,7 @@ use Rattle.frame_tree.specs.Tree.{IsTree, PlainFrame, top_site}
 use Rattle.live_state.specs.SiteTabs.{AreTrees, are_rising, is_at, moved, numbers_at, site_rooms, takes_one, with_number, without_number}
 use Rattle.live_state.specs.TabPlaces.{are_higher, are_lower}
 use Rattle.live_state.specs.Tabs.{PlainLive, PlainTab, has_site_room, has_top_room, is_open, is_reserved, is_rising}
-use Rattle.live_state.proofs.ListLemmas.{all_kept, and_both, and_parts}
+use Rattle.live_state.proofs.ListLemmas.{all_kept}
 use Rattle.live_state.proofs.NumberLemmas.{with-between, without-between}
 use Rattle.live_state.proofs.SiteTabsLemmas.{equal_sites}
 
@@ -54,7 +55,7 @@ numbers-rise site (t ∷ ts) rising =
   where
     by : (b : Bool) → list_all (λ m. nat_lt t.number m) (numbers_at site ts) ≡ true → are_rising (numbers_at site ts) ≡ true
         → are_rising (map (λ u. u.number) (cond b (t ∷ filter (is_at site) ts) (filter (is_at site) ts))) ≡ true
-    by true low rest = and_both (list_all (λ m. nat_lt t.number m) (numbers_at site ts)) (are_rising (numbers_at site ts)) low rest
+    by true low rest = and_from (list_all (λ m. nat_lt t.number m) (numbers_at site ts)) (are_rising (numbers_at site ts)) low rest
     by false low rest = rest
 
 numbers-append : (site : PlainSite) (front rest : List PlainTab) → numbers_at site (front ++ rest) ≡ numbers_at site front ++ numbers_at site rest
@@ -123,14 +124,14 @@ module _ (n : ℕ) (front rest : List PlainTab) (low : are_lower n front ≡ tru
   differs_low (m ∷ ns) all =
       let parts = and_parts (nat_lt m n) (list_all (λ m. nat_lt m n) ns) all in
       let one : not (m == n) ≡ true = grind (arith, nat_tests) in
-      and_both (not (m == n)) (list_all (λ m. not (m == n)) ns) one (differs_low ns parts.1)
+      and_from (not (m == n)) (list_all (λ m. not (m == n)) ns) one (differs_low ns parts.1)
 
   differs_high : (ns : List ℕ) → list_all (λ m. nat_lt n m) ns ≡ true → list_all (λ m. not (m == n)) ns ≡ true
   differs_high [] all = refl
   differs_high (m ∷ ns) all =
       let parts = and_parts (nat_lt n m) (list_all (λ m. nat_lt n m) ns) all in
       let one : not (m == n) ≡ true = grind (arith, nat_tests) in
-      and_both (not (m == n)) (list_all (λ m. not (m == n)) ns) one (differs_high ns parts.1)
+      and_from (not (m == n)) (list_all (λ m. not (m == n)) ns) one (differs_high ns parts.1)
 
   -- the number is not among those beside it
   pub absent-between : list_any (λ m. m == n) (between false) ≡ false
@@ -204,7 +205,7 @@ module _ (number : ℕ) (made : List PlainFrame) (site : PlainSite) (top : top_s
   reserved-both = ap (λ t. (is_open number live.tabs || nat_lt 0 live.room) && has_top_room t live) top
 
   pub reserved-from : (is_open number live.tabs || nat_lt 0 live.room) ≡ true → has_site_room site live ≡ true → is_reserved number made live ≡ true
-  reserved-from one other = reserved-both ∙ and_both (is_open number live.tabs || nat_lt 0 live.room) (has_site_room site live) one other
+  reserved-from one other = reserved-both ∙ and_from (is_open number live.tabs || nat_lt 0 live.room) (has_site_room site live) one other
 
   pub reserved-parts : is_reserved number made live ≡ true → ((is_open number live.tabs || nat_lt 0 live.room) ≡ true) × (has_site_room site live ≡ true)
   reserved-parts is = and_parts (is_open number live.tabs || nat_lt 0 live.room) (has_site_room site live) (sym reserved-both ∙ is)

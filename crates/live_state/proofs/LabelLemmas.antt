@@ -1,8 +1,8 @@
 -- Documents by their labels, and what one event changes.
 use Rattle.std.proofs.Common.{◌≡◌, ℕ, Bool, true, false, cond, not, List, [], ◌∷◌, map, Option, Some, None, refl, ap, sym, ◌∙◌, arith}
-use Rattle.std.specs.Prelude.{◌&&◌, ◌||◌, ◌==◌, find, is_some, nat_eq, option_map, if◌then◌else◌}
+use Rattle.std.specs.Prelude.{◌&&◌, ◌==◌, find, is_some, nat_eq, option_map, if◌then◌else◌}
 use Rattle.std.specs.List.{list_all, list_any}
-use Rattle.std.proofs.lemmas.Bool.{eq-eqb, eqb-true, both_ways}
+use Rattle.std.proofs.lemmas.Bool.{and_from, and_parts, both_ways, eq-eqb, eqb-true, or_parts}
 use Rattle.std.proofs.lemmas.Bool.Decides.{nat_tests}
 use Rattle.std.proofs.lemmas.List.{map-id}
 use Rattle.agent_base.specs.declared.refusals.Label.{Label}
@@ -12,7 +12,7 @@ use Rattle.storage_events.specs.declared.event.Event.{Event}
 use Rattle.live_state.specs.ExistingQueues.{changed_at}
 use Rattle.live_state.specs.Queues.{are_distinct, event_for, is_ready, is_told, label_of, plain_sent, queue_told, sent, with_queues}
 use Rattle.live_state.specs.Tabs.{PlainLive, PlainFrameQueue, PlainTab, empty_queue}
-use Rattle.live_state.proofs.ListLemmas.{and_both, and_parts, map-agree, not_true}
+use Rattle.live_state.proofs.ListLemmas.{map-agree, not_true}
 
 pub label-is : (a b : Label) → same_label a b ≡ true → (a.tab ≡ b.tab) × (a.frame ≡ b.frame)
 label-is a b same =
@@ -20,7 +20,7 @@ label-is a b same =
     (eqb-true a.tab b.tab parts.0, eqb-true a.frame b.frame parts.1)
 
 pub label-same : (a b : Label) → a.tab ≡ b.tab → a.frame ≡ b.frame → same_label a b ≡ true
-label-same a b tab frame = and_both (nat_eq a.tab b.tab) (nat_eq a.frame b.frame) (eq-eqb a.tab b.tab tab) (eq-eqb a.frame b.frame frame)
+label-same a b tab frame = and_from (nat_eq a.tab b.tab) (nat_eq a.frame b.frame) (eq-eqb a.tab b.tab tab) (eq-eqb a.frame b.frame frame)
 
 -- two documents of one tab are of two frames
 pub frame-differs : (a b : Label) → a.tab ≡ b.tab → same_label a b ≡ false → (a.frame == b.frame) ≡ false
@@ -110,10 +110,6 @@ none_step a l x t true rest is one same differ none =
     absurd (both_ways t differ (sym is ∙ label-joined a x.0 l same one))
 none_step a l x t false rest is one same differ none = none
 
-or_parts : (a b : Bool) → (a || b) ≡ false → (a ≡ false) × (b ≡ false)
-or_parts true b none = absurd (cc none)
-or_parts false b none = (refl, none)
-
 -- there is no event for a document that is not among them
 pub no-event : (a l : Label) (events : List (Label × PlainEvent)) → list_any (same_label a) (labels_of events) ≡ false → same_label a l ≡ true
     → find (λ e. same_label e.0 l) events ≡ None
@@ -188,7 +184,7 @@ ready_rest old new at [] none stays all = refl
 ready_rest old new at (e ∷ es) none stays all =
     let differ = or_parts (same_label at e.0) (list_any (same_label at) (to_of es)) none in
     let parts = and_parts (is_ready old e.0) (list_all (λ e. is_ready old e.0) es) all in
-    and_both (is_ready new e.0) (list_all (λ e. is_ready new e.0) es)
+    and_from (is_ready new e.0) (list_all (λ e. is_ready new e.0) es)
     (stays e.0 (label-flip at e.0 differ.0) parts.0) (ready_rest old new at es differ.1 stays parts.1)
 
 -- the documents that are left are ready still

@@ -1,21 +1,13 @@
 -- Filters, tests and look-ups of a list that is put together of parts.
 use Rattle.std.proofs.Common.{◌≡◌, ◌+◌, ◌<◌, ◌≤◌, ℕ, zero, suc, Bool, true, false, cond, not, List, [], ◌∷◌, ◌++◌, length, take, drop, get_or, set, map, refl, ap, sym, ◌∙◌, arith, Some, None, Option, inl, inr}
-use Rattle.std.specs.Prelude.{◌&&◌, ◌||◌, ◌==◌, ◌≢◌, ◌⊎◌, filter, find, is_some, option_map, slice_get}
+use Rattle.std.specs.Prelude.{◌||◌, ◌==◌, ◌≢◌, ◌⊎◌, filter, find, is_some, option_map, slice_get}
 use Rattle.std.specs.List.{All, AllWithin, list_all, list_any, position_or_len}
 use Rattle.std.specs.Option.{option_or}
-use Rattle.std.proofs.lemmas.Bool.{eq-eqb}
+use Rattle.std.proofs.lemmas.Bool.{and_from, and_parts, eq-eqb}
 use Rattle.std.proofs.lemmas.Bool.Decides.{eqb_tells}
 use Rattle.std.proofs.lemmas.List.{get_or-take, get_or-drop, length-take-le, length-drop}
 use Rattle.std.proofs.lemmas.List.Folds.{find-append, find-set}
 use Rattle.std.proofs.lemmas.List.Recursion.{found_set_other}
-
-pub and_parts : (a b : Bool) → (a && b) ≡ true → (a ≡ true) × (b ≡ true)
-and_parts true b both = (refl, both)
-and_parts false b both = absurd (cc both)
-
-pub and_both : (a b : Bool) → a ≡ true → b ≡ true → (a && b) ≡ true
-and_both true b one other = other
-and_both false b one other = absurd (cc one)
 
 pub not_true : (b : Bool) → not b ≡ true → b ≡ false
 not_true true is = absurd (cc is)
@@ -36,7 +28,7 @@ module _ {X : Type 0} where
   all_weaker p q weaker [] all = refl
   all_weaker p q weaker (x ∷ xs) all =
       let parts = and_parts (p x) (list_all p xs) all in
-      and_both (q x) (list_all q xs) (weaker x parts.0) (all_weaker p q weaker xs parts.1)
+      and_from (q x) (list_all q xs) (weaker x parts.0) (all_weaker p q weaker xs parts.1)
 
   pub all_true : (xs : List X) → list_all (λ x. true) xs ≡ true
   all_true [] = refl
@@ -66,7 +58,7 @@ module _ {X : Type 0} where
 
   kept_by : (p q : X → Bool) (x : X) (xs : List X) (b : Bool) → q x ≡ true → list_all q (filter p xs) ≡ true
       → list_all q (cond b (x ∷ filter p xs) (filter p xs)) ≡ true
-  kept_by p q x xs true one rest = and_both (q x) (list_all q (filter p xs)) one rest
+  kept_by p q x xs true one rest = and_from (q x) (list_all q (filter p xs)) one rest
   kept_by p q x xs false one rest = rest
 
   -- what all have, those have that a filter keeps
@@ -78,7 +70,7 @@ module _ {X : Type 0} where
 
   passes_by : (p : X → Bool) (x : X) (xs : List X) (b : Bool) → p x ≡ b → list_all p (filter p xs) ≡ true
       → list_all p (cond b (x ∷ filter p xs) (filter p xs)) ≡ true
-  passes_by p x xs true is rest = and_both (p x) (list_all p (filter p xs)) is rest
+  passes_by p x xs true is rest = and_from (p x) (list_all p (filter p xs)) is rest
   passes_by p x xs false is rest = rest
 
   pub all_pass : (p : X → Bool) (xs : List X) → list_all p (filter p xs) ≡ true

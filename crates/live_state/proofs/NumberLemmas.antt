@@ -5,13 +5,13 @@ use Rattle.std.specs.List.{AllWithin, insert, list_all, list_any}
 use Rattle.std.specs.List.Sorted.{IsNonDecreasingBy}
 use Rattle.std.specs.Ordering.{nat_cmp, ordering_index}
 use Rattle.std.specs.declared.cmp.Ordering.TheVariants.{Less, Equal, Greater}
-use Rattle.std.proofs.lemmas.Bool.{eq-eqb}
+use Rattle.std.proofs.lemmas.Bool.{and_parts, eq-eqb}
 use Rattle.std.proofs.lemmas.Bool.Decides.{nat_tests}
 use Rattle.std.proofs.lemmas.List.{append-nil, take-append-drop}
 use Rattle.std.proofs.lemmas.List.Elements.{All-weaker, filter-append}
 use Rattle.std.proofs.lemmas.List.Sums.{AllPass-from_list_all, list_all-from_AllPass}
 use Rattle.live_state.specs.SiteTabs.{are_rising, with_number, without_number}
-use Rattle.live_state.proofs.ListLemmas.{All-back, All-front, all_weaker, and_parts, filter_all, filter_none}
+use Rattle.live_state.proofs.ListLemmas.{All-back, All-front, all_weaker, filter_all, filter_none}
 
 not_higher : (m n : ℕ) → nat_lt m n ≡ true → not (nat_lt n m) ≡ true
 not_higher m n is = grind (arith, nat_tests)

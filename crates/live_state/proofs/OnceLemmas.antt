@@ -2,7 +2,7 @@
 use Rattle.std.proofs.Common.{◌≡◌, ◌+◌, ◌<◌, ℕ, zero, suc, Bool, true, false, cond, not, List, [], ◌∷◌, ◌++◌, map, Option, Some, None, refl, ap, sym, ◌∙◌, arith}
 use Rattle.std.specs.Prelude.{◌&&◌, ◌||◌, ◌==◌, filter, find, is_some, nat_eq, nat_lt, option_and_then, option_map}
 use Rattle.std.specs.List.{cons_option, filter_map, list_all, list_any, range_with_len}
-use Rattle.std.proofs.lemmas.Bool.{eq-eqb}
+use Rattle.std.proofs.lemmas.Bool.{and_from, and_parts, eq-eqb}
 use Rattle.std.proofs.lemmas.Bool.Decides.{nat_tests}
 use Rattle.std.proofs.lemmas.List.{map-append}
 use Rattle.std.proofs.lemmas.List.Folds.{list_all-append, list_all-map, list_any-append}
@@ -16,7 +16,7 @@ use Rattle.frame_tree.specs.Keys.{key_of_document, key_of_frame}
 use Rattle.live_state.specs.Documents.{documents, documents_in, frame_numbers, keyed, plain_keyed}
 use Rattle.live_state.specs.Queues.{are_distinct, frames_by, has_document}
 use Rattle.live_state.specs.Tabs.{PlainTab, is_rising, tab_at}
-use Rattle.live_state.proofs.ListLemmas.{all_kept, all_true, all_weaker, and_both, and_parts, is_some-find, is_some-map, not_true}
+use Rattle.live_state.proofs.ListLemmas.{all_kept, all_true, all_weaker, is_some-find, is_some-map, not_true}
 
 abbrev labels : List (Label × PlainKey) → List Label
 labels documents = map (λ d. d.0) documents
@@ -38,7 +38,7 @@ all_step : (p : Label × PlainKey → Bool) (number frame : ℕ) (o : Option Pla
     → ((key : PlainKey) → o ≡ Some key → p (record { tab = number; frame = frame }, key) ≡ true) → list_all p rest ≡ true
     → list_all p (cons_option (option_map (λ key. (record { tab = number; frame = frame }, key)) o) rest) ≡ true
 all_step p number frame None rest has all = all
-all_step p number frame (Some key) rest has all = and_both (p (record { tab = number; frame = frame }, key)) (list_all p rest) (has key refl) all
+all_step p number frame (Some key) rest has all = and_from (p (record { tab = number; frame = frame }, key)) (list_all p rest) (has key refl) all
 
 all-keyed : (p : Label × PlainKey → Bool) (q : ℕ → Bool) (number : ℕ) (frames : List PlainFrame)
     → ((frame : ℕ) (key : PlainKey) → q frame ≡ true → key_of_frame frame frames ≡ Some key → p (record { tab = number; frame = frame }, key) ≡ true)
@@ -89,7 +89,7 @@ range_above : (a b n : ℕ) → a < b → list_all (λ k. nat_lt a k) (range_wit
 range_above a b zero low = refl
 range_above a b (suc n) low =
     let first : nat_lt a b ≡ true = grind (arith, nat_tests) in
-    and_both (nat_lt a b) (list_all (λ k. nat_lt a k) (range_with_len (b + 1) n)) first (range_above a (b + 1) n (omega arith))
+    and_from (nat_lt a b) (list_all (λ k. nat_lt a k) (range_with_len (b + 1) n)) first (range_above a (b + 1) n (omega arith))
 
 distinct_step : (number frame : ℕ) (o : Option PlainKey) (rest : List (Label × PlainKey))
     → list_any (same_label (record { tab = number; frame = frame })) (labels rest) ≡ false → are_distinct (labels rest) ≡ true
@@ -117,7 +117,7 @@ distinct-append [] ys distinct more apart = more
 distinct-append (x ∷ xs) ys distinct more apart =
     let own = and_parts (not (list_any (same_label x) xs)) (are_distinct xs) distinct in
     let parts = and_parts (not (list_any (same_label x) ys)) (list_all (λ x. not (list_any (same_label x) ys)) xs) apart in
-    and_both (not (list_any (same_label x) (xs ++ ys))) (are_distinct (xs ++ ys))
+    and_from (not (list_any (same_label x) (xs ++ ys))) (are_distinct (xs ++ ys))
     (ap not (list_any-append (same_label x) xs ys) ∙ neither (list_any (same_label x) xs) (list_any (same_label x) ys) own.0 parts.0)
     (distinct-append xs ys own.1 more parts.1)
   where
@@ -135,7 +135,7 @@ higher_labels n (tab ∷ tabs) high =
     let parts = and_parts (nat_lt n tab.number) (list_all (λ tab. nat_lt n tab.number) tabs) high in
     ap (list_all (λ l. nat_lt n l.tab)) (map-append (λ d. d.0) (documents_in tab) (documents tabs))
     ∙ list_all-append (λ l. nat_lt n l.tab) (labels (documents_in tab)) (labels (documents tabs))
-    ∙ and_both (list_all (λ l. nat_lt n l.tab) (labels (documents_in tab))) (list_all (λ l. nat_lt n l.tab) (labels (documents tabs)))
+    ∙ and_from (list_all (λ l. nat_lt n l.tab) (labels (documents_in tab))) (list_all (λ l. nat_lt n l.tab) (labels (documents tabs)))
     (all-labels (λ l. nat_lt n l.tab) (λ k. true) tab.number tab.frames (λ frame key any is. parts.0) frame_numbers (all_true frame_numbers))
     (higher_labels n tabs parts.1)
 
@@ -164,7 +164,7 @@ all_both p q [] one other = refl
 all_both p q (l ∷ ls) one other =
     let first = and_parts (p l) (list_all p ls) one in
     let second = and_parts (q l) (list_all q ls) other in
-    and_both (p l && q l) (list_all (λ l. p l && q l) ls) (and_both (p l) (q l) first.0 second.0) (all_both p q ls first.1 second.1)
+    and_from (p l && q l) (list_all (λ l. p l && q l) ls) (and_from (p l) (q l) first.0 second.0) (all_both p q ls first.1 second.1)
 
 documents-there : (tabs : List PlainTab) → is_rising tabs ≡ true → list_all (has_document tabs) (labels (documents tabs)) ≡ true
 documents-there [] rising = refl
@@ -172,7 +172,7 @@ documents-there (tab ∷ tabs) rising =
     let parts = and_parts (list_all (λ t. nat_lt tab.number t.number) tabs) (is_rising tabs) rising in
     ap (list_all (has_document (tab ∷ tabs))) (map-append (λ d. d.0) (documents_in tab) (documents tabs))
     ∙ list_all-append (has_document (tab ∷ tabs)) (labels (documents_in tab)) (labels (documents tabs))
-    ∙ and_both (list_all (has_document (tab ∷ tabs)) (labels (documents_in tab))) (list_all (has_document (tab ∷ tabs)) (labels (documents tabs)))
+    ∙ and_from (list_all (has_document (tab ∷ tabs)) (labels (documents_in tab))) (list_all (has_document (tab ∷ tabs)) (labels (documents tabs)))
     (all-labels (has_document (tab ∷ tabs)) (λ k. true) tab.number tab.frames
     (λ frame key any is. ap (λ b. has_frame frame (frames_by (cond b (Some tab) (tab_at tab.number tabs)))) (eq-eqb tab.number tab.number refl)
     ∙ frame-there frame tab.frames key is) frame_numbers (all_true frame_numbers))
@@ -218,7 +218,7 @@ distinct_left p (d ∷ ds) distinct =
   where
     by : (left : Bool) → not (list_any (same_label d.0) (labels (filter p ds))) ≡ true → are_distinct (labels (filter p ds)) ≡ true
         → are_distinct (labels (cond left (d ∷ filter p ds) (filter p ds))) ≡ true
-    by true apart rest = and_both (not (list_any (same_label d.0) (labels (filter p ds)))) (are_distinct (labels (filter p ds))) apart rest
+    by true apart rest = and_from (not (list_any (same_label d.0) (labels (filter p ds)))) (are_distinct (labels (filter p ds))) apart rest
     by false apart rest = rest
 
 -- some of the documents are distinct and there too

@@ -190,11 +190,7 @@ ready-here frame existing place is old read new same ready =
     ∙ ap (λ b. ready_by (cond b (Some new) (existing_at frame existing))) (eq-eqb frame frame refl)
     ∙ ready
 
--- what an answer tells of what is ready
-pub told_by : {T E P : Type 0} (r : Result T E) {Q : Type 0} → OnOk r Q → (Q → P) → OnOk r P
-told_by (Ok x) is gives = gives is
-told_by (Err e) is gives = tt
-
+-- who is ready stays so
 pub stays_by : {T E : Type 0} (r : Result T E) {old new : Bool} → (old ≡ true → IsOk r) → OnOk r (new ≡ true) → old ≡ true → new ≡ true
 stays_by (Ok x) ok is ready = is
 stays_by (Err e) ok is ready = let no : false ≡ true = ok ready in absurd (cc no)
@@ -204,10 +200,6 @@ pub refused_by : {T E : Type 0} (r : Result T E) {old : Bool} → (old ≡ true 
 refused_by (Ok x) ok = tt
 refused_by (Err e) {old = false} ok = refl
 refused_by (Err e) {old = true} ok = let no : false ≡ true = ok refl in absurd (cc no)
-
-pub on_err : {T E P : Type 0} (r : Result T E) → P → OnErr r P
-on_err (Ok x) is = tt
-on_err (Err e) is = is
 
 -- a take of no events
 pub changed-none : (frame : ℕ) (existing : List FrameQueue) → existing_at frame existing ≡ None → IsChangedAt frame (λ queue. empty_queue queue.frame) existing existing

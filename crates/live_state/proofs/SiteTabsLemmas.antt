@@ -1,5 +1,5 @@
 -- The tabs at each site after a write to the list of one.
-use Rattle.std.proofs.Common.{◌≡◌, ℕ, Bool, true, false, cond, List, Option, Some, None, refl, ap, ◌∙◌}
+use Rattle.std.proofs.Common.{◌≡◌, ℕ, Bool, true, false, cond, List, Option, Some, None, refl, ap, sym, ◌∙◌}
 use Rattle.std.proofs.Math.Bool.{beq}
 use Rattle.std.proofs.lemmas.Map.Text.{is_eq-slice_cmp}
 use Rattle.std.specs.Prelude.{◌&&◌, IsSome}
@@ -92,3 +92,9 @@ write-updates site old new v w there wrote = wrote.3 (subst_some (found_at (plai
     subst_some : (o : Option (Vec ℕ)) → o ≡ Some v → IsSome o
     subst_some None is = absurd (cc is)
     subst_some (Some x) is = refl
+
+-- a list that is written through with the same numbers changes no list
+pub listed-written : (site : Site) (old new : BTreeMap Site (Vec ℕ)) (v w : Vec ℕ) → found_at (plain_site site) old ≡ Some v
+    → WritesThrough site_cmp (site_cmp site) old w new → w.items ≡ v.items → (other : Site) → listed_at (plain_site other) new ≡ listed_at (plain_site other) old
+listed-written site old new v w there wrote same other =
+    listed-same site old new (Some w) (write-updates site old new v w there wrote) (same ∙ ap numbers_of (sym there)) other

@@ -1,14 +1,15 @@
 -- What contracts see of an open tab after a write to one of its queues.
 use Rattle.std.proofs.Common.{◌≡◌, ℕ, Bool, true, false, cond, not, List, [], ◌∷◌, map, Option, Some, None, refl, ap, sym, ◌∙◌, inl, inr}
+use Rattle.std.proofs.lemmas.Bool.{and_parts, and_from}
 use Rattle.std.specs.Prelude.{◌&&◌, ◌||◌, ◌==◌, ◌≢◌, ◌⊎◌, filter, unwrap_or, if◌then◌else◌}
 use Rattle.std.proofs.lemmas.Bool.Decides.{eqb_tells}
 use Rattle.frame_tree.specs.Tree.{PlainFrame, has_frame}
 use Rattle.live_state.specs.declared.frame_queue.FrameQueue.{FrameQueue}
 use Rattle.live_state.specs.ExistingQueues.{IsChangedAt, existing_at, are_of_frames, plain_by, queues_of, ready_by, ready_of}
 use Rattle.live_state.specs.Queues.{is_among}
-use Rattle.live_state.specs.Tabs.{PlainFrameQueue, empty_queue, is_fresh, queue_of, stays}
-use Rattle.live_state.proofs.ExistingQueueLemmas.{find-queues, frame_by, existing-absent}
-use Rattle.live_state.proofs.ListLemmas.{and_both, and_parts, fails_too, find-kept, not_false}
+use Rattle.live_state.specs.Tabs.{PlainFrameQueue, PlainTab, empty_queue, is_fresh, made_tab, queue_of, stays}
+use Rattle.live_state.proofs.ExistingQueueLemmas.{existing-absent, existing-put, find-queues, frame_by, queues-put}
+use Rattle.live_state.proofs.ListLemmas.{fails_too, find-kept, not_false}
 
 pub queues-same : (frames : List PlainFrame) (old new : List FrameQueue)
     → ((n : ℕ) → plain_by n (existing_at n new) ≡ plain_by n (existing_at n old)) → queues_of frames new ≡ queues_of frames old
@@ -71,7 +72,7 @@ among-ready n (f ∷ fs) existing =
 -- a frame that is there is ready where its queue is
 pub ready-there : (n : ℕ) (frames : List PlainFrame) (existing : List FrameQueue) → has_frame n frames ≡ true → ready_by (existing_at n existing) ≡ true
     → is_among n (ready_of frames existing) ≡ true
-ready-there n frames existing there ready = among-ready n frames existing ∙ and_both (has_frame n frames) (ready_by (existing_at n existing)) there ready
+ready-there n frames existing there ready = among-ready n frames existing ∙ and_from (has_frame n frames) (ready_by (existing_at n existing)) there ready
 
 pub ready-parts : (n : ℕ) (frames : List PlainFrame) (existing : List FrameQueue) → is_among n (ready_of frames existing) ≡ true
     → (has_frame n frames ≡ true) × (ready_by (existing_at n existing) ≡ true)
@@ -91,7 +92,7 @@ ready-stays n frames old new stays ready =
     let parts = ready-parts n frames old ready in ready-there n frames new parts.0 (stays parts.1)
 
 -- what is ready and stays where frames are put into the tab is ready still
-pub ready-put : (fresh : Option ℕ) (frames made : List PlainFrame) (existing : List FrameQueue) (n : ℕ) → not (stays fresh made n) ≡ false
+ready-put : (fresh : Option ℕ) (frames made : List PlainFrame) (existing : List FrameQueue) (n : ℕ) → not (stays fresh made n) ≡ false
     → is_among n (ready_of frames existing) ≡ true → is_among n (ready_of made (filter (λ q. stays fresh made q.frame) existing)) ≡ true
 ready-put fresh frames made existing n stay ready =
     let there : stays fresh made n ≡ true = not_false (stays fresh made n) stay in
@@ -104,3 +105,19 @@ pub queues-each : (frames : List PlainFrame) (existing : List FrameQueue) → ma
 queues-each [] existing = refl
 queues-each (f ∷ fs) existing =
     ap (λ n. n ∷ map (λ q. q.frame) (queues_of fs existing)) (frame_by f.frame (existing_at f.frame existing)) ∙ ap (λ l. f.frame ∷ l) (queues-each fs existing)
+
+-- ---- other frames in the tab, and the queues that are kept
+
+module _ (fresh : Option ℕ) (frames made : List PlainFrame) (existing kept : List FrameQueue) (is : kept ≡ filter (λ q. stays fresh made q.frame) existing) where
+  pub of-made : are_of_frames made kept ≡ true
+  of-made = ap (are_of_frames made) is ∙ existing-put fresh made existing
+
+  pub tab-made : (number : ℕ) → are_of_frames frames existing ≡ true
+      → ◌≡◌ {A = PlainTab} (record { number = number; frames = made; queues = queues_of made kept })
+      (made_tab number made fresh (Some (record { number = number; frames = frames; queues = queues_of frames existing })))
+  tab-made number all =
+      ap (λ qs. record { number = number; frames = made; queues = qs })
+      (ap (queues_of made) is ∙ sym (queues-put fresh frames made existing all))
+
+  pub ready-made : (n : ℕ) → not (stays fresh made n) ≡ false → is_among n (ready_of frames existing) ≡ true → is_among n (ready_of made kept) ≡ true
+  ready-made n stay ready = ap (λ l. is_among n (ready_of made l)) is ∙ ready-put fresh frames made existing n stay ready

@@ -1,5 +1,6 @@
 -- Tabs in the order of their numbers, and what a write at a place makes of them.
 use Rattle.std.proofs.Common.{◌≡◌, ◌<◌, ℕ, zero, suc, Bool, true, false, cond, not, List, [], ◌∷◌, ◌++◌, length, take, drop, get_or, set, refl, ap, sym, ◌∙◌, arith, Some, None, Option}
+use Rattle.std.proofs.lemmas.Bool.{and_parts, and_from}
 use Rattle.std.specs.Prelude.{◌==◌, filter, find, slice_get, nat_lt, option_map}
 use Rattle.std.specs.List.{list_all, insert}
 use Rattle.std.proofs.lemmas.Bool.Decides.{nat_tests}
@@ -10,7 +11,7 @@ use Rattle.std.proofs.lemmas.List.Sums.{AllPass-from_list_all}
 use Rattle.std.proofs.lemmas.Option.{slice_get_within}
 use Rattle.live_state.specs.Tabs.{PlainTab, is_after, is_rising, next_tab, tab_at, with_tab, without_tab}
 use Rattle.live_state.specs.TabPlaces.{IsAt, IsGap, are_higher, are_lower}
-use Rattle.live_state.proofs.ListLemmas.{and_both, and_parts, all_kept, all_pass, all_weaker, filter_all, filter_none, find_first, find_none, slice_get-drop, split_at}
+use Rattle.live_state.proofs.ListLemmas.{all_kept, all_pass, all_weaker, filter_all, filter_none, find_first, find_none, slice_get-drop, split_at}
 
 lower_isnt_higher : (m n : ℕ) → nat_lt m n ≡ true → not (nat_lt n m) ≡ true
 lower_isnt_higher m n is = grind (arith, nat_tests)
@@ -43,19 +44,19 @@ rising-filter p (t ∷ ts) rising =
   where
     step : (b : Bool) → list_all (λ u. nat_lt t.number u.number) (filter p ts) ≡ true → is_rising (filter p ts) ≡ true
         → is_rising (cond b (t ∷ filter p ts) (filter p ts)) ≡ true
-    step true low rest = and_both (list_all (λ u. nat_lt t.number u.number) (filter p ts)) (is_rising (filter p ts)) low rest
+    step true low rest = and_from (list_all (λ u. nat_lt t.number u.number) (filter p ts)) (is_rising (filter p ts)) low rest
     step false low rest = rest
 
 pub rising-join : (front : List PlainTab) (t : PlainTab) (rest : List PlainTab) → is_rising front ≡ true → is_rising rest ≡ true
     → are_lower t.number front ≡ true → are_higher t.number rest ≡ true → is_rising (front ++ t ∷ rest) ≡ true
-rising-join [] t rest rising above low high = and_both (are_higher t.number rest) (is_rising rest) high above
+rising-join [] t rest rising above low high = and_from (are_higher t.number rest) (is_rising rest) high above
 rising-join (f ∷ fs) t rest rising above low high =
     let parts = and_parts (list_all (λ u. nat_lt f.number u.number) fs) (is_rising fs) rising in
     let lows = and_parts (nat_lt f.number t.number) (are_lower t.number fs) low in
-    and_both (list_all (λ u. nat_lt f.number u.number) (fs ++ t ∷ rest)) (is_rising (fs ++ t ∷ rest))
+    and_from (list_all (λ u. nat_lt f.number u.number) (fs ++ t ∷ rest)) (is_rising (fs ++ t ∷ rest))
     (list_all-append (λ u. nat_lt f.number u.number) fs (t ∷ rest)
-    ∙ and_both (list_all (λ u. nat_lt f.number u.number) fs) (list_all (λ u. nat_lt f.number u.number) (t ∷ rest)) parts.0
-    (and_both (nat_lt f.number t.number) (list_all (λ u. nat_lt f.number u.number) rest) lows.0
+    ∙ and_from (list_all (λ u. nat_lt f.number u.number) fs) (list_all (λ u. nat_lt f.number u.number) (t ∷ rest)) parts.0
+    (and_from (nat_lt f.number t.number) (list_all (λ u. nat_lt f.number u.number) rest) lows.0
     (all_weaker (λ u. nat_lt t.number u.number) (λ u. nat_lt f.number u.number) (λ u is. transits f.number t.number u.number lows.0 is) rest high)))
     (rising-join fs t rest parts.1 above lows.1 high)
 
@@ -94,7 +95,7 @@ rising-split (u ∷ us) (suc i) t rising is =
     (and_parts (list_all (λ v. nat_lt u.number v.number) (take i us)) (list_all (λ v. nat_lt u.number v.number) (t ∷ drop (suc i) us))
     (sym (list_all-append (λ v. nat_lt u.number v.number) (take i us) (t ∷ drop (suc i) us))
     ∙ ap (list_all (λ v. nat_lt u.number v.number)) (sym (split_at us i t is)) ∙ parts.0)).1).0 in
-    (and_both (nat_lt u.number t.number) (are_lower t.number (take i us)) low below.0, below.1)
+    (and_from (nat_lt u.number t.number) (are_lower t.number (take i us)) low below.0, below.1)
 
 -- ---- tabs that are lower, and tabs that are higher
 

@@ -7,6 +7,7 @@
 #![tactic(auto)]
 
 mod frame_queue;
+mod listed;
 mod live;
 mod open_tab;
 mod site_tabs;

@@ -1,6 +1,5 @@
 //! An open tab, with the queues of its documents.
-ghost use Rattle.std.specs.Prelude.{◌≡◌, ◌≢◌, ◌==◌, ◌++◌, Err, IfOk, OnErr, OnOk, None, Some, false, map, not, option_map, true};
-ghost use Rattle.std.specs.Option.{option_to_list};
+ghost use Rattle.std.specs.Prelude.{◌≡◌, ◌≢◌, ◌==◌, ◌++◌, Err, IfOk, OnErr, OnOk, None, Some, false, map, not, true};
 ghost use Rattle.agent_base.specs.Answers.{Answers};
 ghost use Rattle.storage_events.specs.Event.{plain_event};
 ghost use Rattle.storage_key.specs.Plain.{plain_key};
@@ -9,22 +8,23 @@ ghost use Rattle.frame_tree.specs.Calls.{IsDoneAt, activated, added, navigated, 
 ghost use Rattle.frame_tree.specs.Tree.{IsTree, has_frame, top_site};
 ghost use Rattle.frame_tree.specs.Plain.{plain_sandbox};
 ghost use Rattle.frame_tree.specs.declared.tab.TreeFault.{TreeFault};
-ghost use Rattle.live_state.specs.Documents.{documents_in, keyed, plain_keyed};
+ghost use Rattle.live_state.specs.Documents.{documents_in, plain_keyed};
 ghost use Rattle.live_state.specs.ExistingQueues.{FramesStayReadyBut, changed_at};
 ghost use Rattle.live_state.specs.FramesInPlace.{IsRemade};
-ghost use Rattle.live_state.specs.Hearers.{hearers_in, hearing};
+ghost use Rattle.live_state.specs.Hearers.{hearers_in};
 ghost use Rattle.live_state.specs.Queues.{is_among, queue_told};
 ghost use Rattle.live_state.specs.Tabs.{HasQueues, empty_queue, made_tab, queue_of, stays};
 
 use crate::frame_queue::{
     FrameQueue, keep_queues, make_queue, push_event, reserve_queue, take_events,
 };
+use crate::listed::{list_document, list_hearer};
 use agent_base::{Label, NoMemory};
 use frame_tree::{NoFrame, Sandbox, Tab, TreeFault};
 use origin_site::{Address, Site};
 use std::alloc::Global;
 use std::marker::Model;
-use storage_events::{AreaKind, Event, hears};
+use storage_events::{AreaKind, Event};
 use storage_key::StorageKey;
 use suffix_list::SuffixList;
 
@@ -233,39 +233,12 @@ impl OpenTab {
         ensures listed { OnOk result (to.new.items
             ≡ to.old.items ++ hearers_in kind writer (plain_key key.now) self.now.plain) }
     {
-        for frame in 0..=self.tab.last_frame() {
-            self.list_hearer(kind, writer, key, frame, to)?;
+        let frames = self.tab.by_number();
+        for frame in 0..=frames.last_frame() {
+            let at = self.label(frame);
+            list_hearer(kind, writer, key, at, frames.key(frame), to)?;
         }
         Ok(())
-    }
-
-    // Puts the document of a frame behind the others, if it hears of a change.
-    fn list_hearer(
-        &self,
-        kind: AreaKind,
-        writer: Label,
-        key: &StorageKey,
-        frame: u8,
-        to: &mut Vec<Label>,
-    ) -> Result<(), NoMemory>
-        ensures listed { let found = keyed self.now.plain.number self.now.plain.frames frame in
-            OnOk result (to.new.items
-            ≡ to.old.items ++ hearing kind writer (plain_key key.now) (option_to_list found)) }
-    {
-        let Some(own) = self.tab.key(frame) else {
-            return Ok(());
-        };
-        let at = Label {
-            tab: self.number,
-            frame,
-        };
-        if !hears(kind, writer, key, at, own) {
-            return Ok(());
-        }
-        match to.push(at) {
-            Ok(()) => Ok(()),
-            Err(_) => Err(NoMemory),
-        }
     }
 
     /// Puts the documents that have a key behind the others, in the order of the frames' numbers.
@@ -277,33 +250,20 @@ impl OpenTab {
         ensures listed { OnOk result (map plain_keyed documents.new.items
             ≡ map plain_keyed documents.old.items ++ documents_in self.now.plain) }
     {
-        for frame in 0..=self.tab.last_frame() {
-            self.list_document(alloc, frame, documents)?;
+        let frames = self.tab.by_number();
+        for frame in 0..=frames.last_frame() {
+            list_document(alloc, self.label(frame), frames.key(frame), documents)?;
         }
         Ok(())
     }
 
-    // Puts the document of a frame behind the others, if it has a key.
-    fn list_document(
-        &self,
-        alloc: Global,
-        frame: u8,
-        documents: &mut Vec<(Label, StorageKey)>,
-    ) -> Result<(), NoMemory>
-        ensures listed { OnOk result (map plain_keyed documents.new.items
-            ≡ map plain_keyed documents.old.items
-            ++ option_to_list (keyed self.now.plain.number self.now.plain.frames frame)) }
+    // The document of a frame.
+    fn label(&self, frame: u8) -> Label
+        ensures label { result ≡ record { tab = self.now.plain.number; frame = frame } }
     {
-        let Some(key) = self.tab.key(frame) else {
-            return Ok(());
-        };
-        let at = Label {
+        Label {
             tab: self.number,
             frame,
-        };
-        match documents.push((at, key.copy(alloc)?)) {
-            Ok(()) => Ok(()),
-            Err(_) => Err(NoMemory),
         }
     }
 }

@@ -7,29 +7,23 @@ use Rattle.live_state.specs.Tabs.{empty_queue}
 use Rattle.live_state.proofs.QueueLemmas.{changed-at, changed-none, existing-here, are_of_frames-written, no-place, place_in}
 use Rattle.live_state.proofs.frame_queue.take_events.Goals as goal
 
-pub returns-in-Some-clause-given : goal.returns-in-Some-clause-given
-returns-in-Some-clause-given c =
+pub returns-in-Some : goal.returns-in-Some
+returns-in-Some c =
     let existing : List FrameQueue = c.args.queues.now.items in
     let is : place_in c.args.frame existing ≡ Some c.in-Some.place = ap (place_in c.args.frame) (sym c.as_slice.ensures.value) ∙ sym c.in-Some.ensures.place in
-    let here = existing-here c.args.frame existing c.in-Some.place is c.index_mut.result.now c.index_mut.ensures.value in (
-      c.take.ensures.given.0 ∙ sym (ap (λ o. (plain_by c.args.frame o).events) here),
-      c.take.ensures.given.1 ∙ sym (ap (λ o. (plain_by c.args.frame o).lost) here),
-    )
-
-pub returns-in-Some-clause-emptied : goal.returns-in-Some-clause-emptied
-returns-in-Some-clause-emptied c =
-    let existing : List FrameQueue = c.args.queues.now.items in
-    let is : place_in c.args.frame existing ≡ Some c.in-Some.place = ap (place_in c.args.frame) (sym c.as_slice.ensures.value) ∙ sym c.in-Some.ensures.place in
-    changed-at c.args.frame existing c.in-Some.place is c.index_mut.result.now c.index_mut.ensures.value _ refl
-    (λ queue. empty_queue queue.frame)
-    (ap (λ events. record { frame = c.args.frame; events = events; lost = c.take.new.self.lost }) c.take.ensures.emptied.0
-    ∙ ap (λ lost. record { frame = c.args.frame; events = []; lost = lost }) c.take.ensures.emptied.1)
-
-pub returns-in-Some-clause-of_frames : goal.returns-in-Some-clause-of_frames
-returns-in-Some-clause-of_frames c =
-    let existing : List FrameQueue = c.args.queues.now.items in
-    let is : place_in c.args.frame existing ≡ Some c.in-Some.place = ap (place_in c.args.frame) (sym c.as_slice.ensures.value) ∙ sym c.in-Some.ensures.place in
-    λ frames all. are_of_frames-written c.args.frame existing c.in-Some.place is c.index_mut.result.now c.index_mut.ensures.value _ refl frames all
+    let here = existing-here c.args.frame existing c.in-Some.place is c.index_mut.result.now c.index_mut.ensures.value in record {
+      given = (
+        c.take.ensures.given.0 ∙ sym (ap (λ o. (plain_by c.args.frame o).events) here),
+        c.take.ensures.given.1 ∙ sym (ap (λ o. (plain_by c.args.frame o).lost) here),
+      );
+      emptied =
+          changed-at c.args.frame existing c.in-Some.place is c.index_mut.result.now c.index_mut.ensures.value _ refl
+          (λ queue. empty_queue queue.frame)
+          (ap (λ events. record { frame = c.args.frame; events = events; lost = c.take.new.self.lost }) c.take.ensures.emptied.0
+          ∙ ap (λ lost. record { frame = c.args.frame; events = []; lost = lost }) c.take.ensures.emptied.1);
+      of_frames = λ frames all.
+          are_of_frames-written c.args.frame existing c.in-Some.place is c.index_mut.result.now c.index_mut.ensures.value _ refl frames all;
+    }
 
 pub returns-in-None-clause-given : goal.returns-in-None-clause-given
 returns-in-None-clause-given c =

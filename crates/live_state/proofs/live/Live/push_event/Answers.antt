@@ -1,14 +1,13 @@
 -- One queue of one tab has one event more.
-use Rattle.std.proofs.Common.{◌<◌, List, [], ◌∷◌, length, ap, refl, sym, ◌∙◌, rules}
+use Rattle.std.proofs.Common.{List, [], ◌∷◌, ap, refl, sym, ◌∙◌, rules}
 use Rattle.storage_events.specs.Event.{plain_event}
 use Rattle.live_state.specs.ExistingQueues.{PlainOpenTab}
 use Rattle.live_state.specs.TabPlaces.{IsAt, IsGap}
 use Rattle.live_state.specs.Queues.{is_ready, sent, with_queues}
+use Rattle.live_state.proofs.FramesInPlaceLemmas.{indexed-told, number-before, ready-written, tabs-changed, written}
 use Rattle.live_state.proofs.LabelLemmas.{after_one, frame-differs, sent-here, sent-others}
-use Rattle.live_state.proofs.IndexStepLemmas.{indexed-queues}
-use Rattle.live_state.proofs.LiveLemmas.{changed-none_of, changed-set, ready-at, ready-kept}
+use Rattle.live_state.proofs.LiveLemmas.{changed-none_of, ready-at}
 use Rattle.live_state.proofs.SearchLemmas.{plain_of}
-use Rattle.live_state.proofs.StepLemmas.{number-here}
 use Rattle.live_state.proofs.live.Live.push_event.Goals as goal
 
 pub push-requires : goal.push-requires
@@ -23,36 +22,25 @@ push-requires c = record {
 
 pub invariant_of-self : goal.invariant_of-self
 invariant_of-self c =
-    let items : List PlainOpenTab = c.self.inside.tabs.items in
-    let at : IsAt c.args.at.tab (plain_of items) c.in-Ok.place = rw c.as_slice.ensures.value at c.in-Ok.ensures.place in
-    let old : PlainOpenTab = c.index_mut.result.now in
-    let within : c.in-Ok.place < length items = search rules in
-    indexed-queues c.args.at.tab items c.in-Ok.place at old within c.index_mut.ensures.value c.self.inside.sites.numbers c.self.invariant c.push.new.self
-    (ap (λ t. t.number) c.push.ensures.pushed) (ap (λ t. t.frames) c.push.ensures.pushed)
+    let is = written c.args.at.tab c.args.self.now.tabs c.self.inside.tabs.items c.as_slice.result.now c.in-Ok.place c.index_mut.result.now
+    c.push.new.self c.as_slice.ensures.value c.in-Ok.ensures.place (search rules) c.index_mut.ensures.value (ap (λ t. t.number) c.push.ensures.pushed)
+    (ap (λ live. live.tabs) c.self.view_is) in
+    indexed-told is c.self.inside.sites.numbers c.self.invariant (ap (λ t. t.frames) c.push.ensures.pushed)
 
-pub returns-in-Ok-clause-sent : goal.returns-in-Ok-clause-sent
-returns-in-Ok-clause-sent c =
-    let items : List PlainOpenTab = c.self.inside.tabs.items in
-    let at : IsAt c.args.at.tab (plain_of items) c.in-Ok.place = rw c.as_slice.ensures.value at c.in-Ok.ensures.place in
-    let old : PlainOpenTab = c.index_mut.result.now in
-    let within : c.in-Ok.place < length items = search rules in
-    let event = plain_event c.args.event in
-    let number = number-here c.args.at.tab items c.in-Ok.place at old within c.index_mut.ensures.value in
-    changed-set c.args.at.tab (with_queues (after_one c.args.at event)) (sent-others c.args.at event) items c.in-Ok.place at old c.push.new.self
-    within c.index_mut.ensures.value (c.push.ensures.pushed ∙ sym (sent-here c.args.at event old.plain number))
-    ∙ ap (λ live. sent ((c.args.at, event) ∷ []) live.tabs) c.self.view_is
-
-pub returns-in-Ok-clause-kept : goal.returns-in-Ok-clause-kept
-returns-in-Ok-clause-kept c = λ other differ ready.
-    let items : List PlainOpenTab = c.self.inside.tabs.items in
-    let at : IsAt c.args.at.tab (plain_of items) c.in-Ok.place = rw c.as_slice.ensures.value at c.in-Ok.ensures.place in
-    let old : PlainOpenTab = c.index_mut.result.now in
-    let within : c.in-Ok.place < length items = search rules in
-    let number = number-here c.args.at.tab items c.in-Ok.place at old within c.index_mut.ensures.value in
-    ready-kept c.args.at.tab items c.in-Ok.place at old within c.index_mut.ensures.value c.push.new.self
-    (ap (λ t. t.number) c.push.ensures.pushed ∙ number) other
-    (λ here. c.push.ensures.kept other.frame (frame-differs other c.args.at here differ))
-    (ap (λ live. is_ready live other) c.self.view_is ∙ ready)
+pub returns-in-Ok : goal.returns-in-Ok
+returns-in-Ok c =
+    let is = written c.args.at.tab c.args.self.now.tabs c.self.inside.tabs.items c.as_slice.result.now c.in-Ok.place c.index_mut.result.now
+    c.push.new.self c.as_slice.ensures.value c.in-Ok.ensures.place (search rules) c.index_mut.ensures.value (ap (λ t. t.number) c.push.ensures.pushed)
+    (ap (λ live. live.tabs) c.self.view_is) in
+    let event = plain_event c.args.event in record {
+      sent =
+          tabs-changed is (with_queues (after_one c.args.at event)) (sent-others c.args.at event)
+          (c.push.ensures.pushed ∙ sym (sent-here c.args.at event c.index_mut.result.now.plain (number-before is)));
+      kept = λ other differ ready.
+          ready-written is other (λ here. c.push.ensures.kept other.frame (frame-differs other c.args.at here differ))
+          (ap (λ live. is_ready live other) c.self.view_is ∙ ready);
+      room = search rules;
+    }
 
 pub returns-in_default-clause-sent : goal.returns-in_default-clause-sent
 returns-in_default-clause-sent c =

@@ -1,81 +1,49 @@
 -- The frames of the tab at the place, or of none.
-use Rattle.std.proofs.Common.{◌≡◌, ◌<◌, List, length, get_or, None, refl, ap, sym, subst, ◌∙◌, rules}
+use Rattle.std.proofs.Common.{◌≡◌, None, ap, refl, rules, ◌∙◌}
 use Rattle.std.proofs.lemmas.Result.{on_ok_weaker}
-use Rattle.frame_tree.specs.Tree.{PlainFrame, has_frame, top_site}
+use Rattle.frame_tree.specs.Tree.{has_frame, top_site}
 use Rattle.frame_tree.specs.Calls.{IsDoneAt, without}
-use Rattle.live_state.specs.ExistingQueues.{PlainOpenTab}
-use Rattle.live_state.specs.FramesInPlace.{frames_at}
 use Rattle.live_state.specs.Queues.{is_ready}
-use Rattle.live_state.specs.TabPlaces.{IsAt, IsGap}
-use Rattle.live_state.proofs.FramesInPlaceLemmas.{frames-after, frames-gap, frames-here, put-in, ready-remade}
-use Rattle.live_state.proofs.IndexStepLemmas.{indexed-same}
+use Rattle.live_state.specs.TabPlaces.{IsGap}
+use Rattle.live_state.proofs.FramesInPlaceLemmas.{framed, frames-gap, indexed-written, put-in, ready-remade, written}
 use Rattle.live_state.proofs.SearchLemmas.{plain_of}
-use Rattle.live_state.proofs.StepLemmas.{number-here}
 use Rattle.live_state.proofs.live.Live.remove_frame.Goals as goal
 
 pub invariant_of-self : goal.invariant_of-self
 invariant_of-self c =
-    let items : List PlainOpenTab = c.self.inside.tabs.items in
-    let at : IsAt c.args.at.tab (plain_of items) c.in-Ok.place = rw c.as_slice.ensures.value at c.in-Ok.ensures.place in
-    let old : PlainOpenTab = c.index_mut.result.now in
-    let within : c.in-Ok.place < length items = search rules in
-    let read : old ≡ get_or items c.in-Ok.place old = c.index_mut.ensures.value in
-    let new : PlainOpenTab = c.remove_frame.new.self in
-    let number = c.remove_frame.ensures.number ∙ number-here c.args.at.tab items c.in-Ok.place at old within read in
-    indexed-same c.args.at.tab items c.in-Ok.place at old within read c.self.inside.sites.numbers c.self.invariant new
-    number c.remove_frame.ensures.tree c.remove_frame.ensures.site
-
-pub returns-in-Ok-clause-kept : goal.returns-in-Ok-clause-kept
-returns-in-Ok-clause-kept c = λ other stay ready.
-    let items : List PlainOpenTab = c.self.inside.tabs.items in
-    let at : IsAt c.args.at.tab (plain_of items) c.in-Ok.place = rw c.as_slice.ensures.value at c.in-Ok.ensures.place in
-    let old : PlainOpenTab = c.index_mut.result.now in
-    let within : c.in-Ok.place < length items = search rules in
-    let read : old ≡ get_or items c.in-Ok.place old = c.index_mut.ensures.value in
-    let new : PlainOpenTab = c.remove_frame.new.self in
-    let number = c.remove_frame.ensures.number ∙ number-here c.args.at.tab items c.in-Ok.place at old within read in
-    ready-remade c.args.at.tab items c.in-Ok.place at old within read new number None c.remove_frame.ensures.kept other stay
-    (ap (λ live. is_ready live other) c.self.view_is ∙ ready)
-
-pub returns-in-Ok-clause-site : goal.returns-in-Ok-clause-site
-returns-in-Ok-clause-site c =
-    let items : List PlainOpenTab = c.self.inside.tabs.items in
-    let at : IsAt c.args.at.tab (plain_of items) c.in-Ok.place = rw c.as_slice.ensures.value at c.in-Ok.ensures.place in
-    let old : PlainOpenTab = c.index_mut.result.now in
-    let within : c.in-Ok.place < length items = search rules in
-    let read : old ≡ get_or items c.in-Ok.place old = c.index_mut.ensures.value in
-    let new : PlainOpenTab = c.remove_frame.new.self in
-    let number = c.remove_frame.ensures.number ∙ number-here c.args.at.tab items c.in-Ok.place at old within read in
-    let before = frames-here c.args.at.tab items c.in-Ok.place at old within read c.args.self.now.tabs (ap (λ live. live.tabs) c.self.view_is) in
-    let after = sym (frames-after c.args.at.tab items c.in-Ok.place at old within read new number) in
-    ap top_site (sym after) ∙ c.remove_frame.ensures.site ∙ ap top_site before
-
-pub returns-in-Ok-clause-put : goal.returns-in-Ok-clause-put
-returns-in-Ok-clause-put c =
-    let items : List PlainOpenTab = c.self.inside.tabs.items in
-    let at : IsAt c.args.at.tab (plain_of items) c.in-Ok.place = rw c.as_slice.ensures.value at c.in-Ok.ensures.place in
-    let old : PlainOpenTab = c.index_mut.result.now in
-    let within : c.in-Ok.place < length items = search rules in
-    let read : old ≡ get_or items c.in-Ok.place old = c.index_mut.ensures.value in
-    let new : PlainOpenTab = c.remove_frame.new.self in
-    let number = c.remove_frame.ensures.number ∙ number-here c.args.at.tab items c.in-Ok.place at old within read in
-    on_ok_weaker c.remove_frame.result
-    (λ remade. put-in c.args.at.tab items c.in-Ok.place at old within read new number None remade c.args.self.now.tabs (ap (λ live. live.tabs) c.self.view_is))
-    c.remove_frame.ensures.put
+    let is = written c.args.at.tab c.args.self.now.tabs c.self.inside.tabs.items c.as_slice.result.now c.in-Ok.place c.index_mut.result.now
+    c.remove_frame.new.self c.as_slice.ensures.value c.in-Ok.ensures.place (search rules) c.index_mut.ensures.value c.remove_frame.ensures.number
+    (ap (λ live. live.tabs) c.self.view_is) in
+    indexed-written is c.self.inside.sites.numbers c.self.invariant c.remove_frame.ensures.tree c.remove_frame.ensures.site
 
 pub returns-in-Ok-clause-removed : goal.returns-in-Ok-clause-removed
 returns-in-Ok-clause-removed c =
-    let items : List PlainOpenTab = c.self.inside.tabs.items in
-    let at : IsAt c.args.at.tab (plain_of items) c.in-Ok.place = rw c.as_slice.ensures.value at c.in-Ok.ensures.place in
-    let old : PlainOpenTab = c.index_mut.result.now in
-    let within : c.in-Ok.place < length items = search rules in
-    let read : old ≡ get_or items c.in-Ok.place old = c.index_mut.ensures.value in
-    let new : PlainOpenTab = c.remove_frame.new.self in
-    let number = c.remove_frame.ensures.number ∙ number-here c.args.at.tab items c.in-Ok.place at old within read in
-    let before = frames-here c.args.at.tab items c.in-Ok.place at old within read c.args.self.now.tabs (ap (λ live. live.tabs) c.self.view_is) in
-    let after = sym (frames-after c.args.at.tab items c.in-Ok.place at old within read new number) in
-    subst (λ (fs : List PlainFrame). IsDoneAt c.args.at.frame (frames_at c.args.at.tab c.args.self.now.tabs) fs (without c.args.at.frame (frames_at c.args.at.tab c.args.self.now.tabs)) c.remove_frame.result) after
-    (subst (λ (fs : List PlainFrame). IsDoneAt c.args.at.frame fs new.plain.frames (without c.args.at.frame fs) c.remove_frame.result) before c.remove_frame.ensures.removed)
+    let is = written c.args.at.tab c.args.self.now.tabs c.self.inside.tabs.items c.as_slice.result.now c.in-Ok.place c.index_mut.result.now
+    c.remove_frame.new.self c.as_slice.ensures.value c.in-Ok.ensures.place (search rules) c.index_mut.ensures.value c.remove_frame.ensures.number
+    (ap (λ live. live.tabs) c.self.view_is) in
+    framed is (λ before after. IsDoneAt c.args.at.frame before after (without c.args.at.frame before) c.remove_frame.result)
+    c.remove_frame.ensures.removed
+
+pub returns-in-Ok-clause-put : goal.returns-in-Ok-clause-put
+returns-in-Ok-clause-put c =
+    let is = written c.args.at.tab c.args.self.now.tabs c.self.inside.tabs.items c.as_slice.result.now c.in-Ok.place c.index_mut.result.now
+    c.remove_frame.new.self c.as_slice.ensures.value c.in-Ok.ensures.place (search rules) c.index_mut.ensures.value c.remove_frame.ensures.number
+    (ap (λ live. live.tabs) c.self.view_is) in
+    on_ok_weaker c.remove_frame.result (put-in is None) c.remove_frame.ensures.put
+
+pub returns-in-Ok-clause-site : goal.returns-in-Ok-clause-site
+returns-in-Ok-clause-site c =
+    let is = written c.args.at.tab c.args.self.now.tabs c.self.inside.tabs.items c.as_slice.result.now c.in-Ok.place c.index_mut.result.now
+    c.remove_frame.new.self c.as_slice.ensures.value c.in-Ok.ensures.place (search rules) c.index_mut.ensures.value c.remove_frame.ensures.number
+    (ap (λ live. live.tabs) c.self.view_is) in
+    framed is (λ before after. top_site after ≡ top_site before) c.remove_frame.ensures.site
+
+pub returns-in-Ok-clause-kept : goal.returns-in-Ok-clause-kept
+returns-in-Ok-clause-kept c = λ other stay ready.
+    let is = written c.args.at.tab c.args.self.now.tabs c.self.inside.tabs.items c.as_slice.result.now c.in-Ok.place c.index_mut.result.now
+    c.remove_frame.new.self c.as_slice.ensures.value c.in-Ok.ensures.place (search rules) c.index_mut.ensures.value c.remove_frame.ensures.number
+    (ap (λ live. live.tabs) c.self.view_is) in
+    ready-remade is None c.remove_frame.ensures.kept other stay (ap (λ live. is_ready live other) c.self.view_is ∙ ready)
 
 pub returns-in-Err-clause-removed : goal.returns-in-Err-clause-removed
 returns-in-Err-clause-removed c =

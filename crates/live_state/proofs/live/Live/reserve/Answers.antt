@@ -1,5 +1,6 @@
 -- There is room at the site, and the tab is open or room is made for it.
 use Rattle.std.proofs.Common.{◌≡◌, ◌-◌, ℕ, Bool, true, false, refl, List, length, map, ap, sym, ◌∙◌, arith}
+use Rattle.agent_base.proofs.Logic.{on_err}
 use Rattle.std.specs.Prelude.{◌||◌, nat_lt, vec_capacity}
 use Rattle.std.proofs.lemmas.Bool.Decides.{nat_tests}
 use Rattle.origin_site.specs.Plain.{plain_site}
@@ -10,7 +11,6 @@ use Rattle.live_state.specs.Tabs.{has_site_room, is_open}
 use Rattle.live_state.proofs.IndexLemmas.{not-reserved-site, not-reserved-tab, reserved-from, room-seen}
 use Rattle.live_state.proofs.SearchLemmas.{plain_of}
 use Rattle.live_state.proofs.StepLemmas.{closed-found, open-found}
-use Rattle.live_state.proofs.QueueLemmas.{on_err}
 use Rattle.live_state.proofs.live.Live.reserve.Goals as goal
 
 pub returns-in_err-reserve-clause-kept : goal.returns-in_err-reserve-clause-kept

@@ -1,12 +1,12 @@
 -- Each event goes to a document that no other event is for.
 use Rattle.std.proofs.Common.{◌≡◌, ◌∷◌, [], List, true, map, ap, refl, sym, ◌∙◌, rules}
+use Rattle.std.proofs.lemmas.Bool.{and_parts}
 use Rattle.std.specs.List.{list_all}
 use Rattle.std.proofs.lemmas.List.{nil_from_length}
 use Rattle.agent_base.specs.declared.refusals.Label.{Label}
 use Rattle.storage_events.specs.declared.event.Event.{Event}
 use Rattle.live_state.specs.Queues.{are_distinct, is_ready, is_told, plain_sent, sent}
 use Rattle.live_state.proofs.LabelLemmas.{distinct-rest, ready-rest, sent-none, sent-rest, to_of, untold}
-use Rattle.live_state.proofs.ListLemmas.{and_parts}
 use Rattle.live_state.proofs.live.Live.send.Goals as goal
 
 pub loop-at-init : goal.loop-at-init

@@ -1,12 +1,12 @@
 -- The queue of the frame is there, and has room.
 use Rattle.std.proofs.Common.{◌≡◌, false, List, ap, sym, ◌∙◌}
-use Rattle.std.proofs.lemmas.Result.{on_err_weaker}
+use Rattle.agent_base.proofs.Logic.{on_err}
+use Rattle.std.proofs.lemmas.Result.{on_err_weaker, on_ok_weaker}
 use Rattle.frame_tree.specs.Tree.{has_frame}
 use Rattle.live_state.specs.declared.frame_queue.FrameQueue.{FrameQueue}
 use Rattle.live_state.specs.ExistingQueues.{existing_at, ready_by}
 use Rattle.live_state.specs.Queues.{is_among}
 use Rattle.live_state.proofs.ListLemmas.{fails_too, none_from}
-use Rattle.live_state.proofs.QueueLemmas.{on_err, told_by}
 use Rattle.live_state.proofs.TabLemmas.{ready-stays, ready-there, unready}
 use Rattle.live_state.proofs.open_tab.OpenTab.reserve.Goals as goal
 
@@ -17,9 +17,10 @@ returns-in_err-make_queue-clause-kept c = λ n but ready.
 
 pub returns-clause-reserved : goal.returns-clause-reserved
 returns-clause-reserved c =
-    told_by c.reserve_queue.result c.reserve_queue.ensures.reserved
+    on_ok_weaker c.reserve_queue.result
     (λ ready. ready-there c.args.frame c.self.inside.tab c.reserve_queue.new.queues.items
     (ap (λ tab. has_frame c.args.frame tab.plain.frames) c.self.view_is ∙ c.requires.there) ready)
+    c.reserve_queue.ensures.reserved
 
 pub returns-clause-kept : goal.returns-clause-kept
 returns-clause-kept c = λ n but ready.

@@ -1,17 +1,14 @@
 -- The lists stay, and none has less room.
 use Rattle.std.proofs.Common.{ap, ◌∙◌, sym, Some, length}
 use Rattle.std.specs.Prelude.{nat_lt, vec_capacity}
-use Rattle.live_state.specs.SiteTabs.{numbers_of, takes_one}
-use Rattle.live_state.proofs.SiteTabsLemmas.{listed-same, room-stays, write-updates}
+use Rattle.live_state.specs.SiteTabs.{takes_one}
+use Rattle.live_state.proofs.SiteTabsLemmas.{listed-written, room-stays, write-updates}
 use Rattle.live_state.proofs.site_tabs.SiteTabs.reserve.Goals as goal
 
 pub returns-in_err-reserve-in-Some-clause-same : goal.returns-in_err-reserve-in-Some-clause-same
-returns-in_err-reserve-in-Some-clause-same c = λ other.
-    let w = c.reserve.new.self in
-    let updates = write-updates c.args.site.now c.args.self.now.numbers (c.get_mut.follows.lender w) c.in-Some.numbers.now w
-    (sym c.in-Some.ensures.value) (c.get_mut.follows.holds w) in
-    listed-same c.args.site.now c.args.self.now.numbers (c.get_mut.follows.lender w) (Some w) updates
-    (c.reserve.ensures.items ∙ ap numbers_of c.in-Some.ensures.value) other
+returns-in_err-reserve-in-Some-clause-same c =
+    listed-written c.args.site.now c.args.self.now.numbers (c.get_mut.follows.lender c.reserve.new.self) c.in-Some.numbers.now c.reserve.new.self
+    (sym c.in-Some.ensures.value) (c.get_mut.follows.holds c.reserve.new.self) c.reserve.ensures.items
 
 pub returns-in_err-reserve-in-Some-clause-kept : goal.returns-in_err-reserve-in-Some-clause-kept
 returns-in_err-reserve-in-Some-clause-kept c = λ other is.
@@ -26,9 +23,6 @@ returns-in_err-reserve-in-Some-clause-kept c = λ other is.
     ∙ was) other is
 
 pub returns-in_ok-reserve-in-Some-clause-same : goal.returns-in_ok-reserve-in-Some-clause-same
-returns-in_ok-reserve-in-Some-clause-same c = λ other.
-    let w = c.reserve.new.self in
-    let updates = write-updates c.args.site.now c.args.self.now.numbers (c.get_mut.follows.lender w) c.in-Some.numbers.now w
-    (sym c.in-Some.ensures.value) (c.get_mut.follows.holds w) in
-    listed-same c.args.site.now c.args.self.now.numbers (c.get_mut.follows.lender w) (Some w) updates
-    (c.reserve.ensures.items ∙ ap numbers_of c.in-Some.ensures.value) other
+returns-in_ok-reserve-in-Some-clause-same c =
+    listed-written c.args.site.now c.args.self.now.numbers (c.get_mut.follows.lender c.reserve.new.self) c.in-Some.numbers.now c.reserve.new.self
+    (sym c.in-Some.ensures.value) (c.get_mut.follows.holds c.reserve.new.self) c.reserve.ensures.items

@@ -1,4 +1,4 @@
-//! Lines of each action that is built, with good and bad fields.
+//! Lines of each action, with good and bad fields.
 use crate::scripts::{lines_text, message_of, script_of};
 use std::alloc::Global;
 use std::test::Fail;

@@ -1,6 +1,6 @@
-//! Tests of script lines and replies, by the public calls of `script_lines`.
+//! Tests of script lines and replies, by the public calls of `script_lines` and `reply_lines`.
 //!
-//! They stand apart from that library, so that it is proved once.
+//! They stand apart from those libraries, so that each is proved once.
 #![tactic(auto)]
 
 #[cfg(test)]

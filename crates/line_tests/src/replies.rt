@@ -1,6 +1,6 @@
 //! Lines of replies.
 use origin_site::Site;
-use script_lines::{Reply, ReplyBody, print, print_into};
+use reply_lines::{Reply, ReplyBody, print, print_into};
 use std::alloc::Global;
 use std::test::Fail;
 use storage_events::{AreaKind, Event};

@@ -1,4 +1,4 @@
--- Lines of each action that is built, so that a wrong row in the specs does not check.
+-- Lines of each action, so that a wrong row in the specs does not check.
 use Rattle.std.proofs.Common.{◌≡◌, refl, ℕ, List, [], Some, None, Result, Ok, Err, true, false}
 use Rattle.std.specs.Prelude.{codes}
 use Rattle.url.proofs.OnLiterals.{url_on_literals}

@@ -8,10 +8,9 @@ use Rattle.serde_json.specs.Find.{get, as_str}
 use Rattle.serde_json.specs.Read.{read}
 use Rattle.script_lines.specs.Script.{PlainAction, PlainFault, NotJson, UnknownAction, BadField}
 use Rattle.script_lines.specs.Script.{LineTooLong, TooLong, NotUtf8, ReadFault, BadHeader, NoMemory}
-use Rattle.script_lines.specs.Fields.{Field, Mark, built, not_built, built_fields, Meanings, formed}
-use Rattle.script_lines.specs.Fields.{field_of, fields_of, given, has_headers, then_ok}
-use Rattle.script_lines.specs.Rows.{Row, When}
-use Rattle.script_lines.specs.Grammar.{action_by, action_by_fields, action_by_mark, action_named}
+use Rattle.script_lines.specs.Fields.{Field, meaning, formed, field_of, fields_of, given, then_ok}
+use Rattle.script_lines.specs.Rows.{Row}
+use Rattle.script_lines.specs.Grammar.{action_by, action_by_row, action_named}
 use Rattle.script_lines.specs.Grammar.{action_of_bytes, first_unknown, is_blank, json_of, line_limit}
 use Rattle.script_lines.specs.Grammar.{line_of_bytes, lines_from, lines_of, refused, row_named}
 use Rattle.script_lines.specs.Grammar.{script_limit, script_of_bytes}
@@ -42,8 +41,7 @@ formed_of_text number name None = tt
 
 field_of_text : (number : ℕ) (field : Field) (line : Data) → IfErr (field_of number field line) IsOfText
 field_of_text number field line =
-    then_of_text _ _ (formed_of_text number field.name (given field.kind field.absent (get field.name line)))
-    (λ value. if_of_text (has_headers field.kind value) _ _ tt tt)
+    formed_of_text number field.name (given (meaning field.kind) field.absent (get field.name line))
 
 fields_of_text : (number : ℕ) (fields : List Field) (line : Data) → IfErr (fields_of number fields line) IsOfText
 fields_of_text number [] line = tt
@@ -55,18 +53,14 @@ refused_of_text : (number : ℕ) (name : Option (List ℕ)) → IfErr (refused n
 refused_of_text number (Some name) = tt
 refused_of_text number None = tt
 
-by_fields_of_text : (number : ℕ) (fields : List Field) (action : Meanings fields → PlainAction) (line : Data) → IfErr (action_by_fields number fields action line) IsOfText
-by_fields_of_text number fields action line =
-    then_of_text _ _ (fields_of_text number fields line)
-    (λ values. then_of_text _ _ (refused_of_text number (first_unknown (map (λ field. field.name) fields) line)) (λ _. tt))
-
-by_mark_of_text : (number : ℕ) (mark : Mark) (fields : List Field) (action : When mark (Meanings (built_fields fields) → PlainAction)) (line : Data) → IfErr (action_by_mark number mark fields action line) IsOfText
-by_mark_of_text number built fields action line = by_fields_of_text number (built_fields fields) action line
-by_mark_of_text number not_built fields action line = tt
+by_row_of_text : (number : ℕ) (row : Row) (line : Data) → IfErr (action_by_row number row line) IsOfText
+by_row_of_text number row line =
+    then_of_text _ _ (fields_of_text number row.fields line)
+    (λ values. then_of_text _ _ (refused_of_text number (first_unknown (map (λ field. field.name) row.fields) line)) (λ _. tt))
 
 row_of_text : (number : ℕ) (row : Option Row) (line : Data) → IfErr (action_by number row line) IsOfText
 row_of_text number None line = tt
-row_of_text number (Some row) line = by_mark_of_text number row.mark row.fields row.action line
+row_of_text number (Some row) line = by_row_of_text number row line
 
 named_of_text : (number : ℕ) (name : Option (List ℕ)) (line : Data) → IfErr (action_named number name line) IsOfText
 named_of_text number None line = tt

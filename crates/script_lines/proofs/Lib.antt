@@ -1,14 +1,9 @@
 pub mod StandardFacts
 pub mod ActionFacts
 pub mod FieldFacts
-pub mod ReplyFacts
 pub mod LineLemmas
 pub mod MemberLemmas
-pub mod ReplyLemmas
 pub mod FaultLemmas
-pub mod PairLemmas
 pub mod NameLemmas
-pub mod QuoteLemmas
-pub mod ListLemmas
 pub mod FlatLemmas
 pub mod PlaceLemmas

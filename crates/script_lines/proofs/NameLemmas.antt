@@ -14,9 +14,7 @@ use Rattle.script_lines.specs.declared.actions.ActionName.TheVariants as name
 -- the names of the actions in the order of the table
 abbrev pub names : List (List ℕ × ActionName)
 names =
-    (codes "disk", name.Disk)
-    ∷ (codes "tick", name.Tick)
-    ∷ (codes "restart", name.Restart)
+    (codes "tick", name.Tick)
     ∷ (codes "open", name.Open)
     ∷ (codes "close", name.Close)
     ∷ (codes "go", name.Go)
@@ -24,7 +22,6 @@ names =
     ∷ (codes "nav", name.Nav)
     ∷ (codes "drop", name.Drop)
     ∷ (codes "click", name.Click)
-    ∷ (codes "fetch", name.Fetch)
     ∷ (codes "set", name.Set)
     ∷ (codes "get", name.Get)
     ∷ (codes "del", name.Del)
@@ -32,12 +29,8 @@ names =
     ∷ (codes "len", name.Len)
     ∷ (codes "key", name.Key)
     ∷ (codes "events", name.Events)
-    ∷ (codes "cookie", name.Cookie)
-    ∷ (codes "has", name.Has)
     ∷ (codes "persisted", name.Persisted)
     ∷ (codes "estimate", name.Estimate)
-    ∷ (codes "setcookie", name.SetCookie)
-    ∷ (codes "request", name.Request)
     ∷ (codes "persist", name.Persist)
     ∷ (codes "evict", name.Evict) ∷ []
 

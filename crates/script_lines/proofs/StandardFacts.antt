@@ -1,4 +1,4 @@
--- Values of the script and reply formats, so that a wrong rule in the specs does not check.
+-- Values of the script format, so that a wrong rule in the specs does not check.
 use Rattle.std.proofs.Common.{◌≡◌, ◌∙◌, refl, ap, length, ℕ, List, [], ◌∷◌}
 use Rattle.std.proofs.Common.{None, Result, Ok, Err, true, false}
 use Rattle.std.specs.Prelude.{codes, nat_lt, not}
@@ -74,15 +74,6 @@ no_address = refl
 unknown_members : line (codes "{\"z\":0,\"do\":\"get\",\"tab\":1,\"key\":\"k\",\"a\":0}") ≡ Err (BadField 1 (codes "a"))
 unfolding table serde_json_on_literals
 unknown_members = refl
-
--- a row that is not built, and a field that is not built
-not_built_row : line (codes "{\"do\":\"cookie\",\"tab\":1}") ≡ Err (UnknownAction 1)
-unfolding table serde_json_on_literals
-not_built_row = refl
-
-not_built_field : line (codes "{\"do\":\"open\",\"tab\":1,\"url\":\"https://a.test\",\"head\":[]}") ≡ Err (BadField 1 (codes "head"))
-unfolding table serde_json_on_literals url_on_literals
-not_built_field = refl
 
 unknown_action : line (codes "{\"do\":\"tock\",\"a\":0}") ≡ Err (UnknownAction 1)
 unfolding table serde_json_on_literals

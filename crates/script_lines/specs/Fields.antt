@@ -2,21 +2,18 @@
 -- Source: the script format of docs/FORMATS.md. Addresses and sites are those of the crate
 -- `origin_site`.
 -- Our own choice: all else. A member of an optional field is absent or of the field's form, and
--- `null` is of no form. A field that is not built is no field.
-use Rattle.std.specs.Prelude.{ℕ, Bool, true, false, List, [], ◌∷◌, Option, Some, None}
-use Rattle.std.specs.Prelude.{option_map, option_and_then, filter, if◌then◌else◌, Result, Ok, Err}
-use Rattle.std.specs.List.{list_all}
+-- `null` is of no form.
+use Rattle.std.specs.Prelude.{ℕ, Bool, List, [], ◌∷◌, Option, Some, None}
+use Rattle.std.specs.Prelude.{option_map, option_and_then, Result, Ok, Err}
 use Rattle.std.specs.Result.{result_ok}
-use Rattle.disk_model.specs.declared.schedule.Cut.{Cut}
 use Rattle.serde_json.specs.Data.{Data}
 use Rattle.serde_json.specs.Find.{get, as_bool, as_str}
 use Rattle.origin_site.specs.Address.{PlainAddress, address_of}
 use Rattle.origin_site.specs.Site.{PlainSite, site_of_text}
 use Rattle.storage_events.specs.declared.event.AreaKind.{AreaKind}
-use Rattle.script_lines.specs.Script.{PlainHeadPair, PlainFault, BadField, BadHeader}
+use Rattle.script_lines.specs.Script.{PlainFault, BadField}
 use Rattle.script_lines.specs.Words.{number_of, within, word_of, methods, areas, loaders}
-use Rattle.script_lines.specs.Words.{navigators, prompts, consents}
-use Rattle.script_lines.specs.Pairs.{list_of, head_pair_of, is_header, cut_of, rising}
+use Rattle.script_lines.specs.Words.{navigators, consents}
 use Rattle.script_lines.specs.declared.words.Method.{Method}
 use Rattle.script_lines.specs.declared.words.Prompt.{Prompt}
 
@@ -35,13 +32,10 @@ pub data Kind : Type 0 where
   site_name : Kind
   truth : Kind
   method_name : Kind
-  header_list : Kind
   area_name : Kind
   loader : Kind
   navigator : Kind
-  prompt_answer : Kind
   consent : Kind
-  cut_list : Kind
   optional : Kind → Kind
 
 -- what a member of a kind stands for
@@ -52,13 +46,10 @@ Meaning address_text = PlainAddress
 Meaning site_name = PlainSite
 Meaning truth = Bool
 Meaning method_name = Method
-Meaning header_list = List PlainHeadPair
 Meaning area_name = AreaKind
 Meaning loader = Bool
 Meaning navigator = Bool
-Meaning prompt_answer = Prompt
 Meaning consent = Prompt
-Meaning cut_list = List Cut
 Meaning (optional kind) = Option (Meaning kind)
 
 -- what a value stands for as a member of a kind, and none where it is of another form
@@ -69,73 +60,48 @@ meaning address_text value = option_and_then (λ text. result_ok (address_of tex
 meaning site_name value = option_and_then (λ text. result_ok (site_of_text text)) (as_str value)
 meaning truth value = as_bool value
 meaning method_name value = word_of methods value
-meaning header_list value = list_of head_pair_of value
 meaning area_name value = word_of areas value
 meaning loader value = word_of loaders value
 meaning navigator value = word_of navigators value
-meaning prompt_answer value = word_of prompts value
 meaning consent value = word_of consents value
-meaning cut_list value = option_and_then rising (list_of cut_of value)
 meaning (optional kind) value = option_map Some (meaning kind value)
 
--- whether each pair of a header list is a header field. A member of another kind has no pair.
-abbrev pub has_headers : (kind : Kind) → Meaning kind → Bool
-has_headers header_list pairs = list_all is_header pairs
-has_headers kind value = true
-
 -- ---- fields
-
--- whether a row or a field counts today
-pub data Mark : Type 0 where
-  built : Mark
-  not_built : Mark
-
--- whether it counts
-abbrev pub is_built : Mark → Bool
-is_built built = true
-is_built not_built = false
 
 -- a member of a line: its name, its kind, and what stands where it is absent. Where nothing does,
 -- the line has to have the member.
 pub record Field : Type 0 where
-  pub mark : Mark
   pub name : List ℕ
   pub kind : Kind
   pub absent : Option (Meaning kind)
 
 -- a field that a line has to have
-abbrev pub required : Mark → List ℕ → Kind → Field
-required mark name kind = record { mark = mark; name = name; kind = kind; absent = None }
+abbrev pub required : List ℕ → Kind → Field
+required name kind = record { name = name; kind = kind; absent = None }
 
 -- a field that stands for this value where it is absent
-abbrev pub defaulted : Mark → List ℕ → (kind : Kind) → Meaning kind → Field
-defaulted mark name kind value =
-    record { mark = mark; name = name; kind = kind; absent = Some value }
-
--- the fields that count
-abbrev pub built_fields : List Field → List Field
-built_fields fields = filter (λ field. is_built field.mark) fields
+abbrev pub defaulted : List ℕ → (kind : Kind) → Meaning kind → Field
+defaulted name kind value = record { name = name; kind = kind; absent = Some value }
 
 -- what the members of these fields stand for, in their order
 abbrev pub Meanings : List Field → Type 0
 Meanings [] = Unit {0}
 Meanings (field ∷ fields) = Meaning field.kind × Meanings fields
 
--- what a member stands for, where it is there or may be absent
-abbrev pub given : (kind : Kind) → Option (Meaning kind) → Option Data → Option (Meaning kind)
-given kind absent (Some value) = meaning kind value
-given kind absent None = absent
+-- what a member stands for: what its value does, or where it is absent this, if it may be absent
+abbrev pub given : {A : Type 0} → (Data → Option A) → Option A → Option Data → Option A
+given of_value absent (Some value) = of_value value
+given of_value absent None = absent
 
 -- a value of the right form, or the fault of a member of another form
 abbrev pub formed : {A : Type 0} → ℕ → List ℕ → Option A → Result A PlainFault
 formed number name (Some value) = Ok value
 formed number name None = Err (BadField number name)
 
--- what a line's member stands for, or its fault. The form comes before the headers in it.
+-- what a line's member stands for, or its fault
 abbrev pub field_of : ℕ → (field : Field) → Data → Result (Meaning field.kind) PlainFault
 field_of number field line =
-    then_ok (formed number field.name (given field.kind field.absent (get field.name line)))
-    (λ value. if has_headers field.kind value then Ok value else Err (BadHeader number))
+    formed number field.name (given (meaning field.kind) field.absent (get field.name line))
 
 -- what the members of these fields stand for, or the fault of the first that has one
 abbrev pub fields_of : ℕ → (fields : List Field) → Data → Result (Meanings fields) PlainFault

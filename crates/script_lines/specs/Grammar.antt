@@ -14,9 +14,8 @@ use Rattle.case_tables.specs.Rows.{first_value}
 use Rattle.script_lines.specs.Script.{PlainAction, PlainLine, PlainScript, PlainFault, NotJson}
 use Rattle.script_lines.specs.Script.{UnknownAction, BadField, LineTooLong, TooLong, NotUtf8}
 use Rattle.script_lines.specs.declared.reader.TheConstants.{SCRIPT_LIMIT, LINE_LIMIT}
-use Rattle.script_lines.specs.Fields.{Field, Mark, built, not_built, built_fields, Meanings}
 use Rattle.script_lines.specs.Fields.{then_ok, fields_of}
-use Rattle.script_lines.specs.Rows.{Row, When}
+use Rattle.script_lines.specs.Rows.{Row}
 use Rattle.script_lines.specs.Actions.{table}
 
 -- the most bytes of a script
@@ -51,26 +50,13 @@ abbrev pub refused : ℕ → Option (List ℕ) → Result (Unit {0}) PlainFault
 refused number None = Ok tt
 refused number (Some name) = Err (BadField number name)
 
--- the action of a line by its fields, or the fault of the first bad member: the first bad one of
--- the fields, else the first that is not known
-abbrev pub action_by_fields : ℕ → (fields : List Field) → (Meanings fields → PlainAction) → Data
-    → Result PlainAction PlainFault
-action_by_fields number fields action line =
-    then_ok (fields_of number fields line) (λ values.
-    then_ok (refused number (first_unknown (map (λ field. field.name) fields) line)) (λ _.
-    Ok (action values)))
-
--- the action of a line by a row with this mark
-abbrev pub action_by_mark : ℕ → (mark : Mark) (fields : List Field)
-    → When mark (Meanings (built_fields fields) → PlainAction) → Data
-    → Result PlainAction PlainFault
-action_by_mark number built fields action line =
-    action_by_fields number (built_fields fields) action line
-action_by_mark number not_built fields action line = Err (UnknownAction number)
-
--- the action of a line by a row
+-- the action of a line by a row, or the fault of the first bad member: the first bad one of the
+-- fields, else the first that is not known
 abbrev pub action_by_row : ℕ → Row → Data → Result PlainAction PlainFault
-action_by_row number row line = action_by_mark number row.mark row.fields row.action line
+action_by_row number row line =
+    then_ok (fields_of number row.fields line) (λ values.
+    then_ok (refused number (first_unknown (map (λ field. field.name) row.fields) line)) (λ _.
+    Ok (row.action values)))
 
 -- the action of a line, by the row of its name
 abbrev pub action_by : ℕ → Option Row → Data → Result PlainAction PlainFault

@@ -1,12 +1,10 @@
 -- What the public clauses rest on.
 pub mod Script
 pub mod Words
-pub mod Pairs
 pub mod Fields
 pub mod Rows
 pub mod Actions
 pub mod Grammar
-pub mod Reply
 pub mod Plain
 -- What private functions compute. No public clause rests on it.
 pub mod Names

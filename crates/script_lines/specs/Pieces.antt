@@ -1,19 +1,8 @@
--- A text cut at its first line feed, and the parts of an event.
-use Rattle.std.specs.Prelude.{ℕ, List, [], codes, Option, Some, None}
-use Rattle.serde_json.specs.Data.{Data, string, object, no_members, member}
-use Rattle.script_lines.specs.Reply.{text_or_null}
+-- A text cut at its first line feed.
+use Rattle.std.specs.Prelude.{ℕ, List, [], Option, Some, None}
 use Rattle.script_lines.specs.Grammar.{lines_of}
 
 -- the lines of what stands behind a line feed, and none where there was none
 abbrev pub lines_after : Option (List ℕ) → List (List ℕ)
 lines_after (Some later) = lines_of later
 lines_after None = []
-
--- a storage event of these parts
-abbrev pub event_parts : (area : List ℕ) (key after before : Option (List ℕ)) (url : List ℕ) → Data
-event_parts area key after before url = object (
-    member (codes "area") (string area) (
-    member (codes "key") (text_or_null key) (
-    member (codes "new") (text_or_null after) (
-    member (codes "old") (text_or_null before) (
-    member (codes "url") (string url) no_members)))))

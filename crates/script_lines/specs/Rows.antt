@@ -1,30 +1,18 @@
 -- What a row of the table of actions is, and what several rows have.
--- Source: the script format of docs/FORMATS.md. Our own choice: all of it. A row that is not built
--- is of an unknown action, and the mark of a field counts where the row is built.
+-- Source: the script format of docs/FORMATS.md. Our own choice: all of it.
 use Rattle.std.specs.Prelude.{ℕ, List, [], ◌∷◌, codes}
 use Rattle.agent_base.specs.declared.refusals.Label.{Label}
 use Rattle.storage_events.specs.declared.event.AreaKind.{AreaKind}
 use Rattle.storage_events.specs.declared.event.AreaKind.TheVariants.{Local}
 use Rattle.script_lines.specs.declared.words.Method.TheVariants as method
 use Rattle.script_lines.specs.Script.{PlainAction, DocumentAction, Act}
-use Rattle.script_lines.specs.Fields.{Field, Kind, Mark, built, not_built, required, defaulted}
-use Rattle.script_lines.specs.Fields.{built_fields, Meanings, whole, any_text, address_text}
-use Rattle.script_lines.specs.Fields.{method_name, header_list, area_name}
+use Rattle.script_lines.specs.Fields.{Field, Kind, required, defaulted, Meanings}
+use Rattle.script_lines.specs.Fields.{whole, any_text, address_text, method_name, area_name}
 
--- what is there where the mark says so
-abbrev pub When : Mark → Type 0 → Type 0
-When built A = A
-When not_built A = Unit {0}
-
--- a kind of line: whether it counts, its fields in order, and the action that they give
+-- a kind of line: its fields in order, and the action that they give
 pub record Row : Type 0 where
-  pub mark : Mark
   pub fields : List Field
-  pub action : When mark (Meanings (built_fields fields) → PlainAction)
-
--- a row that is not built
-abbrev pub later : List Field → Row
-later fields = record { mark = not_built; fields = fields; action = tt }
+  pub action : Meanings fields → PlainAction
 
 -- ---- fields that several rows have
 
@@ -37,29 +25,26 @@ abbrev pub frame_number : Kind
 frame_number = whole 0 255
 
 abbrev pub tab : Field
-tab = required built (codes "tab") tab_number
+tab = required (codes "tab") tab_number
 
 abbrev pub frame : Field
-frame = defaulted built (codes "frame") frame_number 0
+frame = defaulted (codes "frame") frame_number 0
 
 -- a frame that is not the top document
 abbrev pub inner_frame : Field
-inner_frame = required built (codes "frame") (whole 1 255)
+inner_frame = required (codes "frame") (whole 1 255)
 
 abbrev pub url : Field
-url = required built (codes "url") address_text
+url = required (codes "url") address_text
 
 abbrev pub method_field : Field
-method_field = defaulted built (codes "method") method_name method.Get
-
-abbrev pub head : Field
-head = defaulted not_built (codes "head") header_list []
+method_field = defaulted (codes "method") method_name method.Get
 
 abbrev pub area : Field
-area = defaulted built (codes "area") area_name Local
+area = defaulted (codes "area") area_name Local
 
 abbrev pub key : Field
-key = required built (codes "key") any_text
+key = required (codes "key") any_text
 
 -- ---- rows of one form
 
@@ -70,7 +55,6 @@ label tab frame = record { tab = tab; frame = frame }
 -- a document and nothing besides
 abbrev pub document_row : DocumentAction → Row
 document_row action = record {
-  mark = built;
   fields = tab ∷ frame ∷ [];
   action = λ (tab, (frame, _)). Act (label tab frame) action;
 }
@@ -78,7 +62,6 @@ document_row action = record {
 -- an area of a document
 abbrev pub area_row : (AreaKind → DocumentAction) → Row
 area_row action = record {
-  mark = built;
   fields = tab ∷ frame ∷ area ∷ [];
   action = λ (tab, (frame, (area, _))). Act (label tab frame) (action area);
 }
@@ -86,7 +69,6 @@ area_row action = record {
 -- a name of an area
 abbrev pub name_row : (AreaKind → List ℕ → DocumentAction) → Row
 name_row action = record {
-  mark = built;
   fields = tab ∷ frame ∷ area ∷ key ∷ [];
   action = λ (tab, (frame, (area, (key, _)))). Act (label tab frame) (action area key);
 }

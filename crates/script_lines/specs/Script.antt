@@ -8,11 +8,6 @@ use Rattle.storage_events.specs.declared.event.AreaKind.{AreaKind}
 use Rattle.script_lines.specs.declared.words.Method.{Method}
 use Rattle.script_lines.specs.declared.words.Prompt.{Prompt}
 
--- a header field that a load's response has: its name and its value, as they are written
-pub record PlainHeadPair : Type 0 where
-  pub name : List ℕ
-  pub value : List ℕ
-
 -- what a document does, or what is done to it. It has two areas, and is named beside the action.
 pub data DocumentAction : Type 0 where
   -- the frame that is named is added below a parent, with the text of its `sandbox` attribute

@@ -45,12 +45,6 @@ loaders = (codes "user", false) ∷ (codes "page", true) ∷ []
 abbrev pub navigators : List (List ℕ × Bool)
 navigators = (codes "parent", false) ∷ (codes "self", true) ∷ []
 
--- what a user answers to a prompt for storage access
-abbrev pub prompts : List (List ℕ × Prompt)
-prompts =
-    (codes "grant", prompt.Grant) ∷ (codes "deny", prompt.Deny)
-    ∷ (codes "dismiss", prompt.Dismiss) ∷ []
-
 -- what a user answers to a prompt for persistent storage, which is not dismissed
 abbrev pub consents : List (List ℕ × Prompt)
 consents = (codes "grant", prompt.Grant) ∷ (codes "deny", prompt.Deny) ∷ []

@@ -1,19 +1,12 @@
 //! What a line asks for.
 ghost use Rattle.std.specs.Prelude.{◌≡◌, IfOk, option_map, string_bytes};
-ghost use Rattle.script_lines.specs.Plain.{action_of, head_pair_of};
+ghost use Rattle.script_lines.specs.Plain.{action_of};
 
 use crate::{Method, Prompt};
 use agent_base::{Label, NoMemory};
 use origin_site::{Address, Site};
 use std::alloc::Global;
 use storage_events::AreaKind;
-
-/// A header field of a load's response, as it is written.
-#[derive(Debug, Drop, PartialEq, Eq)]
-pub struct HeadPair {
-    pub name: String,
-    pub value: String,
-}
 
 /// What a line asks for.
 #[derive(Debug, Drop, PartialEq, Eq)]
@@ -25,7 +18,7 @@ pub enum Action {
     /// Opens a tab with a top document, started by the opener's page or by the user.
     Open {
         tab: u16,
-        url: Address,
+        url: Box<Address>,
         opener: Option<u16>,
         /// The tab gets no copy of the opener's session areas.
         noopener: bool,
@@ -38,7 +31,7 @@ pub enum Action {
     /// Goes to another top document, started by the page or by the user.
     Go {
         tab: u16,
-        url: Address,
+        url: Box<Address>,
         by_page: bool,
         method: Method,
     },
@@ -46,14 +39,14 @@ pub enum Action {
     Frame {
         at: Label,
         parent: u8,
-        url: Address,
+        url: Box<Address>,
         sandbox: Option<String>,
         deny: bool,
     },
     /// Navigates a frame, started by itself or by its parent.
     Nav {
         at: Label,
-        url: Address,
+        url: Box<Address>,
         by_self: bool,
         method: Method,
     },
@@ -123,18 +116,6 @@ pub enum Action {
     },
 }
 
-impl HeadPair {
-    /// The same pair, over memory of its own.
-    pub fn copy(&self, alloc: Global) -> Result<HeadPair, NoMemory>
-        ensures same { IfOk result (λ p. head_pair_of p ≡ head_pair_of self.now) }
-    {
-        Ok(HeadPair {
-            name: String::from_str(alloc, self.name.as_str())?,
-            value: String::from_str(alloc, self.value.as_str())?,
-        })
-    }
-}
-
 impl Action {
     /// The same action, over memory of its own.
     pub fn copy(&self, alloc: Global) -> Result<Action, NoMemory>
@@ -150,7 +131,7 @@ impl Action {
                 method,
             } => Ok(Action::Open {
                 tab: *tab,
-                url: url.copy(alloc)?,
+                url: boxed(alloc, url.copy(alloc)?)?,
                 opener: *opener,
                 noopener: *noopener,
                 method: *method,
@@ -163,7 +144,7 @@ impl Action {
                 method,
             } => Ok(Action::Go {
                 tab: *tab,
-                url: url.copy(alloc)?,
+                url: boxed(alloc, url.copy(alloc)?)?,
                 by_page: *by_page,
                 method: *method,
             }),
@@ -176,7 +157,7 @@ impl Action {
             } => Ok(Action::Frame {
                 at: *at,
                 parent: *parent,
-                url: url.copy(alloc)?,
+                url: boxed(alloc, url.copy(alloc)?)?,
                 sandbox: copy_of_text(alloc, sandbox)?,
                 deny: *deny,
             }),
@@ -187,7 +168,7 @@ impl Action {
                 method,
             } => Ok(Action::Nav {
                 at: *at,
-                url: url.copy(alloc)?,
+                url: boxed(alloc, url.copy(alloc)?)?,
                 by_self: *by_self,
                 method: *method,
             }),
@@ -238,6 +219,16 @@ impl Action {
                 site: site.copy(alloc)?,
             }),
         }
+    }
+}
+
+/// An address behind a pointer: in place it would take most of a line, and few lines have one.
+pub fn boxed(alloc: Global, url: Address) -> Result<Box<Address>, NoMemory>
+    ensures { IfOk result (λ boxed. boxed.value ≡ url) }
+{
+    match Box::new(alloc, url) {
+        Ok(boxed) => Ok(boxed),
+        Err(_) => Err(NoMemory),
     }
 }
 

@@ -14,11 +14,9 @@ use case_tables::Cases;
 use std::alloc::Global;
 
 /// The rows of the table by their names.
-#[derive(Debug, Clone, Copy, PartialEq, Eq)]
+#[derive(Clone, Copy)]
 pub enum ActionName {
-    Disk,
     Tick,
-    Restart,
     Open,
     Close,
     Go,
@@ -26,7 +24,6 @@ pub enum ActionName {
     Nav,
     Drop,
     Click,
-    Fetch,
     Set,
     Get,
     Del,
@@ -34,20 +31,14 @@ pub enum ActionName {
     Len,
     Key,
     Events,
-    Cookie,
-    Has,
     Persisted,
     Estimate,
-    SetCookie,
-    Request,
     Persist,
     Evict,
 }
 
-const ACTIONS: [(&str, ActionName); 26] = [
-    ("disk", ActionName::Disk),
+const ACTIONS: [(&str, ActionName); 19] = [
     ("tick", ActionName::Tick),
-    ("restart", ActionName::Restart),
     ("open", ActionName::Open),
     ("close", ActionName::Close),
     ("go", ActionName::Go),
@@ -55,7 +46,6 @@ const ACTIONS: [(&str, ActionName); 26] = [
     ("nav", ActionName::Nav),
     ("drop", ActionName::Drop),
     ("click", ActionName::Click),
-    ("fetch", ActionName::Fetch),
     ("set", ActionName::Set),
     ("get", ActionName::Get),
     ("del", ActionName::Del),
@@ -63,12 +53,8 @@ const ACTIONS: [(&str, ActionName); 26] = [
     ("len", ActionName::Len),
     ("key", ActionName::Key),
     ("events", ActionName::Events),
-    ("cookie", ActionName::Cookie),
-    ("has", ActionName::Has),
     ("persisted", ActionName::Persisted),
     ("estimate", ActionName::Estimate),
-    ("setcookie", ActionName::SetCookie),
-    ("request", ActionName::Request),
     ("persist", ActionName::Persist),
     ("evict", ActionName::Evict),
 ];
@@ -104,7 +90,6 @@ fn action_named(name: &str) -> Option<ActionName>
     Cases { rows: &ACTIONS }.find(name)
 }
 
-// A row that is not built has no arm here.
 fn read_row(
     alloc: Global,
     line: &JsonLine<'_>,
@@ -134,6 +119,5 @@ fn read_row(
         ActionName::Estimate => rows::estimate(alloc, line, number),
         ActionName::Persist => rows::persist(alloc, line, number),
         ActionName::Evict => rows::evict(alloc, line, number),
-        _ => Err(ScriptFault::UnknownAction(number)),
     }
 }

@@ -1,16 +1,22 @@
 //! The members of a line, each by the kind of its field.
-ghost use Rattle.std.specs.Prelude.{◌≡◌, ◌≤◌, ◌⊎◌, IfSome, None, Some, option_map, string_bytes};
+ghost use Rattle.std.specs.Prelude.{◌≡◌, ◌≤◌, ◌⊎◌, IfOk, IfSome, MatchResult, None, Some};
+ghost use Rattle.std.specs.Prelude.{map, option_map, string_bytes};
+ghost use Rattle.serde_json.specs.Find.{get};
+ghost use Rattle.case_tables.specs.Rows.{row_of};
 ghost use Rattle.origin_site.specs.Plain.{plain_address, plain_site};
 ghost use Rattle.script_lines.specs.Flat.{data_of};
 ghost use Rattle.script_lines.specs.JsonLine.{data_of_line};
 ghost use Rattle.script_lines.specs.Fields as spec;
-ghost use Rattle.script_lines.specs.Fields.{built, defaulted, field_of, required};
+ghost use Rattle.script_lines.specs.Fields.{defaulted, field_of, given, required};
 ghost use Rattle.script_lines.specs.Plain.{Reads, fault_of};
 ghost use Rattle.script_lines.specs.Script as plain;
+ghost use Rattle.script_lines.specs.Words.{word_of};
 
 use crate::ScriptFault;
+use crate::action::boxed;
 use crate::json_line::JsonLine;
 use crate::json_value::JsonValue;
+use case_tables::Cases;
 use origin_site::{Address, AddressFault, Site, SiteFault};
 use std::alloc::Global;
 
@@ -24,6 +30,66 @@ pub fn bad_field(alloc: Global, number: u32, name: &str) -> ScriptFault
     }
 }
 
+// A value of the right form, or the fault of a member of another form.
+fn formed<T>(alloc: Global, number: u32, name: &str, value: Option<T>) -> Result<T, ScriptFault>
+    ensures { MatchResult result (λ v. value ≡ Some v) (λ why. (value ≡ None)
+        × ((why ≡ ScriptFault.NoMemory) ⊎ (fault_of why ≡ plain.BadField number name.now))) }
+{
+    match value {
+        Some(value) => Ok(value),
+        None => Err(bad_field(alloc, number, name)),
+    }
+}
+
+// ---- words and truth values
+
+/// A word of a table, or what stands for it where it is absent.
+pub fn word<T: Copy>(
+    alloc: Global,
+    line: &JsonLine<'_>,
+    number: u32,
+    name: &str,
+    words: &[(&'static str, T)],
+    absent: Option<T>,
+) -> Result<T, ScriptFault>
+    ensures { Reads (λ v. v) (spec.formed number name.now
+        (given (word_of (map row_of words.now)) absent
+        (get name.now (data_of_line line.now)))) result }
+{
+    let value = match line.get(name) {
+        Some(value) => word_in(words, value),
+        None => absent,
+    };
+    formed(alloc, number, name, value)
+}
+
+fn word_in<T: Copy>(words: &[(&'static str, T)], value: JsonValue<'_>) -> Option<T>
+    ensures { result ≡ word_of (map row_of words.now) (data_of value.entry) }
+{
+    match value.as_str() {
+        Some(text) => Cases { rows: words }.find(text),
+        None => None,
+    }
+}
+
+/// A truth value, or what stands for it where it is absent.
+pub fn truth(
+    alloc: Global,
+    line: &JsonLine<'_>,
+    number: u32,
+    name: &str,
+    absent: bool,
+) -> Result<bool, ScriptFault>
+    ensures { let field = defaulted name.now spec.truth absent in
+        Reads (λ b. b) (field_of number field (data_of_line line.now)) result }
+{
+    let value = match line.get(name) {
+        Some(value) => value.as_bool(),
+        None => Some(absent),
+    };
+    formed(alloc, number, name, value)
+}
+
 // ---- numbers
 
 /// The number of a tab.
@@ -33,13 +99,10 @@ pub fn tab_number(
     number: u32,
     name: &str,
 ) -> Result<u16, ScriptFault>
-    ensures { let field = required built name.now (spec.whole 1 65535) in
+    ensures { let field = required name.now (spec.whole 1 65535) in
         Reads (λ n. n) (field_of number field (data_of_line line.now)) result }
 {
-    match line.get(name).and_then(JsonValue::as_u64) {
-        Some(n) if 1 <= n && n <= 65535 => Ok(n as u16),
-        _ => Err(bad_field(alloc, number, name)),
-    }
+    Ok(whole(alloc, line, number, name, 1, 65535, None)? as u16)
 }
 
 /// The number of a tab, if there is one.
@@ -49,19 +112,16 @@ pub fn optional_tab(
     number: u32,
     name: &str,
 ) -> Result<Option<u16>, ScriptFault>
-    ensures { let field = defaulted built name.now (spec.optional (spec.whole 1 65535)) None in
+    ensures { let field = defaulted name.now (spec.optional (spec.whole 1 65535)) None in
         Reads (λ n. n) (field_of number field (data_of_line line.now)) result }
 {
-    let Some(value) = line.get(name) else {
-        return Ok(None);
-    };
-    match whole_in(value, 1, 65535) {
-        Some(n) => Ok(Some(n as u16)),
-        None => Err(bad_field(alloc, number, name)),
+    match line.get(name) {
+        Some(_) => Ok(Some(tab_number(alloc, line, number, name)?)),
+        None => Ok(None),
     }
 }
 
-/// The number of a frame, from 0.
+/// The number of a frame, from 0, or what stands for it where it is absent.
 pub fn frame_number(
     alloc: Global,
     line: &JsonLine<'_>,
@@ -69,16 +129,10 @@ pub fn frame_number(
     name: &str,
     absent: u8,
 ) -> Result<u8, ScriptFault>
-    ensures { let field = defaulted built name.now (spec.whole 0 255) absent in
+    ensures { let field = defaulted name.now (spec.whole 0 255) absent in
         Reads (λ n. n) (field_of number field (data_of_line line.now)) result }
 {
-    let Some(value) = line.get(name) else {
-        return Ok(absent);
-    };
-    match whole_in(value, 0, 255) {
-        Some(n) => Ok(n as u8),
-        None => Err(bad_field(alloc, number, name)),
-    }
+    Ok(whole(alloc, line, number, name, 0, 255, Some(absent as u64))? as u8)
 }
 
 /// The number of a frame that is not the top document.
@@ -88,13 +142,10 @@ pub fn inner_frame(
     number: u32,
     name: &str,
 ) -> Result<u8, ScriptFault>
-    ensures { let field = required built name.now (spec.whole 1 255) in
+    ensures { let field = required name.now (spec.whole 1 255) in
         Reads (λ n. n) (field_of number field (data_of_line line.now)) result }
 {
-    match line.get(name).and_then(JsonValue::as_u64) {
-        Some(n) if 1 <= n && n <= 255 => Ok(n as u8),
-        _ => Err(bad_field(alloc, number, name)),
-    }
+    Ok(whole(alloc, line, number, name, 1, 255, None)? as u8)
 }
 
 /// A number from 0 to the last.
@@ -105,13 +156,33 @@ pub fn whole_number(
     name: &str,
     last: u32,
 ) -> Result<u32, ScriptFault>
-    ensures { let field = required built name.now (spec.whole 0 last) in
+    ensures { let field = required name.now (spec.whole 0 last) in
         Reads (λ n. n) (field_of number field (data_of_line line.now)) result }
 {
-    match line.get(name).and_then(JsonValue::as_u64) {
-        Some(n) if n <= last as u64 => Ok(n as u32),
-        _ => Err(bad_field(alloc, number, name)),
-    }
+    Ok(whole(alloc, line, number, name, 0, last as u64, None)? as u32)
+}
+
+// A number within these bounds, or what stands for it where it is absent.
+fn whole(
+    alloc: Global,
+    line: &JsonLine<'_>,
+    number: u32,
+    name: &str,
+    first: u64,
+    last: u64,
+    absent: Option<u64>,
+) -> Result<u64, ScriptFault>
+    requires { IfSome absent (λ n. n ≤ last) }
+    ensures value { Reads (λ n. n) (spec.formed number name.now
+        (given (spec.meaning (spec.whole first last)) absent
+        (get name.now (data_of_line line.now)))) result }
+    ensures bound { IfOk result (λ n. n ≤ last) }
+{
+    let value = match line.get(name) {
+        Some(value) => whole_in(value, first, last),
+        None => absent,
+    };
+    formed(alloc, number, name, value)
 }
 
 // The number within these bounds that a value is.
@@ -134,13 +205,16 @@ pub fn text(
     number: u32,
     name: &str,
 ) -> Result<String, ScriptFault>
-    ensures { let field = required built name.now spec.any_text in
+    ensures { let field = required name.now spec.any_text in
         Reads string_bytes (field_of number field (data_of_line line.now)) result }
 {
-    match line.get(name).and_then(JsonValue::as_str) {
-        Some(text) => Ok(String::from_str(alloc, text)?),
-        None => Err(bad_field(alloc, number, name)),
-    }
+    let text = formed(
+        alloc,
+        number,
+        name,
+        line.get(name).and_then(JsonValue::as_str),
+    )?;
+    Ok(String::from_str(alloc, text)?)
 }
 
 /// Any text, if there is one.
@@ -150,15 +224,12 @@ pub fn optional_text(
     number: u32,
     name: &str,
 ) -> Result<Option<String>, ScriptFault>
-    ensures { let field = defaulted built name.now (spec.optional spec.any_text) None in
+    ensures { let field = defaulted name.now (spec.optional spec.any_text) None in
         Reads (option_map string_bytes) (field_of number field (data_of_line line.now)) result }
 {
-    let Some(value) = line.get(name) else {
-        return Ok(None);
-    };
-    match value.as_str() {
-        Some(text) => Ok(Some(String::from_str(alloc, text)?)),
-        None => Err(bad_field(alloc, number, name)),
+    match line.get(name) {
+        Some(_) => Ok(Some(text(alloc, line, number, name)?)),
+        None => Ok(None),
     }
 }
 
@@ -168,15 +239,18 @@ pub fn address(
     line: &JsonLine<'_>,
     number: u32,
     name: &str,
-) -> Result<Address, ScriptFault>
-    ensures { let field = required built name.now spec.address_text in
-        Reads plain_address (field_of number field (data_of_line line.now)) result }
+) -> Result<Box<Address>, ScriptFault>
+    ensures { let field = required name.now spec.address_text in
+        Reads (λ a. plain_address a.value) (field_of number field (data_of_line line.now)) result }
 {
-    let Some(text) = line.get(name).and_then(JsonValue::as_str) else {
-        return Err(bad_field(alloc, number, name));
-    };
+    let text = formed(
+        alloc,
+        number,
+        name,
+        line.get(name).and_then(JsonValue::as_str),
+    )?;
     match Address::read(alloc, text) {
-        Ok(address) => Ok(address),
+        Ok(address) => Ok(boxed(alloc, address)?),
         Err(AddressFault::NoMemory) => Err(ScriptFault::NoMemory),
         Err(_) => Err(bad_field(alloc, number, name)),
     }
@@ -189,12 +263,15 @@ pub fn site(
     number: u32,
     name: &str,
 ) -> Result<Site, ScriptFault>
-    ensures { let field = required built name.now spec.site_name in
+    ensures { let field = required name.now spec.site_name in
         Reads plain_site (field_of number field (data_of_line line.now)) result }
 {
-    let Some(text) = line.get(name).and_then(JsonValue::as_str) else {
-        return Err(bad_field(alloc, number, name));
-    };
+    let text = formed(
+        alloc,
+        number,
+        name,
+        line.get(name).and_then(JsonValue::as_str),
+    )?;
     match Site::read(alloc, text) {
         Ok(site) => Ok(site),
         Err(SiteFault::NoMemory) => Err(ScriptFault::NoMemory),

@@ -18,7 +18,7 @@ use serde_json::{Map, Value, put};
 use std::alloc::Global;
 
 /// A member: its name and its value, which is no tree.
-#[derive(Debug, Clone, Copy)]
+#[derive(Clone, Copy)]
 pub struct Member<'a> {
     pub name: &'a str,
     pub value: JsonValue<'a>,

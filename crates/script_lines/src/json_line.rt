@@ -16,7 +16,7 @@ use serde_json::Value;
 use std::alloc::Global;
 
 /// A line that is JSON, as the crate `serde_json` reads it.
-#[derive(Debug, Drop)]
+#[derive(Drop)]
 pub enum JsonLine<'a> {
     Flat(Vec<Member<'a>>),
     Tree(Value),

@@ -14,7 +14,7 @@ use Rattle.local_area.specs.Area.{Pair}
 use Rattle.storage_events.specs.declared.event.AreaKind.TheVariants.{Local}
 use Rattle.live_state.specs.Tabs.{made_tab}
 use Rattle.script_lines.specs.declared.words.Prompt.TheVariants.{Grant, Deny, Dismiss}
-use Rattle.script_lines.specs.Reply.{Plain, Truth, Cleared}
+use Rattle.reply_lines.specs.Reply.{Plain, Truth, Cleared}
 use Rattle.agent_model.specs.Partition.{Areas, Holdings, no_holdings, area_of}
 use Rattle.agent_model.specs.Done.{SharedCells, no_shared_cells, answers}
 use Rattle.agent_model.specs.Buckets.{is_persistent, made_persistent, persist_by, persist, is_evicted, areas_taken, evict}

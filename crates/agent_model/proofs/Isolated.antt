@@ -1,7 +1,9 @@
 -- The facts that the general law asks of this machine, and the law.
 use Rattle.std.proofs.Common.{◌≡◌, ℕ, Bool, true, false, cond, List, [], ◌∷◌, ◌++◌, Option, Some, None, refl, sym, ap, subst, ◌∙◌}
 use Rattle.std.proofs.lemmas.Bool.{true≢false}
+use Rattle.std.proofs.lemmas.Slice.Eq.{bytes_eq-Decides}
 use Rattle.std.specs.Prelude.{filter, is_some}
+use Rattle.unwinding.specs.FiniteCells.{restrict_cells}
 use Rattle.unwinding.specs.World.{SiteReply, of_site}
 use Rattle.unwinding.specs.Facts.{Facts, IsQuiet}
 use Rattle.unwinding.proofs.EpochReplies.{lines_replies}
@@ -10,9 +12,11 @@ use Rattle.origin_site.specs.Site.{PlainSite, same_plain_site, site_of_address}
 use Rattle.origin_site.proofs.SameLemmas.{same_plain_site-Decides}
 use Rattle.storage_key.specs.Context.{is_of}
 use Rattle.live_state.specs.Tabs.{PlainTab}
-use Rattle.script_lines.specs.Reply.{reply_text}
+use Rattle.reply_lines.specs.Reply.{reply_text}
 use Rattle.script_lines.specs.Script.{PlainAction, Tick, Open, Close, Go, Evict, Act}
+use Rattle.agent_model.specs.CookieCells.{domain_order}
 use Rattle.agent_model.specs.Partition.{tab_named}
+use Rattle.agent_model.specs.Done.{SharedCells}
 use Rattle.agent_model.specs.SiteEvent.{Leaves, Copies, Closes, TimedEvent, Answer}
 use Rattle.agent_model.specs.Sessions.{has_session}
 use Rattle.agent_model.specs.SiteStep.{site_step, close_at}
@@ -20,6 +24,7 @@ use Rattle.agent_model.specs.Lines.{AgentWorld, site_at, timed}
 use Rattle.agent_model.specs.SideEvents.{where_so, copies, leaves, closes, side_event}
 use Rattle.agent_model.specs.TheMachine.{machine, beginning}
 use Rattle.agent_model.specs.Isolation.{IsIsolated, HasIsolatedLines, replies_to, answers_of, local_script, site_run, text_of, lines_of_site, lines_alone, printed}
+use Rattle.agent_model.proofs.CookieCellsLemmas.{equal_cookies-Decides, get_set, get_restrict, get_merge, same_cells}
 
 -- every world is sound
 abbrev pub IsSound : AgentWorld → Type 0
@@ -30,7 +35,11 @@ module _ (rules : List Rule) (w : AgentWorld) (s : PlainSite) where
   abbrev IsQuietHere : TimedEvent → Type 0
   IsQuietHere e = IsQuiet (machine rules) w.cells (w.partition s) e
 
-  without_reply : (e : TimedEvent) → (site_step rules (w.partition s) w.cells e).reply ≡ None → (site_step rules (w.partition s) w.cells e).changes ≡ [] → IsQuietHere e
+  -- such an event sees no cell
+  abbrev seen : SharedCells
+  seen = restrict_cells domain_order (λ c. false) w.cells
+
+  without_reply : (e : TimedEvent) → (site_step rules (w.partition s) seen e).reply ≡ None → (site_step rules (w.partition s) seen e).changes ≡ [] → IsQuietHere e
   unfolding machine
   without_reply e reply changes = record { names_none = refl; sweeps_none = refl; no_reply = reply; no_changes = changes }
 
@@ -57,7 +66,7 @@ module _ (rules : List Rule) (w : AgentWorld) (s : PlainSite) where
   unfolding site_step
   close_quiet tab None is so =
       without_reply (timed w (Closes tab))
-      (ap (λ (t : Option PlainTab). (close_at tab t w.cells (w.partition s)).reply) is) (ap (λ (t : Option PlainTab). (close_at tab t w.cells (w.partition s)).changes) is)
+      (ap (λ (t : Option PlainTab). (close_at tab t seen (w.partition s)).reply) is) (ap (λ (t : Option PlainTab). (close_at tab t seen (w.partition s)).changes) is)
   close_quiet tab (Some closed) is so = absurd (true≢false (sym so))
 
   closes_quiet : (tab : ℕ) (here : Option PlainSite) (e : TimedEvent) → closes w tab here s ≡ Some e → IsQuietHere e
@@ -79,14 +88,14 @@ facts rules =
     record {
       site_same = λ s t. (same_plain_site-Decides s t).0;
       site_itself = λ s. (same_plain_site-Decides s s).1 refl;
-      cell_same = λ c d is. refl;
-      content_same = λ x y is. refl;
-      get_set = λ c d x cells. refl;
-      get_restrict = λ test cells c. refl;
-      get_merge = λ test new old c. refl;
-      same_cells = λ x y same. refl;
+      cell_same = λ c d. (bytes_eq-Decides c d).0;
+      content_same = λ x y. (equal_cookies-Decides x y).0;
+      get_set = get_set;
+      get_restrict = get_restrict;
+      get_merge = get_merge;
+      same_cells = same_cells;
       in_listed = λ cs c. refl;
-      own_home = λ s c is. is;
+      own_home = λ s c is. cc;
       own_alone = λ s t c is home. cc;
       side_quiet = λ w l s e ok is. quiet rules w l s e is;
       sound = λ w l ok. tt;

@@ -3,6 +3,9 @@ pub mod KeptLemmas
 -- What writes and copies leave.
 pub mod HoldingsLemmas
 pub mod SessionLemmas
+-- The cells that sites share.
+pub mod CookieCellsLemmas
+pub mod ApartLemmas
 -- The law.
 pub mod Isolated
 mod SiteRunLemmas
@@ -16,3 +19,4 @@ pub mod StorageFacts
 mod BucketFacts
 mod SessionFacts
 mod ToldFacts
+mod CookieCellFacts

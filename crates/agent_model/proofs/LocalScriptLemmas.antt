@@ -10,11 +10,12 @@ use Rattle.origin_site.specs.Site.{PlainSite, same_plain_site, site_of_address}
 use Rattle.storage_key.specs.Context.{is_of}
 use Rattle.script_lines.specs.declared.words.Method.{Method}
 use Rattle.script_lines.specs.Script.{PlainAction, Tick, Open, Close, Go, Evict, Act}
+use Rattle.agent_model.specs.CookieCells.{Domain}
 use Rattle.agent_model.specs.Partition.{tab_named}
 use Rattle.agent_model.specs.SiteEvent.{SiteEvent, Acts, Arrives, Leaves, Copies, Closes, Evicts, Opens, Goes}
 use Rattle.agent_model.specs.Sessions.{has_session}
 use Rattle.agent_model.specs.Lines.{AgentWorld, User, Page, occurs, opening, going, site_at, main_event}
-use Rattle.agent_model.specs.TheMachine.{Nothing, machine, beginning}
+use Rattle.agent_model.specs.TheMachine.{machine, beginning}
 use Rattle.agent_model.specs.Isolation.{local_script, site_run, lines_alone}
 use Rattle.agent_model.specs.Told.{told, told_opening, where_free, told_going, told_closing, entries_told}
 use Rattle.agent_model.specs.LocalScripts.{RefusedGivesNone, IsOfOthers, AreOfOthers, OthersGiveNone, without_others, OthersLeftOut, LinesWithoutOthers}
@@ -106,7 +107,7 @@ module _ (rules : List Rule) (s : PlainSite) (w : AgentWorld) where
 pub refused_gives_none : RefusedGivesNone
 refused_gives_none rules s touched w line is = gives_exactly rules s touched w line ∙ refused_told rules s w line is
 
-others_entries : (rules : List Rule) (s : PlainSite) (touched : List Nothing) (w : AgentWorld) (lines : List PlainAction) → AreOfOthers rules s w lines → local_entries (machine rules) s touched w lines ≡ []
+others_entries : (rules : List Rule) (s : PlainSite) (touched : List Domain) (w : AgentWorld) (lines : List PlainAction) → AreOfOthers rules s w lines → local_entries (machine rules) s touched w lines ≡ []
 others_entries rules s touched w [] away = refl
 others_entries rules s touched w (line ∷ lines) away =
     let later = line_touched (machine rules) s touched w line in

@@ -7,7 +7,7 @@ use Rattle.std.specs.FinMap.{get-empty, get-insert}
 use Rattle.unwinding.specs.World.{after_main, after_side, after_sides, world_step}
 use Rattle.storage_key.specs.Context.{is_of}
 use Rattle.script_lines.specs.declared.words.Method.TheVariants as method
-use Rattle.script_lines.specs.Reply.{PlainBody, Plain}
+use Rattle.reply_lines.specs.Reply.{PlainBody, Plain}
 use Rattle.script_lines.specs.Script.{PlainAction, Open}
 use Rattle.agent_model.specs.Partition.{Holdings, Partition}
 use Rattle.agent_model.specs.Done.{no_shared_cells}

@@ -1,7 +1,8 @@
--- The answers of a site are those of its machine over its events: a run without cells, and the general one.
+-- The answers of a site are those of its machine over its events: a run that consults no cell, and the general one.
 use Rattle.std.proofs.Common.{◌≡◌, Bool, true, false, cond, List, [], ◌∷◌, ◌++◌, Option, Some, None, refl, sym, ap, ◌∙◌}
 use Rattle.std.proofs.lemmas.List.{append_assoc}
 use Rattle.std.specs.Prelude.{filter, map, option_to_list}
+use Rattle.unwinding.specs.FiniteCells.{restrict_cells}
 use Rattle.unwinding.specs.World as world
 use Rattle.unwinding.specs.World.{SiteReply, after_main, after_side, after_sides, line_reply, of_site, replies, reply_at, reply_of_site, world_step}
 use Rattle.suffix_list.specs.Suffix.{Rule}
@@ -9,14 +10,18 @@ use Rattle.origin_site.specs.Site.{PlainSite, same_plain_site}
 use Rattle.origin_site.proofs.SameLemmas.{same_plain_site-Decides}
 use Rattle.storage_key.specs.Context.{is_of}
 use Rattle.script_lines.specs.Script.{PlainAction}
+use Rattle.agent_model.specs.CookieCells.{domain_order}
 use Rattle.agent_model.specs.Partition.{Partition}
+use Rattle.agent_model.specs.Done.{SharedCells}
 use Rattle.agent_model.specs.SiteEvent.{TimedEvent, Answer}
+use Rattle.agent_model.specs.SiteStep.{site_step}
 use Rattle.agent_model.specs.Lines.{AgentWorld, SiteOccurrence, main_event}
 use Rattle.agent_model.specs.SideEvents.{side_event}
 use Rattle.agent_model.specs.Rest.{refusal, rest_after}
 use Rattle.agent_model.specs.TheMachine.{machine, beginning}
 use Rattle.agent_model.specs.Isolation.{replies_to}
 use Rattle.agent_model.specs.SiteRuns.{AreRunReplies, AreSiteAnswers, after_events, answers_to, line_events, main_at, main_reply, next_world, own_answers, replied_by, run_events, run_replies, step_of}
+use Rattle.agent_model.proofs.CookieCellsLemmas.{none_seen, none_left}
 use Rattle.agent_model.proofs.Isolated.{quiet}
 
 module _ (rules : List Rule) where
@@ -33,17 +38,25 @@ module _ (rules : List Rule) where
       ∙ sym (append_assoc (option_to_list (step_of rules p e).reply) (answers_to rules (step_of rules p e).partition es) (answers_to rules (after_events rules p (e ∷ es)) fs))
 
   module _ (w : AgentWorld) (line : PlainAction) where
+    -- the cells that an event sees, of which it consults none
+    abbrev seen : SharedCells
+    seen = restrict_cells domain_order (λ c. false) w.cells
+
     -- what a site has once the event beside the main one is past
     beside : (site : PlainSite) (side : Option TimedEvent) → side_event rules w line site ≡ side → after_events rules (w.partition site) (option_to_list side) ≡ (after_sides (machine rules) w line).partition site
     unfolding machine
     beside site None is = ap (λ (e : Option TimedEvent). after_side (machine rules) w.cells e (w.partition site)) (sym is)
-    beside site (Some e) is = ap (λ (e : Option TimedEvent). after_side (machine rules) w.cells e (w.partition site)) (sym is)
+    beside site (Some e) is =
+        ap (λ cells. (site_step rules (w.partition site) cells e).partition) (sym (none_seen w.cells))
+        ∙ ap (λ (e : Option TimedEvent). after_side (machine rules) w.cells e (w.partition site)) (sym is)
 
     -- it is answered by none
     side_silent : (site : PlainSite) (side : Option TimedEvent) → side_event rules w line site ≡ side → answers_to rules (w.partition site) (option_to_list side) ≡ []
     unfolding machine
     side_silent site None is = refl
-    side_silent site (Some e) is = ap (λ (r : Option Answer). option_to_list r ++ []) (quiet rules w line site e is).no_reply
+    side_silent site (Some e) is =
+        ap (λ cells. option_to_list (site_step rules (w.partition site) cells e).reply ++ []) (sym (none_seen w.cells))
+        ∙ ap (λ (r : Option Answer). option_to_list r ++ []) (quiet rules w line site e is).no_reply
 
     -- the main event acts on what that left
     abbrev sides : PlainSite → Partition
@@ -52,7 +65,9 @@ module _ (rules : List Rule) where
     main_partition : (site : PlainSite) (main : Option SiteOccurrence) → after_events rules (sides site) (main_at site main) ≡ (after_main (machine rules) (after_sides (machine rules) w line) main).partition site
     unfolding machine
     main_partition site None = refl
-    main_partition site (Some here) = by (same_plain_site site here.site) refl
+    main_partition site (Some here) =
+        by (same_plain_site site here.site) refl
+        ∙ ap (λ cells. cond (same_plain_site site here.site) (site_step rules (sides here.site) cells here.event).partition (sides site)) (sym (none_seen w.cells))
       where
         by : (b : Bool) → same_plain_site site here.site ≡ b
             → after_events rules (sides site) (cond b (here.event ∷ []) []) ≡ cond b (step_of rules (sides here.site) here.event).partition (sides site)
@@ -65,7 +80,10 @@ module _ (rules : List Rule) where
         (world.main_reply (machine rules) (after_sides (machine rules) w line) (refusal w line) main).reply
     unfolding machine
     main_answers site None = refl
-    main_answers site (Some here) = at (step_of rules (sides here.site) here.event).reply refl
+    main_answers site (Some here) =
+        at (step_of rules (sides here.site) here.event).reply refl
+        ∙ ap (λ cells. let reply : SiteReply PlainSite Answer = reply_by (site_step rules (sides here.site) cells here.event).reply in reply_of_site (machine rules) site reply.site reply.reply)
+        (sym (none_seen w.cells))
       where
         reply_by : Option Answer → SiteReply PlainSite Answer
         reply_by None = record { site = None; reply = refusal w line }
@@ -102,8 +120,12 @@ module _ (rules : List Rule) where
 
     next_is : next_world rules w line ≡ world_step (machine rules) w line
     unfolding world_step machine
-    next_is = λ i. record { partition = λ site. each site i; cells = w.cells; rest = rest_after rules w line }
+    next_is = λ i. record { partition = λ site. each site i; cells = sym (cells_stay (main_event rules w line)) i; rest = rest_after rules w line }
       where
+        cells_stay : (main : Option SiteOccurrence) → (after_main (machine rules) (after_sides (machine rules) w line) main).cells ≡ w.cells
+        cells_stay None = refl
+        cells_stay (Some here) = none_left _ w.cells
+
         each : (site : PlainSite) → after_events rules (w.partition site) (line_events rules site w line) ≡ (after_main (machine rules) (after_sides (machine rules) w line) (main_event rules w line)).partition site
         each site =
             after_both (w.partition site) (option_to_list (side_event rules w line site)) (main_at site (main_event rules w line))
@@ -124,7 +146,9 @@ module _ (rules : List Rule) where
       where
         by : (main : Option SiteOccurrence) → main_reply rules w line main ≡ world.main_reply (machine rules) (after_sides (machine rules) w line) (refusal w line) main
         by None = refl
-        by (Some here) = at (step_of rules (sides here.site) here.event).reply (ap (λ p. (step_of rules p here.event).reply) (beside here.site (side_event rules w line here.site) refl))
+        by (Some here) =
+            at (step_of rules (sides here.site) here.event).reply (ap (λ p. (step_of rules p here.event).reply) (beside here.site (side_event rules w line here.site) refl))
+            ∙ ap (λ cells. reply_at (machine rules) here.site (refusal w line) (site_step rules (sides here.site) cells here.event).reply) (sym (none_seen w.cells))
           where
             at : (reply : Option Answer) → (step_of rules (after_events rules (w.partition here.site) (option_to_list (side_event rules w line here.site))) here.event).reply ≡ reply
                 → replied_by here.site (refusal w line) (step_of rules (after_events rules (w.partition here.site) (option_to_list (side_event rules w line here.site))) here.event).reply

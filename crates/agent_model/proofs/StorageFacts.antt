@@ -18,7 +18,7 @@ use Rattle.storage_events.specs.declared.event.AreaKind.{AreaKind}
 use Rattle.storage_events.specs.declared.event.AreaKind.TheVariants.{Local, Session}
 use Rattle.storage_events.specs.Event.{PlainEvent}
 use Rattle.live_state.specs.Tabs.{PlainTab, made_tab}
-use Rattle.script_lines.specs.Reply as reply
+use Rattle.reply_lines.specs.Reply as reply
 use Rattle.agent_model.specs.Partition.{Holdings, Tabs, no_holdings, tab_named, with_tab, area_of, with_area}
 use Rattle.agent_model.specs.Done.{SharedCells, Effect, no_shared_cells, answers, ok}
 use Rattle.agent_model.specs.Documents.{Keyed, with_document, with_key, told_tab}

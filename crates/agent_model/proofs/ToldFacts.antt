@@ -9,12 +9,13 @@ use Rattle.origin_site.specs.Site.{PlainSite}
 use Rattle.storage_key.specs.Context.{is_of}
 use Rattle.script_lines.specs.declared.words.Method.TheVariants as method
 use Rattle.script_lines.specs.Script.{PlainAction, Tick, Evict, Act, Click}
+use Rattle.agent_model.specs.CookieCells.{Domain}
 use Rattle.agent_model.specs.Partition.{empty_partition}
 use Rattle.agent_model.specs.Done.{no_shared_cells}
 use Rattle.agent_model.specs.SiteEvent.{SiteEvent, Acts, Arrives, Leaves, Evicts, Goes}
 use Rattle.agent_model.specs.Lines.{AgentWorld, Places, no_places, placed, site_at}
 use Rattle.agent_model.specs.Rest.{rest_after}
-use Rattle.agent_model.specs.TheMachine.{Nothing, machine}
+use Rattle.agent_model.specs.TheMachine.{machine}
 use Rattle.agent_model.specs.Told.{SiteEntry, told, told_going, entries_told}
 use Rattle.agent_model.specs.LocalScripts.{is_apart}
 use Rattle.agent_model.proofs.StandardFacts.{address, site, at_frame, a, b}
@@ -45,7 +46,7 @@ abbrev all_told : PlainSite → AgentWorld → List PlainAction → List SiteEnt
 all_told s w [] = []
 all_told s w (l ∷ ls) = entries_told [] s (w.partition s) w.rest l ++ all_told s (world_step (machine []) w l) ls
 
-given_told : (s : PlainSite) (touched : List Nothing) (w : AgentWorld) (ls : List PlainAction) → local_entries (machine []) s touched w ls ≡ all_told s w ls
+given_told : (s : PlainSite) (touched : List Domain) (w : AgentWorld) (ls : List PlainAction) → local_entries (machine []) s touched w ls ≡ all_told s w ls
 given_told s touched w [] = refl
 given_told s touched w (l ∷ ls) =
     ap (λ es. es ++ local_entries (machine []) s (line_touched (machine []) s touched w l) (world_step (machine []) w l) ls) (gives_exactly [] s touched w l)

@@ -9,12 +9,13 @@ use Rattle.origin_site.specs.Site.{PlainSite, same_plain_site, site_of_address}
 use Rattle.storage_key.specs.Context.{is_of}
 use Rattle.script_lines.specs.declared.words.Method.{Method}
 use Rattle.script_lines.specs.Script.{Tick, Open, Close, Go, Evict, Act}
+use Rattle.agent_model.specs.CookieCells.{Domain}
 use Rattle.agent_model.specs.Partition.{tab_named}
 use Rattle.agent_model.specs.SiteEvent.{SiteEvent, Acts, Closes, Copies, Leaves, Arrives, Goes}
 use Rattle.agent_model.specs.Sessions.{has_session}
 use Rattle.agent_model.specs.Lines.{AgentWorld, SiteOccurrence, Page, occurs, opener_of, opening, going, goer_of, is_same_site, site_at, timed, main_event}
 use Rattle.agent_model.specs.SideEvents.{where_so, leaves, closes, side_event}
-use Rattle.agent_model.specs.TheMachine.{Nothing, machine}
+use Rattle.agent_model.specs.TheMachine.{machine}
 use Rattle.agent_model.specs.Told.{SiteEntry, told, told_opening, where_free, told_going, told_closing, entries_told}
 use Rattle.agent_model.specs.LocalScripts.{GivesExactly}
 
@@ -22,7 +23,7 @@ pub never : (so : Bool) (now : ℕ) (e : SiteEvent) → told (so && false) now e
 never true now e = refl
 never false now e = refl
 
-module _ (rules : List Rule) (s : PlainSite) (touched : List Nothing) (w v : AgentWorld) where
+module _ (rules : List Rule) (s : PlainSite) (touched : List Domain) (w v : AgentWorld) where
   -- what the main event gives the site
   abbrev main_told : Option SiteOccurrence → List SiteEntry
   main_told main = main_entries (machine rules) s touched v main

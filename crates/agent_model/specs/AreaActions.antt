@@ -7,7 +7,7 @@ use Rattle.local_area.specs.Area.{Pair, quota, area_get, area_nth, area_put, are
 use Rattle.local_area.specs.Put.{PlainPut, same, added, changed, put_answer}
 use Rattle.storage_events.specs.declared.event.AreaKind.{AreaKind}
 use Rattle.storage_events.specs.Event.{PlainEvent}
-use Rattle.script_lines.specs.Reply.{Plain, Text, Number}
+use Rattle.reply_lines.specs.Reply.{Plain, Text, Number}
 use Rattle.agent_model.specs.Partition.{Holdings, area_of, with_area}
 use Rattle.agent_model.specs.Done.{Effect, answers, ok}
 use Rattle.agent_model.specs.Documents.{Keyed, told}

@@ -16,7 +16,7 @@ use Rattle.storage_events.specs.declared.event.AreaKind.TheVariants.{Local}
 use Rattle.live_state.specs.Tabs.{PlainTab}
 use Rattle.script_lines.specs.declared.words.Prompt.{Prompt}
 use Rattle.script_lines.specs.declared.words.Prompt.TheVariants as prompt
-use Rattle.script_lines.specs.Reply.{Plain, Truth, Estimate, Cleared}
+use Rattle.reply_lines.specs.Reply.{Plain, Truth, Estimate, Cleared}
 use Rattle.agent_model.specs.Partition.{Areas, Holdings, is_under}
 use Rattle.agent_model.specs.Done.{Effect, answers}
 use Rattle.agent_model.specs.Documents.{Keyed}

@@ -14,7 +14,7 @@ use Rattle.storage_events.specs.Event.{PlainEvent}
 use Rattle.live_state.specs.Tabs.{PlainTab, PlainFrameQueue}
 use Rattle.frame_tree.specs.Keys.{key_of_document, key_of_frame}
 use Rattle.live_state.specs.Queues.{queue_told}
-use Rattle.script_lines.specs.Reply.{Plain}
+use Rattle.reply_lines.specs.Reply.{Plain}
 use Rattle.agent_model.specs.Partition.{Tabs}
 use Rattle.agent_model.specs.Done.{Effect, answers}
 

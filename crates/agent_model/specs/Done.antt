@@ -1,18 +1,19 @@
 -- What an action makes of what is held, and what it answers.
 -- Source: none; these are the words of the machine.
--- Our own choice: an action finds the shared cells beside what is held, and leaves both. No cell is
--- shared between sites, and nothing is durable.
+-- Our own choice: an action finds the shared cells beside what is held, and leaves both. No action
+-- looks at a shared cell, and nothing is durable.
 use Rattle.std.specs.Prelude.{List, [], codes}
-use Rattle.script_lines.specs.Reply.{PlainBody, Plain}
+use Rattle.reply_lines.specs.Reply.{PlainBody, Plain}
+use Rattle.agent_model.specs.CookieCells.{CookieCells, no_cookies}
 use Rattle.agent_model.specs.Partition.{Holdings}
 
 -- the cells that sites share
 abbrev pub SharedCells : Type 0
-SharedCells = Unit {0}
+SharedCells = CookieCells
 
 -- none of them holds anything
 abbrev pub no_shared_cells : SharedCells
-no_shared_cells = tt
+no_shared_cells = no_cookies
 
 -- a change of durable state
 pub data Change : Type 0 where

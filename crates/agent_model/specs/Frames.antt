@@ -15,7 +15,7 @@ use Rattle.frame_tree.specs.Calls.{added, navigated, without, activated}
 use Rattle.live_state.specs.Tabs.{PlainTab, made_tab}
 use Rattle.script_lines.specs.declared.words.Method.{Method}
 use Rattle.script_lines.specs.declared.words.Method.TheVariants as method
-use Rattle.script_lines.specs.Reply.{PlainBody, Plain, Load}
+use Rattle.reply_lines.specs.Reply.{PlainBody, Plain, Load}
 use Rattle.agent_model.specs.Partition.{with_tab}
 use Rattle.agent_model.specs.Done.{Effect, answers, ok}
 

@@ -8,11 +8,12 @@ use Rattle.suffix_list.specs.Suffix.{Rule}
 use Rattle.origin_site.specs.Site.{PlainSite}
 use Rattle.storage_key.specs.Context.{is_of}
 use Rattle.script_lines.specs.Script.{PlainAction}
-use Rattle.script_lines.specs.Reply.{PlainReply, reply_text}
+use Rattle.reply_lines.specs.Reply.{PlainReply, reply_text}
+use Rattle.agent_model.specs.CookieCells.{Domain, Cookies}
 use Rattle.agent_model.specs.Partition.{Partition}
 use Rattle.agent_model.specs.Done.{SharedCells}
 use Rattle.agent_model.specs.SiteEvent.{TimedEvent, Answer}
-use Rattle.agent_model.specs.TheMachine.{Nothing, machine, beginning}
+use Rattle.agent_model.specs.TheMachine.{machine, beginning}
 
 -- the replies to the lines of a script, each with the site that it belongs to
 unfoldable pub replies_to : List Rule → ℕ → List PlainAction → List (SiteReply PlainSite Answer)
@@ -26,7 +27,7 @@ answers_of rules site told = of_site (machine rules) site told
 -- their moments, and no more
 pub record SiteScript : Type 0 where
   pub rules : List Rule
-  pub script : EpochScript Nothing SharedCells Partition Nothing TimedEvent
+  pub script : EpochScript Domain SharedCells Partition Cookies TimedEvent
 
 -- the local script of a site
 unfoldable pub local_script : List Rule → PlainSite → ℕ → List PlainAction → SiteScript

@@ -1,4 +1,5 @@
 -- The definitions, in the order in which they are read.
+pub mod CookieCells
 pub mod Partition
 pub mod Done
 pub mod Documents

@@ -10,10 +10,11 @@ use Rattle.suffix_list.specs.Suffix.{Rule}
 use Rattle.origin_site.specs.Site.{PlainSite, same_plain_site, site_of_address}
 use Rattle.storage_key.specs.Context.{is_of}
 use Rattle.script_lines.specs.Script.{PlainAction, Tick, Open, Close, Go, Evict, Act}
+use Rattle.agent_model.specs.CookieCells.{Domain}
 use Rattle.agent_model.specs.Partition.{Partition}
 use Rattle.agent_model.specs.Sessions.{has_session}
 use Rattle.agent_model.specs.Lines.{AgentWorld, Rest, site_at, main_event}
-use Rattle.agent_model.specs.TheMachine.{Nothing, machine, beginning}
+use Rattle.agent_model.specs.TheMachine.{machine, beginning}
 use Rattle.agent_model.specs.Isolation.{local_script, lines_of_site, replies_to}
 use Rattle.agent_model.specs.Told.{opener_place, entries_told}
 
@@ -21,7 +22,7 @@ use Rattle.agent_model.specs.Told.{opener_place, entries_told}
 
 -- a line gives a site exactly the entries that it is told, whatever cells others have changed
 abbrev pub GivesExactly : Type 0
-GivesExactly = (rules : List Rule) (site : PlainSite) (touched : List Nothing) (w : AgentWorld)
+GivesExactly = (rules : List Rule) (site : PlainSite) (touched : List Domain) (w : AgentWorld)
     (line : PlainAction)
     → line_entries (machine rules) site touched w line
     ≡ entries_told rules site (w.partition site) w.rest line
@@ -29,7 +30,7 @@ GivesExactly = (rules : List Rule) (site : PlainSite) (touched : List Nothing) (
 -- Two worlds with the same partition of a site, the same places and the same clock give the site
 -- the same of each line, and agree in these afterwards.
 abbrev pub GivesByOwn : Type 0
-GivesByOwn = (rules : List Rule) (site : PlainSite) (touched : List Nothing) (v w : AgentWorld)
+GivesByOwn = (rules : List Rule) (site : PlainSite) (touched : List Domain) (v w : AgentWorld)
     (line : PlainAction) → IsAlike (machine rules) site v w
     → (line_entries (machine rules) site touched v line
     ≡ line_entries (machine rules) site touched w line)
@@ -38,7 +39,7 @@ GivesByOwn = (rules : List Rule) (site : PlainSite) (touched : List Nothing) (v 
 
 -- a `tick` and a line that is refused, which have no main event, give no site an entry
 abbrev pub RefusedGivesNone : Type 0
-RefusedGivesNone = (rules : List Rule) (site : PlainSite) (touched : List Nothing) (w : AgentWorld)
+RefusedGivesNone = (rules : List Rule) (site : PlainSite) (touched : List Domain) (w : AgentWorld)
     (line : PlainAction) → main_event rules w line ≡ None
     → line_entries (machine rules) site touched w line ≡ []
 

@@ -6,7 +6,7 @@ use Rattle.std.specs.Prelude.{ℕ, ◌==◌, map, codes, if◌then◌else◌}
 use Rattle.agent_base.specs.declared.refusals.Label.{Label}
 use Rattle.frame_tree.specs.Tree.{has_frame}
 use Rattle.live_state.specs.Tabs.{PlainFrameQueue, PlainTab, empty_queue, queue_of}
-use Rattle.script_lines.specs.Reply as reply
+use Rattle.reply_lines.specs.Reply as reply
 use Rattle.agent_model.specs.Partition.{with_tab}
 use Rattle.agent_model.specs.Done.{Effect, answers}
 

@@ -13,7 +13,7 @@ use Rattle.origin_site.specs.Site.{PlainSite}
 use Rattle.local_area.specs.Area.{Pair}
 use Rattle.frame_tree.specs.Calls.{opened}
 use Rattle.live_state.specs.Tabs.{made_tab}
-use Rattle.script_lines.specs.Reply.{Load}
+use Rattle.reply_lines.specs.Reply.{Load}
 use Rattle.script_lines.specs.declared.words.Method.{Method}
 use Rattle.agent_model.specs.Partition.{SessionKey, Holdings, is_under, with_tab, without_tab}
 use Rattle.agent_model.specs.Done.{Effect, answers}

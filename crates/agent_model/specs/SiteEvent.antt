@@ -8,7 +8,7 @@ use Rattle.unwinding.specs.Machine.{Outcome}
 use Rattle.origin_site.specs.Address.{PlainAddress}
 use Rattle.script_lines.specs.declared.words.Method.{Method}
 use Rattle.script_lines.specs.Script.{DocumentAction}
-use Rattle.script_lines.specs.Reply.{PlainBody}
+use Rattle.reply_lines.specs.Reply.{PlainBody}
 use Rattle.agent_model.specs.Partition.{Holdings, Partition}
 use Rattle.agent_model.specs.Done.{SharedCells, Change, Done}
 

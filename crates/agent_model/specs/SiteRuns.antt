@@ -1,8 +1,9 @@
--- A run in which sites share no cell: the events of each site, its machine over them, and the
--- replies.
+-- A run whose events consult no shared cell: the events of each site, its machine over them, and
+-- the replies.
 -- Source: none; these are the words of the promise.
 -- Our own choice: it says of today's machine, in few words, what the general law says of machines
--- that share cells. Each site steps by its own events, and by nothing else.
+-- whose events consult cells. No event consults one today, so this is of every run. Each site steps
+-- by its own events, and by nothing else.
 use Rattle.std.specs.Prelude.{◌≡◌, ℕ, List, [], ◌∷◌, ◌++◌, filter, map, Option, Some, None}
 use Rattle.std.specs.Prelude.{option_to_list, if◌then◌else◌}
 use Rattle.unwinding.specs.World.{SiteReply}
@@ -22,7 +23,7 @@ use Rattle.agent_model.specs.Isolation.{replies_to}
 
 -- ---- one site
 
--- what an event gives at a site
+-- what an event gives at a site: it sees no shared cell
 abbrev pub step_of : List Rule → Partition → TimedEvent → SiteOutcome
 step_of rules partition event = site_step rules partition no_shared_cells event
 

@@ -1,10 +1,14 @@
 -- The machine of one site as the general law takes it, and the world in which a run begins.
 -- Source: none; it fills in the general machine.
-use Rattle.std.specs.Prelude.{ℕ, true, false, List, []}
+-- Our own choice: no event consults a shared cell.
+use Rattle.std.specs.Prelude.{ℕ, false, List, [], bytes_eq}
 use Rattle.unwinding.specs.Machine.{Machine}
+use Rattle.unwinding.specs.FiniteCells.{get_cell, set_cell, restrict_cells, merge_cells}
 use Rattle.suffix_list.specs.Suffix.{Rule}
 use Rattle.origin_site.specs.Site.{PlainSite, same_plain_site}
 use Rattle.script_lines.specs.Script.{PlainAction}
+use Rattle.agent_model.specs.CookieCells.{Domain, Cookies, domain_order, is_home, is_own}
+use Rattle.agent_model.specs.CookieCells.{equal_cookies}
 use Rattle.agent_model.specs.Partition.{Partition, empty_partition}
 use Rattle.agent_model.specs.Done.{SharedCells, Change, no_shared_cells}
 use Rattle.agent_model.specs.SiteEvent.{TimedEvent, Answer}
@@ -13,27 +17,23 @@ use Rattle.agent_model.specs.Lines.{Rest, AgentWorld, no_places, main_event}
 use Rattle.agent_model.specs.SideEvents.{side_event}
 use Rattle.agent_model.specs.Rest.{refusal, rest_after}
 
--- a cell that sites share, and what one holds. There is none.
-abbrev pub Nothing : Type 0
-Nothing = Unit {0}
-
--- the machine under a list of rules. No event consults a cell.
+-- the machine under a list of rules
 unfoldable pub machine : List Rule
-    → Machine PlainSite Nothing SharedCells Partition Nothing Rest PlainAction TimedEvent Answer
+    → Machine PlainSite Domain SharedCells Partition Cookies Rest PlainAction TimedEvent Answer
     Change
 machine rules =
     record {
       same_site = same_plain_site;
-      same_cell = λ a b. true;
-      same_content = λ a b. true;
-      is_home = λ site cell. false;
-      is_own = λ site cell. false;
-      blank = tt;
-      get = λ cells cell. tt;
-      set = λ cell content cells. cells;
-      restrict = λ test cells. cells;
-      merge = λ test new old. new;
-      listed = λ cells. cells;
+      same_cell = bytes_eq;
+      same_content = equal_cookies;
+      is_home = is_home;
+      is_own = is_own;
+      blank = [];
+      get = get_cell domain_order;
+      set = set_cell domain_order;
+      restrict = restrict_cells domain_order;
+      merge = merge_cells domain_order;
+      listed = λ domains. domains;
       names = λ partition event. [];
       sweeps = λ partition event. false;
       step = site_step rules;

@@ -12,16 +12,16 @@ use Rattle.origin_site.specs.Site.{PlainSite, same_plain_site, site_of_address}
 use Rattle.storage_key.specs.Context.{is_of}
 use Rattle.script_lines.specs.declared.words.Method.{Method}
 use Rattle.script_lines.specs.Script.{PlainAction, Tick, Open, Close, Go, Evict, Act}
+use Rattle.agent_model.specs.CookieCells.{Domain, Cookies}
 use Rattle.agent_model.specs.Partition.{Partition, tab_named}
 use Rattle.agent_model.specs.SiteEvent.{SiteEvent, Acts, Arrives, Leaves, Copies, Closes, Evicts}
 use Rattle.agent_model.specs.SiteEvent.{TopLoad, Opens, Goes, TimedEvent}
 use Rattle.agent_model.specs.Sessions.{has_session}
 use Rattle.agent_model.specs.Lines.{Places, Rest, site_at}
-use Rattle.agent_model.specs.TheMachine.{Nothing}
 
 -- an entry of a local script
 abbrev pub SiteEntry : Type 0
-SiteEntry = Entry Nothing Nothing TimedEvent
+SiteEntry = Entry Domain Cookies TimedEvent
 
 -- an event of this moment, where something is so
 abbrev pub told : Bool → ℕ → SiteEvent → List SiteEntry

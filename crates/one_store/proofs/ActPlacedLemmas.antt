@@ -16,7 +16,7 @@ use Rattle.frame_tree.specs.Keys.{key_of_document}
 use Rattle.live_state.specs.Tabs.{PlainTab, made_tab, queue_of}
 use Rattle.script_lines.specs.declared.words.Method.TheVariants as method
 use Rattle.script_lines.specs.declared.words.Prompt.{Prompt}
-use Rattle.script_lines.specs.Reply.{Plain}
+use Rattle.reply_lines.specs.Reply.{Plain}
 use Rattle.script_lines.specs.Script as script
 use Rattle.script_lines.specs.Script.{DocumentAction, Frame, Nav, Drop, Click, Set, Get, Del, Clear, Len, Key, Persisted, Estimate, Persist}
 use Rattle.agent_model.specs.Partition.{Holdings, tab_named, with_area}

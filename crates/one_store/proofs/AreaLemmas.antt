@@ -6,7 +6,7 @@ use Rattle.local_area.specs.Area.{Pair, quota, area_get, area_nth, area_put, are
 use Rattle.local_area.specs.Put.{PlainPut, same, added, changed, put_answer}
 use Rattle.storage_events.specs.declared.event.AreaKind.{AreaKind}
 use Rattle.storage_events.specs.Event.{PlainEvent}
-use Rattle.script_lines.specs.Reply.{PlainBody, Plain, Text, Number}
+use Rattle.reply_lines.specs.Reply.{PlainBody, Plain, Text, Number}
 use Rattle.agent_model.specs.Partition.{Holdings, is_under, with_area}
 use Rattle.agent_model.specs.Done.{SharedCells, Effect, answers, ok}
 use Rattle.agent_model.specs.Documents.{Keyed, told}

@@ -9,13 +9,14 @@ use Rattle.unwinding.specs.LocalEntries.{Entry, main_entries, line_entries, main
 use Rattle.origin_site.specs.Site.{PlainSite, same_plain_site, site_of_address}
 use Rattle.script_lines.specs.declared.words.Method.TheVariants as method
 use Rattle.script_lines.specs.Script.{PlainAction, Tick, Open}
+use Rattle.agent_model.specs.CookieCells.{Domain, Cookies}
 use Rattle.agent_model.specs.Partition.{Holdings, no_holdings}
 use Rattle.agent_model.specs.Done.{no_shared_cells}
 use Rattle.agent_model.specs.SiteEvent.{TimedEvent, Answer, Arrives, Opens}
 use Rattle.agent_model.specs.Sessions.{show}
 use Rattle.agent_model.specs.Lines.{AgentWorld, SiteOccurrence, Places, User, no_places, placed, site_at, opening, main_event}
 use Rattle.agent_model.specs.SideEvents.{side_event}
-use Rattle.agent_model.specs.TheMachine.{Nothing, machine}
+use Rattle.agent_model.specs.TheMachine.{machine}
 use Rattle.agent_model.specs.Isolation.{local_script}
 use Rattle.one_store.specs.WholeWorld.{whole_world}
 use Rattle.agent_model.proofs.StandardFacts.{address, site, a, b}
@@ -25,14 +26,14 @@ use Rattle.one_store.proofs.WorldCloseLemmas.{tick_makes}
 use Rattle.one_store.proofs.WorldOpenLemmas.{open_makes}
 
 abbrev Given : Type 0
-Given = List (Entry Nothing Nothing TimedEvent)
+Given = List (Entry Domain Cookies TimedEvent)
 
 -- no cell is ever changed
 untouched : (s : PlainSite) (w : AgentWorld) (l : PlainAction) → line_touched (machine []) s [] w l ≡ []
 unfolding line_touched machine
 untouched s w l = at (main_event [] w l)
   where
-    by : (mine : Bool) → ◌≡◌ {A = List Nothing} (cond mine [] []) []
+    by : (mine : Bool) → ◌≡◌ {A = List Domain} (cond mine [] []) []
     by true = refl
     by false = refl
 

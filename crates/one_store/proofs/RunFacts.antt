@@ -1,5 +1,5 @@
 -- What short runs reply and what they give a site, worked out by hand.
-use Rattle.std.proofs.Common.{◌≡◌, false, refl, ap, sym, ◌∙◌, List, [], ◌∷◌, Some, None}
+use Rattle.std.proofs.Common.{◌≡◌, false, refl, ap, subst, sym, ◌∙◌, List, [], ◌∷◌, Some, None}
 use Rattle.std.specs.Prelude.{codes, option_map}
 use Rattle.std.specs.Cmp.{nat_cmp_total}
 use Rattle.std.specs.Ordering.{nat_cmp}
@@ -15,7 +15,7 @@ use Rattle.local_area.specs.Put.{put_answer}
 use Rattle.storage_events.specs.declared.event.AreaKind.TheVariants.{Local}
 use Rattle.storage_events.specs.Event.{PlainEvent}
 use Rattle.script_lines.specs.declared.words.Method.TheVariants as method
-use Rattle.script_lines.specs.Reply.{Load, Text}
+use Rattle.reply_lines.specs.Reply.{Load, Text}
 use Rattle.script_lines.specs.Script.{PlainAction, DocumentAction, Open, Act, Set, Get}
 use Rattle.agent_model.specs.Partition.{Holdings, no_holdings, tab_named, area_of}
 use Rattle.agent_model.specs.Done.{Done, no_shared_cells, ok}
@@ -28,6 +28,7 @@ use Rattle.agent_model.specs.Lines.{AgentWorld, Places, User, no_places, placed,
 use Rattle.agent_model.specs.TheMachine.{machine}
 use Rattle.agent_model.specs.Isolation.{replies_to}
 use Rattle.one_store.specs.WholeWorld.{whole_world, IsPlaced}
+use Rattle.agent_model.proofs.ApartLemmas.{act_apart}
 use Rattle.agent_model.proofs.KeptLemmas as kept
 use Rattle.agent_model.proofs.StandardFacts.{address, site, at_frame, a}
 use Rattle.agent_model.proofs.StorageFacts.{shows_a, writer, key_a, k, v, pairs}
@@ -118,7 +119,9 @@ last_line =
 last_two : replies (machine []) (whole_world 7 at_a no_shared_cells opened_held) (sets ∷ gets ∷ []) ≡ told_at (site a) sets ok ∷ told_at (site a) gets (Text (Some v)) ∷ []
 last_two =
     then (whole_world 7 at_a no_shared_cells opened_held) (whole_world 7 at_a no_shared_cells set_held) sets _ (gets ∷ [])
-    (act_makes [] 7 at_a no_shared_cells opened_held opened_placed (at_frame 1 0) setting (shows_a 1) one_shows_a (site a) one_is_at_a)
+    (subst (λ cells. LineMakes [] (whole_world 7 at_a no_shared_cells opened_held) sets (whole_world 7 at_a cells set_held) (told_at (site a) sets (act_in [] 7 (at_frame 1 0) setting (shows_a 1) no_shared_cells opened_held).body))
+    (ap (λ (done : Done). done.cells) (act_apart [] 7 (at_frame 1 0) setting (shows_a 1) no_shared_cells opened_held))
+    (act_makes [] 7 at_a no_shared_cells opened_held opened_placed (at_frame 1 0) setting (shows_a 1) one_shows_a (site a) one_is_at_a))
     ∙ λ i. told_at (site a) sets (set_done i).body ∷ last_line i
 
 set_and_read : replies_to [] 7 (opens ∷ sets ∷ gets ∷ []) ≡ told_at (site a) opens (Load None []) ∷ told_at (site a) sets ok ∷ told_at (site a) gets (Text (Some v)) ∷ []

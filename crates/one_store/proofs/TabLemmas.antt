@@ -9,7 +9,7 @@ use Rattle.origin_site.specs.Site.{PlainSite}
 use Rattle.frame_tree.specs.declared.tab.TreeFault.{TreeFault}
 use Rattle.frame_tree.specs.Calls.{opened}
 use Rattle.frame_tree.specs.Tree.{PlainFrame, has_frame}
-use Rattle.script_lines.specs.Reply as reply
+use Rattle.reply_lines.specs.Reply as reply
 use Rattle.live_state.specs.Tabs.{PlainTab, made_tab, queue_of}
 use Rattle.agent_model.specs.Queues.{with_taken, take_queue, take_events}
 use Rattle.agent_model.specs.Partition.{Holdings, with_tab, without_tab}

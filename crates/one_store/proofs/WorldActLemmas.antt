@@ -1,6 +1,6 @@
 -- What an action of a document makes of the world of all sites, and what is refused because no tab
 -- of its number is open.
-use Rattle.std.proofs.Common.{◌≡◌, ℕ, Bool, true, false, List, Option, Some, None, refl, sym, ap, ◌∙◌}
+use Rattle.std.proofs.Common.{◌≡◌, ℕ, Bool, true, false, List, Option, Some, None, refl, sym, ap, subst, ◌∙◌}
 use Rattle.std.specs.Prelude.{codes, option_map}
 use Rattle.std.specs.Cmp.{nat_cmp_total}
 use Rattle.std.specs.Ordering.{nat_cmp}
@@ -12,10 +12,10 @@ use Rattle.origin_site.specs.Site.{PlainSite, same_plain_site, site_of_address}
 use Rattle.storage_key.specs.Context.{is_of}
 use Rattle.live_state.specs.Tabs.{PlainTab}
 use Rattle.script_lines.specs.declared.words.Method.{Method}
-use Rattle.script_lines.specs.Reply.{Plain}
+use Rattle.reply_lines.specs.Reply.{Plain}
 use Rattle.script_lines.specs.Script.{Close, Go, Act, DocumentAction}
 use Rattle.agent_model.specs.Partition.{Holdings, tab_named}
-use Rattle.agent_model.specs.Done.{SharedCells, Done}
+use Rattle.agent_model.specs.Done.{SharedCells, Done, no_shared_cells}
 use Rattle.agent_model.specs.SiteEvent.{Acts, Closes, replied}
 use Rattle.agent_model.specs.ActionNames.{document_action_name}
 use Rattle.agent_model.specs.SiteStep.{act_in, act, site_step}
@@ -23,7 +23,8 @@ use Rattle.agent_model.specs.Lines.{AgentWorld, Places, site_at, occurs, going, 
 use Rattle.agent_model.specs.SideEvents.{leaves, closes, side_event}
 use Rattle.agent_model.specs.Rest.{refusal, rest_after, places_after}
 use Rattle.agent_model.proofs.KeptLemmas as kept
-use Rattle.one_store.specs.HeldAt.{held_at}
+use Rattle.agent_model.proofs.ApartLemmas.{with_cells, act_apart}
+use Rattle.one_store.specs.HeldAt.{held_at, done_at}
 use Rattle.one_store.specs.WholeWorld.{partition_at, whole_world, IsPlaced}
 use Rattle.one_store.proofs.HeldLemmas.{tab_seen}
 use Rattle.one_store.proofs.ActLemmas.{act_seen, act_unseen}
@@ -50,17 +51,27 @@ module _ (rules : List Rule) (now : ℕ) (places : Places) (cells : SharedCells)
         sym (act_unseen rules now site (here site) cells held (keyed_at places held placed_all site) at tab at_its_site found other (here other) apart (keyed_at places held placed_all other)
         (ap (is_of other) place ∙ apart) action)
 
+    -- the site's own action sees no shared cell
+    seen : act_in rules now at action tab no_shared_cells (held_at site (here site) held) ≡ with_cells no_shared_cells (done_at site (here site) done)
+    seen =
+        act_seen rules now site (here site) no_shared_cells held (keyed_at places held placed_all site) at tab at_its_site found action
+        ∙ ap (done_at site (here site)) (act_apart rules now at action tab no_shared_cells held)
+        ∙ ap (λ d. with_cells no_shared_cells (done_at site (here site) d)) (sym (act_apart rules now at action tab cells held))
+
     -- a line acts in its tab
     pub act_makes : LineMakes rules (whole_world now places cells held) (Act at action) (whole_world now places done.cells done.held) (told_at site (Act at action) done.body)
     unfolding whole_world main_event side_event rest_after site_step
     act_makes =
-        line_happens rules (whole_world now places cells held) (Act at action) (partition_at places done.held) (record { now = now; places = places }) refl site (record { moment = now; event = Acts at action })
-        done.cells done.changes (record { name = document_action_name action; body = done.body })
-        (ap (option_map (occurs (whole_world now places cells held) (Acts at action))) place)
-        (ap (λ (t : Option PlainTab). act rules now at action t cells (partition_at places held site)) (tab_seen site (here site) held at.tab at_its_site ∙ found)
-        ∙ ap (replied (partition_at places held site) (document_action_name action))
-        (act_seen rules now site (here site) cells held (keyed_at places held placed_all site) at tab at_its_site found action))
+        subst (λ left. LineMakes rules w (Act at action) (whole_world now places left done.held) (told_at site (Act at action) done.body)) (sym (ap (λ (d : Done). d.cells) (act_apart rules now at action tab cells held)))
+        (line_happens rules w (Act at action) (partition_at places done.held) (record { now = now; places = places }) refl site (record { moment = now; event = Acts at action })
+        done.changes (record { name = document_action_name action; body = done.body })
+        (ap (option_map (occurs w (Acts at action))) place)
         (λ other apart. ap (λ h. record { site = other; held = h }) (unseen other apart))
+        (ap (λ (t : Option PlainTab). act rules now at action t no_shared_cells (partition_at places held site)) (tab_seen site (here site) held at.tab at_its_site ∙ found)
+        ∙ ap (replied (partition_at places held site) (document_action_name action)) seen))
+      where
+        w : AgentWorld
+        w = whole_world now places cells held
 
 -- ---- where no tab of its number is open
 

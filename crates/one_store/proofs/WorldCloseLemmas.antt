@@ -9,7 +9,7 @@ use Rattle.suffix_list.specs.Suffix.{Rule}
 use Rattle.origin_site.specs.Site.{PlainSite, same_plain_site}
 use Rattle.storage_key.specs.Context.{is_of}
 use Rattle.live_state.specs.Tabs.{PlainTab}
-use Rattle.script_lines.specs.Reply.{Now}
+use Rattle.reply_lines.specs.Reply.{Now}
 use Rattle.script_lines.specs.Script.{Tick, Close, Evict}
 use Rattle.agent_model.specs.Partition.{Partition, Holdings, tab_named}
 use Rattle.agent_model.specs.Done.{SharedCells, no_shared_cells, ok}
@@ -44,9 +44,9 @@ module _ (rules : List Rule) (now : ℕ) (places : Places) (cells : SharedCells)
   pub evict_makes : (site : PlainSite) → LineMakes rules (whole_world now places cells held) (Evict site) (whole_world now places (evict site cells held).cells (evict site cells held).held) (told_at site (Evict site) (evict site cells held).body)
   unfolding whole_world main_event side_event rest_after site_step
   evict_makes site =
-      line_happens rules w (Evict site) (partition_at places (evict site cells held).held) w.rest refl site (timed w Evicts) (evict site cells held).cells (evict site cells held).changes (record { name = _; body = (evict site cells held).body }) refl
-      (ap (replied (partition_at places held site) _) (evict_seen site (λ tab. is_of site (site_at tab places)) held cells))
+      line_happens rules w (Evict site) (partition_at places (evict site cells held).held) w.rest refl site (timed w Evicts) (evict site cells held).changes (record { name = _; body = (evict site cells held).body }) refl
       (λ other apart. ap (λ h. record { site = other; held = h }) (sym (evict_unseen site other (λ tab. is_of other (site_at tab places)) cells held apart)))
+      (ap (replied (partition_at places held site) _) (evict_seen site (λ tab. is_of site (site_at tab places)) held no_shared_cells))
     where
       w : AgentWorld
       w = whole_world now places cells held
@@ -105,15 +105,15 @@ module _ (places : Places) (held : Holdings) (placed_all : IsPlaced places held)
     unfolding whole_world main_event rest_after site_step
     close_makes =
         line_happens rules w (Close tab) (partition_at (finite.remove places tab) (close tab held)) (record { now = now; places = finite.remove places tab }) refl
-        here (timed w (Closes tab)) cells [] (record { name = _; body = ok }) (ap (option_map (occurs w (Closes tab))) place) step
-        (λ site apart. beside_by site None (other_there site apart) ∙ other_closed site apart (has_session tab (before site).held) refl ∙ ap (λ h. record { site = site; held = h }) (closed_there site))
+        here (timed w (Closes tab)) [] (record { name = _; body = ok }) (ap (option_map (occurs w (Closes tab))) place)
+        (λ site apart. beside_by site None (other_there site apart) ∙ other_closed site apart (has_session tab (before site).held) refl ∙ ap (λ h. record { site = site; held = h }) (closed_there site)) step
       where
         w : AgentWorld
         w = whole_world now places cells held
 
-        step : site_step rules (beside rules w (Close tab) here) cells (timed w (Closes tab))
-            ≡ outcome_of (partition_at (finite.remove places tab) (close tab held) here) cells [] (told_at here (Close tab) ok).reply
+        step : site_step rules (beside rules w (Close tab) here) no_shared_cells (timed w (Closes tab))
+            ≡ outcome_of (partition_at (finite.remove places tab) (close tab held) here) no_shared_cells [] (told_at here (Close tab) ok).reply
         step =
-            ap (λ (p : Partition). close_at tab (tab_named tab p.held) cells p) (beside_by here (Some (open_tab places held placed_all tab here place).0) here_there)
-            ∙ ap (λ (t : Option PlainTab). close_at tab t cells (before here)) here_there
-            ∙ ap (λ h. outcome_of (record { site = here; held = h }) cells [] (told_at here (Close tab) ok).reply) (closed_there here)
+            ap (λ (p : Partition). close_at tab (tab_named tab p.held) no_shared_cells p) (beside_by here (Some (open_tab places held placed_all tab here place).0) here_there)
+            ∙ ap (λ (t : Option PlainTab). close_at tab t no_shared_cells (before here)) here_there
+            ∙ ap (λ h. outcome_of (record { site = here; held = h }) no_shared_cells [] (told_at here (Close tab) ok).reply) (closed_there here)

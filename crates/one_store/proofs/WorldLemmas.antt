@@ -1,11 +1,13 @@
 -- What a line makes of a world and what it is answered, from what its events make of each site.
-use Rattle.std.proofs.Common.{◌≡◌, Bool, true, false, cond, List, Option, Some, None, refl, sym, ap, ◌∙◌}
-use Rattle.unwinding.specs.World.{SiteReply, after_sides, after_main, world_step, main_reply, line_reply}
+use Rattle.std.proofs.Common.{◌≡◌, Bool, true, false, cond, List, Option, Some, None, refl, sym, ap, subst, ◌∙◌}
+use Rattle.unwinding.specs.FiniteCells.{restrict_cells, merge_cells}
+use Rattle.unwinding.specs.World.{SiteReply, consulted, after_side, after_sides, after_main, world_step, main_reply, line_reply}
 use Rattle.suffix_list.specs.Suffix.{Rule}
 use Rattle.origin_site.specs.Site.{PlainSite, same_plain_site}
 use Rattle.origin_site.proofs.SameLemmas.{same_plain_site-Decides}
 use Rattle.script_lines.specs.Script.{PlainAction}
-use Rattle.script_lines.specs.Reply.{PlainBody}
+use Rattle.reply_lines.specs.Reply.{PlainBody}
+use Rattle.agent_model.specs.CookieCells.{Domain, domain_order}
 use Rattle.agent_model.specs.Partition.{Partition}
 use Rattle.agent_model.specs.Done.{SharedCells, Change, no_shared_cells}
 use Rattle.agent_model.specs.SiteEvent.{TimedEvent, Answer, SiteOutcome}
@@ -14,6 +16,7 @@ use Rattle.agent_model.specs.Lines.{AgentWorld, Rest, main_event}
 use Rattle.agent_model.specs.SideEvents.{side_event}
 use Rattle.agent_model.specs.Rest.{refusal, rest_after}
 use Rattle.agent_model.specs.TheMachine.{machine}
+use Rattle.agent_model.proofs.CookieCellsLemmas.{none_seen, none_left}
 use Rattle.one_store.specs.Store.{null_reply, site_reply}
 
 -- the reply of a site to a line
@@ -43,53 +46,84 @@ module _ (rules : List Rule) (w : AgentWorld) (action : PlainAction) where
   abbrev pub beside : PlainSite → Partition
   beside site = after_event rules (side_event rules w action site) (w.partition site)
 
+  -- the same in the words of the general law
+  beside_is : (site : PlainSite) → (after_sides (machine rules) w action).partition site ≡ beside site
+  unfolding machine
+  beside_is site = by (side_event rules w action site)
+    where
+      by : (side : Option TimedEvent) → after_side (machine rules) w.cells side (w.partition site) ≡ after_event rules side (w.partition site)
+      by None = refl
+      by (Some event) = ap (λ cells. (site_step rules (w.partition site) cells event).partition) (none_seen w.cells)
+
   module _ (after : PlainSite → Partition) (rest : Rest) (later : rest_after rules w action ≡ rest) where
     -- the world afterwards
     abbrev world_then : SharedCells → AgentWorld
     world_then cells = record { partition = after; cells = cells; rest = rest }
 
-    -- a line that is an event of a site, which changes that site and the shared cells, and is answered
-    pub line_happens : (site : PlainSite) (event : TimedEvent) (cells : SharedCells) (changes : List Change) (answer : Answer) → main_event rules w action ≡ Some (record { site = site; event = event })
-        → site_step rules (beside site) w.cells event ≡ outcome_of (after site) cells changes answer
-        → ((other : PlainSite) → same_plain_site other site ≡ false → beside other ≡ after other)
-        → LineMakes rules w action (world_then cells) (record { site = Some site; reply = answer })
-    unfolding world_step line_reply machine
-    line_happens site event cells changes answer main step others = record { world = to_main ∙ λ i. record { partition = λ t. each t i; cells = (step i).cells; rest = later i }; reply = replies }
-      where
-        to_main : world_step (machine rules) w action
-            ≡ record {
-              partition = λ t. cond (same_plain_site t site) (site_step rules (beside site) w.cells event).partition (beside t);
-              cells = (site_step rules (beside site) w.cells event).cells;
-              rest = rest_after rules w action;
-            }
-        to_main =
-            ap (λ o. let v : AgentWorld = after_main (machine rules) (after_sides (machine rules) w action) o in record { partition = v.partition; cells = v.cells; rest = rest_after rules w action }) main
+    module _ (site : PlainSite) (event : TimedEvent) (changes : List Change) (answer : Answer) (main : main_event rules w action ≡ Some (record { site = site; event = event }))
+        (others : (other : PlainSite) → same_plain_site other site ≡ false → beside other ≡ after other) where
+      -- the cells that the event consults
+      abbrev asked : Domain → Bool
+      asked = consulted (machine rules) site (beside site) event
 
-        at : (t : PlainSite) (b : Bool) → same_plain_site t site ≡ b → cond b (site_step rules (beside site) w.cells event).partition (beside t) ≡ after t
-        at t true is = ap (λ (o : SiteOutcome). o.partition) step ∙ ap after (sym ((same_plain_site-Decides t site).0 is))
-        at t false is = others t is
+      -- a line that is an event of a site, which changes that site and the cells that it consults, and is answered
+      pub line_consults : (left : SharedCells) → site_step rules (beside site) (restrict_cells domain_order asked w.cells) event ≡ outcome_of (after site) left changes answer
+          → LineMakes rules w action (world_then (merge_cells domain_order asked left w.cells)) (record { site = Some site; reply = answer })
+      unfolding world_step line_reply machine
+      line_consults left step = record { world = to_main ∙ λ i. record { partition = λ t. each t i; cells = merge_cells domain_order asked (step i).cells w.cells; rest = later i }; reply = replies }
+        where
+          -- what the event gives where its site has this partition
+          given : Partition → SiteOutcome
+          given p = site_step rules p (restrict_cells domain_order (consulted (machine rules) site p event) w.cells) event
 
-        each : (t : PlainSite) → cond (same_plain_site t site) (site_step rules (beside site) w.cells event).partition (beside t) ≡ after t
-        each t = at t (same_plain_site t site) refl
+          to_main : world_step (machine rules) w action
+              ≡ record {
+                partition = λ t. cond (same_plain_site t site) (given (beside site)).partition (beside t);
+                cells = merge_cells domain_order asked (given (beside site)).cells w.cells;
+                rest = rest_after rules w action;
+              }
+          to_main =
+              ap (λ o. let v : AgentWorld = after_main (machine rules) (after_sides (machine rules) w action) o in record { partition = v.partition; cells = v.cells; rest = rest_after rules w action }) main
+              ∙ λ i. record {
+                partition = λ t. cond (same_plain_site t site) (given (beside_is site i)).partition (beside_is t i);
+                cells = merge_cells domain_order (consulted (machine rules) site (beside_is site i) event) (given (beside_is site i)).cells w.cells;
+                rest = rest_after rules w action;
+              }
 
-        replies : line_reply (machine rules) w action ≡ record { site = Some site; reply = answer }
-        replies =
-            ap (main_reply (machine rules) (after_sides (machine rules) w action) (refusal w action)) main
-            ∙ ap (λ (o : SiteOutcome). main_reply_of o.reply) step
-          where
-            main_reply_of : Option Answer → SiteReply PlainSite Answer
-            main_reply_of None = record { site = None; reply = refusal w action }
-            main_reply_of (Some r) = record { site = Some site; reply = r }
+          at : (t : PlainSite) (b : Bool) → same_plain_site t site ≡ b → cond b (given (beside site)).partition (beside t) ≡ after t
+          at t true is = ap (λ (o : SiteOutcome). o.partition) step ∙ ap after (sym ((same_plain_site-Decides t site).0 is))
+          at t false is = others t is
+
+          each : (t : PlainSite) → cond (same_plain_site t site) (given (beside site)).partition (beside t) ≡ after t
+          each t = at t (same_plain_site t site) refl
+
+          replies : line_reply (machine rules) w action ≡ record { site = Some site; reply = answer }
+          replies =
+              ap (main_reply (machine rules) (after_sides (machine rules) w action) (refusal w action)) main
+              ∙ ap (λ p. main_reply_of (given p).reply) (beside_is site)
+              ∙ ap (λ (o : SiteOutcome). main_reply_of o.reply) step
+            where
+              main_reply_of : Option Answer → SiteReply PlainSite Answer
+              main_reply_of None = record { site = None; reply = refusal w action }
+              main_reply_of (Some r) = record { site = Some site; reply = r }
+
+      -- a line whose event consults no cell leaves them all
+      pub line_happens : site_step rules (beside site) no_shared_cells event ≡ outcome_of (after site) no_shared_cells changes answer
+          → LineMakes rules w action (world_then w.cells) (record { site = Some site; reply = answer })
+      unfolding machine
+      line_happens step =
+          subst (λ cells. LineMakes rules w action (world_then cells) (record { site = Some site; reply = answer })) (none_left no_shared_cells w.cells)
+          (line_consults no_shared_cells (ap (λ cells. site_step rules (beside site) cells event) (none_seen w.cells) ∙ step))
 
     -- a line that has no such event
     pub line_refused : main_event rules w action ≡ None → ((site : PlainSite) → beside site ≡ after site) → LineMakes rules w action (world_then w.cells) (record { site = None; reply = refusal w action })
     unfolding world_step line_reply machine
     line_refused main each =
         record {
-          world = to_sides ∙ λ i. record { partition = λ t. each t i; cells = w.cells; rest = later i };
+          world = to_sides ∙ λ i. record { partition = λ t. (beside_is t ∙ each t) i; cells = w.cells; rest = later i };
           reply = ap (main_reply (machine rules) (after_sides (machine rules) w action) (refusal w action)) main;
         }
       where
-        to_sides : world_step (machine rules) w action ≡ record { partition = beside; cells = w.cells; rest = rest_after rules w action }
+        to_sides : world_step (machine rules) w action ≡ record { partition = (after_sides (machine rules) w action).partition; cells = w.cells; rest = rest_after rules w action }
         to_sides =
             ap (λ o. let v : AgentWorld = after_main (machine rules) (after_sides (machine rules) w action) o in record { partition = v.partition; cells = v.cells; rest = rest_after rules w action }) main

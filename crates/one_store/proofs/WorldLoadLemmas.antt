@@ -8,10 +8,10 @@ use Rattle.origin_site.specs.Address.{PlainAddress}
 use Rattle.origin_site.specs.Site.{PlainSite, same_plain_site, site_of_address}
 use Rattle.storage_key.specs.Context.{is_of}
 use Rattle.script_lines.specs.declared.words.Method.{Method}
-use Rattle.script_lines.specs.Reply.{Load}
+use Rattle.reply_lines.specs.Reply.{Load}
 use Rattle.script_lines.specs.Script.{PlainAction, Go}
 use Rattle.agent_model.specs.Partition.{Holdings}
-use Rattle.agent_model.specs.Done.{SharedCells, answers}
+use Rattle.agent_model.specs.Done.{SharedCells, no_shared_cells, answers}
 use Rattle.agent_model.specs.SiteEvent.{TopLoad, Goes, Arrives, Leaves, replied}
 use Rattle.agent_model.specs.Sessions.{show}
 use Rattle.agent_model.specs.ActionNames.{load_name}
@@ -71,10 +71,9 @@ module _ (rules : List Rule) (places : Places) (tab : ℕ) (url : PlainAddress) 
     unfolding whole_world site_step
     load_makes action load method same_site main later name here others =
         line_happens rules world action (partition_at there (show rules tab url before)) (record { now = now; places = there }) later target
-        (record { moment = now; event = Arrives load tab url method same_site }) cells [] (record { name = _; body = Load None [] }) main
-        (ap (λ p. site_step rules p cells (record { moment = now; event = Arrives load tab url method same_site })) here
-        ∙ λ i. replied (partition_at places before target) (name i) (answers (Load None []) cells (show_seen target (was_at target) before (comes_to target) tab (others_stay target) rules url (arrived target ∙ is_there target) i)))
-        others
+        (record { moment = now; event = Arrives load tab url method same_site }) [] (record { name = _; body = Load None [] }) main others
+        (ap (λ p. site_step rules p no_shared_cells (record { moment = now; event = Arrives load tab url method same_site })) here
+        ∙ λ i. replied (partition_at places before target) (name i) (answers (Load None []) no_shared_cells (show_seen target (was_at target) before (comes_to target) tab (others_stay target) rules url (arrived target ∙ is_there target) i)))
 
 -- ---- go
 

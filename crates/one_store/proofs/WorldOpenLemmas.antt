@@ -7,7 +7,7 @@ use Rattle.origin_site.specs.Site.{PlainSite, same_plain_site, site_of_address}
 use Rattle.origin_site.proofs.SameLemmas.{same_plain_site-Decides}
 use Rattle.storage_key.specs.Context.{is_of}
 use Rattle.script_lines.specs.declared.words.Method.{Method}
-use Rattle.script_lines.specs.Reply.{Plain, Load}
+use Rattle.reply_lines.specs.Reply.{Plain, Load}
 use Rattle.script_lines.specs.Script.{Open}
 use Rattle.agent_model.specs.Partition.{Holdings}
 use Rattle.agent_model.specs.Done.{SharedCells}

@@ -12,7 +12,7 @@ use Rattle.origin_site.specs.Address.{PlainAddress}
 use Rattle.origin_site.specs.Site.{PlainSite, site_of_address}
 use Rattle.live_state.specs.Tabs.{PlainTab}
 use Rattle.script_lines.specs.declared.words.Method.{Method}
-use Rattle.script_lines.specs.Reply.{PlainBody, Plain, Now}
+use Rattle.reply_lines.specs.Reply.{PlainBody, Plain, Now}
 use Rattle.script_lines.specs.Script.{PlainAction, Tick, Open, Close, Go, Evict, Act, DocumentAction}
 use Rattle.agent_model.specs.Partition.{Holdings, no_holdings, tab_named}
 use Rattle.agent_model.specs.Done.{SharedCells, Done, no_shared_cells, answers, ok}

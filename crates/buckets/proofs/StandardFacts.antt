@@ -6,7 +6,7 @@ use Rattle.local_area.specs.Area.{Pair}
 use Rattle.buckets.specs.declared.shed.Bucket.{Bucket}
 use Rattle.buckets.specs.declared.shed.Mode.TheVariants.{BestEffort, Persistent}
 use Rattle.std.specs.Prelude.{true, false}
-use Rattle.buckets.specs.Shed.{area_at, held_area, mode_at, made, persisted, has_best_effort, with_pairs, without_fresh, evicted, count_evicted, fresh_bucket}
+use Rattle.buckets.specs.Shed.{area_at, pairs_at, mode_at, made, persisted, has_best_effort, with_pairs, without_fresh, evicted, count_evicted, fresh_bucket}
 
 abbrev one : List Pair
 one = record { name = codes "k"; value = codes "v" } ∷ []
@@ -27,7 +27,7 @@ area_of_bucket = refl
 area_of_none : area_at nat_cmp 4 three ≡ None
 area_of_none = refl
 
-pairs_of_none : held_area nat_cmp 4 three ≡ []
+pairs_of_none : pairs_at nat_cmp 4 three ≡ []
 pairs_of_none = refl
 
 mode_of_bucket : mode_at nat_cmp 5 three ≡ Persistent

@@ -41,8 +41,8 @@ module _ {K : Type 0} (cmp : K → K → Ordering) where
   area_at key shed = option_map (λ bucket. bucket.area) (map_get cmp key shed)
 
   -- the pairs of a key: those of its area, and none where there is no bucket
-  abbrev pub held_area : K → List (K × Bucket) → List Pair
-  held_area key shed = (bucket_at key shed).area
+  abbrev pub pairs_at : K → List (K × Bucket) → List Pair
+  pairs_at key shed = (bucket_at key shed).area
 
   -- the mode of a key's bucket, which is best-effort where there is none
   abbrev pub mode_at : K → List (K × Bucket) → Mode

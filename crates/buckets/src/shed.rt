@@ -1,13 +1,10 @@
 //! The buckets of a shed, by storage key.
 ghost use Rattle.std.specs.Prelude.{◌≡◌, ◌-◌, ◌^◌, min, if◌then◌else◌, [], Some, None, IfOk, OnErr, OnOk, is_some, option_copied};
 ghost use Rattle.std.specs.Borrow.{sem};
-ghost use Rattle.std.specs.List.{AllZip};
-ghost use Rattle.std.specs.List.Sorted.{IsStrictlySortedBy};
-ghost use Rattle.std.specs.Map.{keys_of};
 ghost use Rattle.std.specs.Option.{option_copied_mut};
 ghost use Rattle.local_area.specs.Area.{area_weight};
-ghost use Rattle.key_map.specs.Entries.{map_get, next_key, entries_from, IsCopy, HasSameValues, ClonesCompareEqual};
-ghost use Rattle.buckets.specs.Shed.{area_at, mode_at, held_area, fresh_bucket, made, persisted, has_best_effort, has_fresh, persistent_bucket, without_fresh, evicted, count_evicted, is_best_effort, is_fresh};
+ghost use Rattle.key_map.specs.Entries.{map_get, IsCopy, HasSameValues, ClonesCompareEqual};
+ghost use Rattle.buckets.specs.Shed.{area_at, mode_at, pairs_at, fresh_bucket, made, persisted, has_best_effort, has_fresh, persistent_bucket, without_fresh, evicted, count_evicted, is_best_effort, is_fresh};
 ghost use Rattle.buckets.specs.Evicting.{evicted_one, count_evicted_one};
 ghost use Rattle.buckets.specs.Lends.{LendsArea};
 
@@ -15,7 +12,6 @@ use agent_base::NoMemory;
 use key_map::KeyMap;
 use local_area::Area;
 use std::alloc::{AllocError, Global};
-use std::collections::btree_map::Range;
 use std::marker::Model;
 
 /// Whether a bucket may be taken when storage is short.
@@ -135,7 +131,7 @@ impl<K: Ord + Drop> Shed<K> {
 
     /// The bytes of a key's area, and 0 where there is none.
     pub fn usage(&self, key: &K) -> usize
-        ensures usage { result ≡ area_weight (held_area K.cmp key.now self.now) }
+        ensures usage { result ≡ area_weight (pairs_at K.cmp key.now self.now) }
     {
         match self.buckets.get(key) {
             Some(bucket) => bucket.area.weight(),
@@ -143,20 +139,11 @@ impl<K: Ord + Drop> Shed<K> {
         }
     }
 
-    /// The least key that is greater than `after`, or the least of all without one.
-    pub fn next_key(&self, after: Option<&K>) -> Option<&K>
-        ensures key { option_copied result ≡ next_key K.cmp (option_copied after.entry) self.now }
-        ensures ordered { IsStrictlySortedBy K.cmp (keys_of self.now) }
+    /// The buckets by key, to be read.
+    pub fn buckets(&self) -> &KeyMap<K, Bucket>
+        ensures buckets { result.now ≡ self.now }
     {
-        self.buckets.next_key(after)
-    }
-
-    /// The entries whose keys are not less than `from`, in their order.
-    pub fn range_from(&self, from: &K) -> Range<'_, K, Bucket>
-        ensures entries { result ≡ entries_from K.cmp from.now self.now }
-        ensures ordered { IsStrictlySortedBy K.cmp (keys_of self.now) }
-    {
-        self.buckets.range_from(from)
+        &self.buckets
     }
 
     /// The area of a key that has a bucket, to be changed.
@@ -245,14 +232,6 @@ impl<K: Ord + Drop> Shed<K> {
 }
 
 impl<K: Ord + Clone + Drop> Shed<K> {
-    /// Clones of the keys that have a bucket, in their order.
-    pub fn keys(&self) -> Result<Vec<K>, NoMemory>
-        ensures keys { IfOk result (λ keys. AllZip K.is_clone (keys_of self.now) keys.items) }
-        ensures ordered { IsStrictlySortedBy K.cmp (keys_of self.now) }
-    {
-        self.buckets.keys(self.alloc)
-    }
-
     /// A shed with equal buckets under clones of the keys.
     pub fn copy(&self) -> Result<Shed<K>, NoMemory>
         ensures copied { IfOk result (λ shed. IsCopy K.is_clone

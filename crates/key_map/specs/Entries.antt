@@ -42,6 +42,10 @@ module _ {K V : Type 0} (cmp : K → K → Ordering) where
   abbrev pub entries_from : K → List (K × V) → List (K × V)
   entries_from from entries = filter (λ e. is_le (cmp from e.0)) entries
 
+  -- the entries whose keys are less than this one
+  abbrev pub entries_below : K → List (K × V) → List (K × V)
+  entries_below to entries = filter (λ e. not (is_le (cmp to e.0))) entries
+
   -- each key has the same value in both
   abbrev pub HasSameValues : (old new : List (K × V)) → Type 0
   HasSameValues old new = (key : K) → map_get key new ≡ map_get key old

@@ -5,7 +5,7 @@ ghost use Rattle.std.specs.List.{AllZip};
 ghost use Rattle.std.specs.List.Sorted.{IsStrictlySortedBy};
 ghost use Rattle.std.specs.Map.{keys_of};
 ghost use Rattle.std.specs.Option.{option_copied_mut};
-ghost use Rattle.key_map.specs.Entries.{map_get, map_put, map_remove, next_key, entries_from, IsCopy, HasSameValues, ClonesCompareEqual};
+ghost use Rattle.key_map.specs.Entries.{map_get, map_put, map_remove, next_key, entries_from, entries_below, IsCopy, HasSameValues, ClonesCompareEqual};
 ghost use Rattle.key_map.specs.Lends.{LendsValue};
 
 use agent_base::NoMemory;
@@ -84,6 +84,14 @@ impl<K: Ord + Drop, V: Drop> KeyMap<K, V> {
         ensures ordered { IsStrictlySortedBy K.cmp (keys_of self.now) }
     {
         self.by_key.range((Bound::Included(from), Bound::Unbounded))
+    }
+
+    /// The entries whose keys are less than `to`, in their order.
+    pub fn range_below(&self, to: &K) -> Range<'_, K, V>
+        ensures entries { result ≡ entries_below K.cmp to.now self.now }
+        ensures ordered { IsStrictlySortedBy K.cmp (keys_of self.now) }
+    {
+        self.by_key.range((Bound::Unbounded, Bound::Excluded(to)))
     }
 
     /// The value of a key, to be changed.

@@ -1,6 +1,6 @@
 -- The areas of tabs after a write at one tab.
-use Rattle.std.proofs.Common.{◌≡◌, ◌≢◌, ℕ, Bool, true, false, cond, List, [], ◌∷◌, Option, Some, None, refl, arith, subst, sym, ap, ◌∙◌}
-use Rattle.std.specs.Prelude.{unwrap_or, is_some, OnSome, not, length, ◌==◌}
+use Rattle.std.proofs.Common.{◌≡◌, ◌≢◌, ℕ, Bool, true, false, cond, List, [], ◌∷◌, Option, Some, None, Bor, refl, arith, subst, sym, ap, ◌∙◌}
+use Rattle.std.specs.Prelude.{unwrap_or, is_some, MatchOption, OnSome, option_copied, not, length, ◌==◌}
 use Rattle.std.proofs.lemmas.Bool.Decides.{nat_tests}
 use Rattle.std.specs.declared.cmp.Ordering.{Ordering}
 use Rattle.std.specs.List.{AllZip}
@@ -116,6 +116,12 @@ none_from (Some x) is = absurd (cc is)
 pub both_none : {A : Type 0} (b : Bool) → ◌≡◌ {A = Option A} None (cond b None None)
 both_none true = refl
 both_none false = refl
+
+-- the areas of a tab that are lent, where there are any
+pub areas_lent : {X : Type 0} (lent : Option (Bor (List X))) (at : Option (List X)) → option_copied lent ≡ at
+    → MatchOption lent (unwrap_or at [] ≡ []) (λ areas. areas.now ≡ unwrap_or at [])
+areas_lent None at is = sym (ap (λ o. unwrap_or o []) is)
+areas_lent (Some areas) at is = ap (λ o. unwrap_or o []) is
 
 pub on_some : {A P Q : Type 0} (o : Option A) → (P → Q) → OnSome o P → OnSome o Q
 on_some None f p = tt

@@ -3,7 +3,7 @@ use Rattle.std.proofs.Common.{◌≡◌, ℕ, refl, List, [], ◌∷◌, Some, N
 use Rattle.std.specs.Prelude.{codes}
 use Rattle.std.specs.Ordering.{nat_cmp}
 use Rattle.local_area.specs.Area.{Pair}
-use Rattle.session_area.specs.Sessions.{areas_of, session_area, held_session}
+use Rattle.session_area.specs.Sessions.{areas_of, session_area, session_pairs}
 
 abbrev one : List Pair
 one = record { name = codes "k"; value = codes "v" } ∷ []
@@ -24,7 +24,7 @@ no_area_in_tab = refl
 no_such_tab : session_area nat_cmp 3 3 tabs ≡ None
 no_such_tab = refl
 
-pairs_of_no_area : held_session nat_cmp 4 5 tabs ≡ []
+pairs_of_no_area : session_pairs nat_cmp 4 5 tabs ≡ []
 pairs_of_no_area = refl
 
 tab_without_areas : areas_of 2 tabs ≡ []

@@ -32,8 +32,8 @@ module _ {K : Type 0} (cmp : K → K → Ordering) where
   session_area tab key sessions = map_get cmp key (areas_of tab sessions)
 
   -- the pairs of a tab and a key: those of the area, and none where there is no area
-  abbrev pub held_session : ℕ → K → List (ℕ × List (K × List Pair)) → List Pair
-  held_session tab key sessions = unwrap_or (session_area tab key sessions) []
+  abbrev pub session_pairs : ℕ → K → List (ℕ × List (K × List Pair)) → List Pair
+  session_pairs tab key sessions = unwrap_or (session_area tab key sessions) []
 
   -- the areas of a tab with one at the key: its own, or an empty one
   abbrev pub made_area : K → List (K × List Pair) → List (K × List Pair)

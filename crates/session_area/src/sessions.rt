@@ -1,11 +1,8 @@
 //! The session areas of all tabs.
-ghost use Rattle.std.specs.Prelude.{◌≡◌, ℕ, [], IfNone, IfOk, IfSome, None, OnErr, OnOk, is_some, length, false, not, option_copied, ◌==◌};
+ghost use Rattle.std.specs.Prelude.{◌≡◌, ℕ, [], IfOk, MatchOption, None, OnErr, OnOk, is_some, length, false, not, option_copied, ◌==◌};
 ghost use Rattle.std.specs.Borrow.{sem};
-ghost use Rattle.std.specs.List.{AllZip};
-ghost use Rattle.std.specs.List.Sorted.{IsStrictlySortedBy};
-ghost use Rattle.std.specs.Map.{keys_of};
 ghost use Rattle.std.specs.Option.{option_copied_mut};
-ghost use Rattle.key_map.specs.Entries.{map_get, entries_from, IsCopy, HasSameValues, ClonesCompareEqual};
+ghost use Rattle.key_map.specs.Entries.{map_get, IsCopy, HasSameValues, ClonesCompareEqual};
 ghost use Rattle.session_area.specs.Sessions.{areas_of, session_area, made_area, without_empty, has_empty, IsCopied, ChangesTab, KeepsOthers, SameAreas};
 ghost use Rattle.session_area.specs.Lends.{LendsSession};
 
@@ -14,7 +11,6 @@ use key_map::KeyMap;
 use local_area::Area;
 use std::alloc::Global;
 use std::collections::BTreeMap;
-use std::collections::btree_map::Range;
 use std::marker::Model;
 
 /// Areas by tab and storage key.
@@ -67,19 +63,12 @@ impl<K: Ord + Drop> Sessions<K> {
         }
     }
 
-    /// The areas of a tab whose keys are not less than `from`, in the order of the keys. None is
-    /// for a tab without areas.
-    pub fn range_from(&self, tab: u16, from: &K) -> Option<Range<'_, K, Area>>
-        ensures areas { IfSome result
-            (λ areas. areas ≡ entries_from K.cmp from.now (areas_of tab self.now)) }
-        ensures ordered { IfSome result
-            (λ areas. IsStrictlySortedBy K.cmp (keys_of (areas_of tab self.now))) }
-        ensures none { IfNone result (areas_of tab self.now ≡ []) }
+    /// The areas of a tab by key, to be read. None is a tab without areas.
+    pub fn areas(&self, tab: u16) -> Option<&KeyMap<K, Area>>
+        ensures areas { MatchOption result (areas_of tab self.now ≡ [])
+            (λ areas. areas.now ≡ areas_of tab self.now) }
     {
-        match self.tabs.get(&tab) {
-            Some(areas) => Some(areas.range_from(from)),
-            None => None,
-        }
+        self.tabs.get(&tab)
     }
 
     /// The area that a tab has under a key, to be changed.
@@ -161,17 +150,6 @@ impl<K: Ord + Drop> Sessions<K> {
 }
 
 impl<K: Ord + Clone + Drop> Sessions<K> {
-    /// Clones of the keys under which a tab has areas, in their order.
-    pub fn keys(&self, tab: u16) -> Result<Vec<K>, NoMemory>
-        ensures keys { IfOk result
-            (λ keys. AllZip K.is_clone (keys_of (areas_of tab self.now)) keys.items) }
-    {
-        match self.tabs.get(&tab) {
-            Some(areas) => areas.keys(self.alloc),
-            None => Ok(Vec::new(self.alloc)),
-        }
-    }
-
     /// The same tabs with equal areas under clones of the keys.
     pub fn copy(&self) -> Result<Sessions<K>, NoMemory>
         ensures copied { IfOk result (λ copy. (tab : ℕ)

@@ -112,6 +112,14 @@ fn areas_of_keys_stand_apart(rt: HostRuntime) -> Result<(), Fail> {
 
 const KEPT: Place = ("https://v.test/", "https://a.test");
 
+// The least key of all, whose origin is that of `A`.
+const FIRST: Place = ("https://w.test/", "http://a.test");
+
+// Keys under the site of `A`, with an origin before and one behind.
+const BEFORE: Place = ("https://u.test/", "https://a.test");
+
+const BEHIND: Place = ("https://x.test/", "https://a.test");
+
 // Makes the bucket of one place persistent, and tells whether that of another is not.
 fn is_persisted(
     alloc: Global,
@@ -125,16 +133,23 @@ fn is_persisted(
     Ok(persisted.is_ok() && storage.is_persistent(&key) && !storage.is_persistent(&other))
 }
 
-// The first eviction empties one area, and the second none.
+// The first eviction empties three areas, and the second none.
 fn check_evictions(rt: &impl Abort, alloc: Global, storage: &mut Storage) -> Result<(), Fail> {
     let site = Site::read(alloc, "https://a.test")?;
-    assert_eq!(rt; storage.evict(&site), Ok(1));
+    assert_eq!(rt; storage.evict(&site), Ok(3));
     assert_eq!(rt; storage.evict(&site), Ok(0));
     Ok(())
 }
 
 fn check_usages(rt: &impl Abort, alloc: Global, storage: &Storage) -> Result<(), Fail> {
-    for (at, want) in [(KEPT, 2), (A, 0), (B, 2)] {
+    for (at, want) in [
+        (KEPT, 2),
+        (A, 0),
+        (B, 2),
+        (FIRST, 2),
+        (BEFORE, 0),
+        (BEHIND, 0),
+    ] {
         assert_eq!(rt; storage.usage(&key_of(alloc, at)?), want);
     }
     Ok(())
@@ -144,7 +159,8 @@ fn check_usages(rt: &impl Abort, alloc: Global, storage: &Storage) -> Result<(),
 fn evictions_spare_persistent_buckets(rt: HostRuntime) -> Result<(), Fail> {
     let alloc = rt.alloc();
     let mut storage = Storage::new(alloc);
-    check_puts(&rt, alloc, &mut storage, AreaKind::Local, &[KEPT, A, B])?;
+    let places = [KEPT, A, B, FIRST, BEFORE, BEHIND];
+    check_puts(&rt, alloc, &mut storage, AreaKind::Local, &places)?;
     assert!(rt; is_persisted(alloc, &mut storage, KEPT, A)?);
     check_evictions(&rt, alloc, &mut storage)?;
     check_usages(&rt, alloc, &storage)
@@ -160,9 +176,18 @@ fn copied(storage: &mut Storage, site: &Site) -> bool {
 fn copies_are_of_one_site(rt: HostRuntime) -> Result<(), Fail> {
     let alloc = rt.alloc();
     let mut storage = Storage::new(alloc);
-    check_puts(&rt, alloc, &mut storage, AreaKind::Session, &[A, B])?;
+    let places = [A, B, FIRST, BEFORE, BEHIND];
+    check_puts(&rt, alloc, &mut storage, AreaKind::Session, &places)?;
     assert!(rt; copied(&mut storage, &Site::read(alloc, "https://a.test")?));
-    for (tab, at, want) in [(1, A, "v"), (1, B, "v"), (2, A, "v"), (2, B, "")] {
+    for (tab, at, want) in [
+        (1, A, "v"),
+        (1, B, "v"),
+        (2, A, "v"),
+        (2, B, ""),
+        (2, FIRST, ""),
+        (2, BEFORE, "v"),
+        (2, BEHIND, "v"),
+    ] {
         check_value(&rt, alloc, &storage, AreaKind::Session, tab, at, want)?;
     }
     Ok(())

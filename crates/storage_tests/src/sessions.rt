@@ -54,10 +54,14 @@ fn check_values(rt: &impl Abort, sessions: &Sessions<u32>) {
 }
 
 fn check_keys(rt: &impl Abort, sessions: &Sessions<u32>) {
-    let keys = sessions.keys(2);
-    assert!(rt; matches!(&keys, Ok(keys) if keys.as_slice() == &[3, 7][..]));
-    let none = sessions.keys(1);
-    assert!(rt; matches!(&none, Ok(keys) if keys.is_empty()));
+    for (after, want) in [(None, Some(3)), (Some(3), Some(7)), (Some(7), None)] {
+        let next = match sessions.areas(2) {
+            Some(areas) => areas.next_key(after.as_ref()).copied(),
+            None => None,
+        };
+        assert_eq!(rt; next, want, "after {after:?}");
+    }
+    assert!(rt; sessions.areas(1).is_none());
 }
 
 #[test]

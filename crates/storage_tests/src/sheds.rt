@@ -89,7 +89,7 @@ fn keys_come_in_order(rt: HostRuntime) -> Result<(), Fail> {
         (Some(7), None),
     ] {
         assert_eq!(rt;
-            shed.next_key(after.as_ref()).copied(),
+            shed.buckets().next_key(after.as_ref()).copied(),
             want,
             "after {after:?}"
         );

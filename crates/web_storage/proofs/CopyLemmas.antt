@@ -1,6 +1,6 @@
 -- What a copy of the session areas of a tab under a site makes of all session areas.
 use Rattle.std.proofs.Common.{◌≡◌, ℕ, ◌==◌, Bool, true, false, cond, not, ◌&&◌, ◌||◌, List, [], ◌∷◌, map, Option, Some, None, inl, inr, refl, sym, ap, subst, ◌∙◌, arith}
-use Rattle.std.specs.Prelude.{◌⊎◌, filter, Result, Ok, Err, OnOk}
+use Rattle.std.specs.Prelude.{◌⊎◌, Result, Ok, Err, OnOk}
 use Rattle.std.proofs.lemmas.Bool.Decides.{nat_tests}
 use Rattle.std.specs.Option.{option_or}
 use Rattle.std.specs.Map.{keys_of}
@@ -22,11 +22,12 @@ use Rattle.agent_model.proofs.KeptLemmas as kept
 use Rattle.agent_model.proofs.SessionLemmas.{get_copied}
 use Rattle.web_storage.specs.Stored.{sessions_in, without_areas}
 use Rattle.agent_model.specs.Partition.{is_under}
-use Rattle.web_storage.specs.Evicting.{HasNone}
+use Rattle.web_storage.specs.Evicting.{AreUnder, HasNone, is_one_of}
 use Rattle.web_storage.proofs.OrderOfKeys.{order, alike}
 use Rattle.web_storage.proofs.ShedLemmas.{found, found-key}
-use Rattle.web_storage.proofs.EvictionLemmas.{is_one_of, among_plain, among_filtered}
-use Rattle.web_storage.proofs.SessionsLemmas.{pairs_or, session_at, session_order_total, session_order_same}
+use Rattle.web_storage.proofs.EvictionLemmas.{among_plain}
+use Rattle.web_storage.proofs.SessionsLemmas.{pairs_or, session_at}
+use Rattle.agent_model.proofs.HoldingsLemmas.{session_order_total, session_order_same}
 use Rattle.web_storage.proofs.SessionWrites.{Tabs, same_sessions, sessions_closed}
 use Rattle.web_storage.proofs.WriteLemmas.{tied_keys}
 
@@ -60,7 +61,7 @@ both_none false = refl
 
 -- the area of a plain key among copies of those that pass a test
 copied_at : (under : PlainKey → Bool) (keys : List StorageKey) (from to : List (StorageKey × List Pair))
-    → map plain_key keys ≡ filter under (map plain_key (keys_of from)) → IsCopied order keys from to
+    → ((q : PlainKey) → is_one_of q (map plain_key keys) ≡ (is_one_of q (map plain_key (keys_of from)) && under q)) → IsCopied order keys from to
     → (q : PlainKey) → found q to ≡ cond (under q) (found q from) None
 copied_at under keys from to are copied q = at (key_or_none q to) (key_or_none q from)
   where
@@ -72,7 +73,7 @@ copied_at under keys from to are copied q = at (key_or_none q to) (key_or_none q
     of_key key =
         sym (found-key order alike key to) ∙ copied key
         ∙ ap (λ b. cond b (map_get order key from) None)
-        (among_plain keys key ∙ ap (is_one_of (plain_key key)) are ∙ among_filtered under (plain_key key) (map plain_key (keys_of from)))
+        (among_plain keys key ∙ are (plain_key key))
         ∙ ap (λ o. cond (is_one_of (plain_key key) (map plain_key (keys_of from)) && under (plain_key key)) o None) (found-key order alike key from)
         ∙ one (is_one_of (plain_key key) (map plain_key (keys_of from))) (under (plain_key key)) (found (plain_key key) from) (not_one_of (plain_key key) from)
 
@@ -102,7 +103,7 @@ none_of_tab tab held none q =
 -- the session areas after a copy to a tab that had none
 pub sessions_copied : (site : PlainSite) (from to : ℕ) (keys : List StorageKey) (old new : Tabs) (held : Holdings)
     → held.sessions ≡ sessions_in old → HasNone to (sessions_in old)
-    → map plain_key keys ≡ filter (is_under site) (map plain_key (keys_of (areas_of from old)))
+    → AreUnder site (map plain_key (keys_of (areas_of from old))) (map plain_key keys)
     → IsCopied order keys (areas_of from old) (areas_of to new) → KeepsOthers to old new
     → sessions_in new ≡ (copy_sessions site from to held).sessions
 unfolding get_cell
@@ -148,7 +149,7 @@ both_ok (Err e) A B C f a b = tt
 -- the session areas after a tab that has none was emptied, and got copies
 pub after_copy : {T E : Type 0} (site : PlainSite) (from to : ℕ) (keys : List StorageKey) (old closed new : Tabs) (held : Holdings)
     → held.sessions ≡ sessions_in old → HasNone to (sessions_in old) → ChangesTab to [] old closed
-    → map plain_key keys ≡ filter (is_under site) (map plain_key (keys_of (areas_of from closed)))
+    → AreUnder site (map plain_key (keys_of (areas_of from closed))) (map plain_key keys)
     → (r : Result T E) → OnOk r (IsCopied order keys (areas_of from closed) (areas_of to new)) → OnOk r (KeepsOthers to closed new)
     → OnOk r (sessions_in new ≡ (copy_sessions site from to held).sessions)
 after_copy site from to keys old closed new held is none changes are r copied keeps =

@@ -1,8 +1,9 @@
 -- What an eviction of the keys under a site makes of the local areas, and how many it empties.
 use Rattle.std.proofs.Common.{◌≡◌, Bool, true, false, cond, not, List, [], ◌∷◌, map, Some, None, refl, sym, ap, subst, ◌∙◌}
 use Rattle.std.specs.Prelude.{◌&&◌, ◌||◌, filter, unwrap_or}
-use Rattle.std.specs.List.{list_any, AllByRecursion}
+use Rattle.std.specs.List.{AllByRecursion}
 use Rattle.std.specs.Map.{keys_of}
+use Rattle.std.proofs.lemmas.Bool.{or_right}
 use Rattle.std.specs.declared.cmp.Ordering.TheVariants.{Less}
 use Rattle.std.specs.Ordering.{is_eq, eq_by_cmp}
 use Rattle.unwinding.specs.FiniteCells.{restrict_cells}
@@ -18,16 +19,12 @@ use Rattle.buckets.specs.Shed.{is_best_effort, fresh_bucket, evicted}
 use Rattle.web_storage.specs.Stored.{areas_in, keys_in}
 use Rattle.std.specs.List.Sorted.{IsStrictlySortedBy}
 use Rattle.agent_model.specs.Partition.{is_under}
-use Rattle.web_storage.specs.Evicting.{is_taken, areas_left_by, key_cmp}
+use Rattle.web_storage.specs.Evicting.{is_one_of, is_taken, areas_left_by, key_cmp}
 use Rattle.web_storage.proofs.OrderOfKeys.{order}
 use Rattle.web_storage.proofs.ShedLemmas.{bucket_at, found, area_at, mode_at}
 use Rattle.web_storage.proofs.WriteLemmas.{ties, tied_keys, same_keys}
 
 -- ---- which keys are taken
-
--- a plain key is one of these
-abbrev pub is_one_of : PlainKey → List PlainKey → Bool
-is_one_of q keys = list_any (λ k. eq_by_cmp key_order k q) keys
 
 and_none : (b : Bool) → (b && false) ≡ false
 and_none true = refl
@@ -60,10 +57,6 @@ each_more : (P Q : StorageKey → Type 0) → ((k : StorageKey) → P k → Q k)
 each_more P Q more [] all = tt
 each_more P Q more (e ∷ es) all = (more e.0 all.0, each_more P Q more es all.1)
 
-or_right : (a b : Bool) → b ≡ true → (a || b) ≡ true
-or_right true b is = refl
-or_right false b is = is
-
 -- each key of a shed is one of its keys
 each_there : (es : List (StorageKey × Bucket)) → EachKey (λ k. is_one_of (plain_key k) (map plain_key (keys_of es)) ≡ true) es
 each_there [] = tt
@@ -75,11 +68,11 @@ each_there (e ∷ es) = (
 
 -- the keys that are taken are those under the site
 pub each_taken : (under : PlainKey → Bool) (keys : List StorageKey) (shed : List (StorageKey × Bucket))
-    → map plain_key keys ≡ filter under (map plain_key (keys_of shed)) → EachKey (λ k. is_among order keys k ≡ under (plain_key k)) shed
+    → ((q : PlainKey) → is_one_of q (map plain_key keys) ≡ (is_one_of q (map plain_key (keys_of shed)) && under q)) → EachKey (λ k. is_among order keys k ≡ under (plain_key k)) shed
 each_taken under keys shed are =
     each_more (λ k. is_one_of (plain_key k) (map plain_key (keys_of shed)) ≡ true) (λ k. is_among order keys k ≡ under (plain_key k))
     (λ k there.
-    among_plain keys k ∙ ap (is_one_of (plain_key k)) are ∙ among_filtered under (plain_key k) (map plain_key (keys_of shed))
+    among_plain keys k ∙ are (plain_key k)
     ∙ ap (λ b. b && under (plain_key k)) there)
     shed (each_there shed)
 

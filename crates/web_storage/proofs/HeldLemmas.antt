@@ -4,7 +4,7 @@ use Rattle.std.specs.Prelude.{MatchOption, OnSome, is_some, option_copied, optio
 use Rattle.std.specs.Option.{option_copied_mut}
 use Rattle.std.specs.Borrow.{MutBor}
 use Rattle.storage_key.proofs.OrderLemmas.{key_order_total, key_order_same}
-use Rattle.web_storage.proofs.SessionsLemmas.{session_order_total, session_order_same}
+use Rattle.agent_model.proofs.HoldingsLemmas.{session_order_total, session_order_same}
 use Rattle.web_storage.proofs.SessionWrites.{cell_itself}
 use Rattle.unwinding.specs.FiniteCells.{get_cell, set_cell}
 use Rattle.storage_key.specs.Key.{PlainKey, key_order}

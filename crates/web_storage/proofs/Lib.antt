@@ -6,7 +6,7 @@ pub mod SessionWrites
 pub mod HeldLemmas
 pub mod EvictionLemmas
 pub mod EvictionCounts
-pub mod KeysLemmas
+pub mod UnderLemmas
 pub mod CopyLemmas
 pub mod CloseLemmas
 pub mod StorageCopies

@@ -14,12 +14,13 @@ use Rattle.storage_key.specs.Plain.{plain_key}
 use Rattle.storage_key.specs.declared.key.StorageKey.{StorageKey}
 use Rattle.local_area.specs.Area.{Pair}
 use Rattle.key_map.specs.Entries.{map_get, map_put, map_remove, map_set}
-use Rattle.session_area.specs.Sessions.{areas_of, session_area, made_area, has_empty, without_empty, ChangesTab, SameAreas, held_session}
+use Rattle.session_area.specs.Sessions.{areas_of, session_area, made_area, has_empty, without_empty, ChangesTab, SameAreas, session_pairs}
 use Rattle.agent_model.specs.Partition.{SessionAreas, session_order}
 use Rattle.web_storage.specs.Stored.{sessions_in, without_areas}
 use Rattle.web_storage.proofs.ShedLemmas.{found, found-put, found-set, found-removed, found-key}
 use Rattle.web_storage.proofs.WriteLemmas.{equal_tie, cond_same}
-use Rattle.web_storage.proofs.SessionsLemmas.{pairs_or, session_at, session_order_total, session_order_same, set_found, without_found}
+use Rattle.web_storage.proofs.SessionsLemmas.{pairs_or, session_at, set_found, without_found}
+use Rattle.agent_model.proofs.HoldingsLemmas.{session_order_total, session_order_same}
 
 -- the session areas of tabs, as a list
 abbrev pub Tabs : Type 0
@@ -127,7 +128,7 @@ empty_pairs (Some (x ∷ xs)) is = grind (arith, nat_tests)
 
 module _ (cmp : StorageKey → StorageKey → Ordering) (alike : (a b : StorageKey) → cmp a b ≡ key_order (plain_key a) (plain_key b)) where
   -- the pairs that a tab has under a key are those of the plain key
-  pub session_held : (tab : ℕ) (key : StorageKey) (tabs : Tabs) → held_session cmp tab key tabs ≡ get_cell session_order (sessions_in tabs) (tab, plain_key key)
+  pub session_held : (tab : ℕ) (key : StorageKey) (tabs : Tabs) → session_pairs cmp tab key tabs ≡ get_cell session_order (sessions_in tabs) (tab, plain_key key)
   session_held tab key tabs = ap pairs_or (found-key cmp alike key (areas_of tab tabs)) ∙ sym (session_at tab (plain_key key) tabs)
 
   -- an area that is there was written

@@ -3,33 +3,22 @@ use Rattle.std.proofs.Common.{◌≡◌, ℕ, ◌==◌, Bool, true, false, cond,
 use Rattle.std.specs.Prelude.{unwrap_or}
 use Rattle.std.specs.declared.cmp.Ordering.{Ordering}
 use Rattle.std.specs.declared.cmp.Ordering.TheVariants.{Less, Equal, Greater}
-use Rattle.std.specs.Cmp.{IsTotalOrder, then_total, on_total, nat_cmp_total, unsigned_tied}
+use Rattle.std.specs.Cmp.{unsigned_tied}
 use Rattle.std.specs.Ordering.{nat_cmp, is_eq, eq_by_cmp, ordering_then}
 use Rattle.std.specs.FinMap as finite
-use Rattle.std.specs.FinMap.{IsAntisymmetric, nat_cmp-IsAntisymmetric, get-empty, get-retain_keys}
+use Rattle.std.specs.FinMap.{get-empty, get-retain_keys}
 use Rattle.unwinding.specs.FiniteCells.{get_cell, set_cell, list_of}
 use Rattle.unwinding.proofs.FiniteCellsLemmas as cells
 use Rattle.storage_key.specs.Key.{PlainKey, key_order}
 use Rattle.storage_key.specs.Plain.{plain_key}
 use Rattle.storage_key.specs.declared.key.StorageKey.{StorageKey}
-use Rattle.storage_key.proofs.OrderLemmas.{key_order_total, key_order_same}
 use Rattle.local_area.specs.Area.{Pair}
 use Rattle.key_map.specs.Entries.{map_get}
 use Rattle.session_area.specs.Sessions.{areas_of}
 use Rattle.agent_model.specs.Partition.{SessionAreas, session_order}
+use Rattle.agent_model.proofs.HoldingsLemmas.{session_order_total, session_order_same}
 use Rattle.web_storage.specs.Stored.{sessions_in, with_areas, without_areas}
 use Rattle.web_storage.proofs.ShedLemmas.{found}
-
-pub session_order_total : IsTotalOrder session_order
-session_order_total = then_total (on_total (λ k. k.0) nat_cmp_total) (on_total (λ k. k.1) key_order_total)
-
-pub session_order_same : IsAntisymmetric session_order
-session_order_same a b e = at (nat_cmp a.0 b.0) refl e
-  where
-    at : (r : Ordering) → nat_cmp a.0 b.0 ≡ r → ordering_then r (key_order a.1 b.1) ≡ Equal → a ≡ b
-    at Less is tie = cc
-    at Equal is tie = λ i. (nat_cmp-IsAntisymmetric a.0 b.0 is i, key_order_same a.1 b.1 tie i)
-    at Greater is tie = cc
 
 -- the pairs of an area that may not be there
 abbrev pub pairs_or : Option (List Pair) → List Pair

@@ -16,7 +16,7 @@ use Rattle.storage_key.proofs.OrderLemmas.{key_order_total, key_order_same}
 use Rattle.local_area.specs.Area.{Pair}
 use Rattle.key_map.specs.Entries.{map_get, map_put, map_remove, map_set}
 use Rattle.buckets.specs.declared.shed.Bucket.{Bucket}
-use Rattle.buckets.specs.Shed.{is_best_effort, is_fresh, fresh_bucket, persistent_bucket, held_area, made, has_fresh, without_fresh, with_pairs, persisted}
+use Rattle.buckets.specs.Shed.{is_best_effort, is_fresh, fresh_bucket, persistent_bucket, pairs_at, made, has_fresh, without_fresh, with_pairs, persisted}
 use Rattle.buckets.specs.Shed.{mode_at as mode_at_key, bucket_at as bucket_at_key}
 use Rattle.agent_model.specs.Partition.{Keys}
 use Rattle.web_storage.specs.Stored.{areas_in, keys_in}
@@ -182,7 +182,7 @@ module _ (cmp : StorageKey → StorageKey → Ordering) (alike : (a b : StorageK
       at false is = (refl, refl)
 
   -- the pairs that a key has are those of its plain key
-  pub held_found : (key : StorageKey) (shed : List (StorageKey × Bucket)) → held_area cmp key shed ≡ get_cell key_order (areas_in shed) (plain_key key)
+  pub held_found : (key : StorageKey) (shed : List (StorageKey × Bucket)) → pairs_at cmp key shed ≡ get_cell key_order (areas_in shed) (plain_key key)
   held_found key shed = ap (λ b. b.area) (bucket_found key shed) ∙ sym (area_at (plain_key key) shed)
 
   -- an area that was lent, and is written
@@ -231,11 +231,3 @@ module _ (cmp : StorageKey → StorageKey → Ordering) (alike : (a b : StorageK
 pub either_way : {T E P : Type 0} (r : Result T E) → OnOk r P → OnErr r P → P
 either_way (Ok v) p e = p
 either_way (Err x) p e = e
-
-pub at_err : {T E P : Type 0} (r : Result T E) → P → OnErr r P
-at_err (Ok v) p = tt
-at_err (Err e) p = p
-
-pub at_ok : {T E P : Type 0} (r : Result T E) → P → OnOk r P
-at_ok (Ok v) p = p
-at_ok (Err e) p = tt

@@ -1,6 +1,8 @@
 -- What an eviction of a site takes of local areas and leaves, the order of keys of the program, and
 -- tabs without session areas.
-use Rattle.std.specs.Prelude.{◌≡◌, ℕ, Bool, not, ◌&&◌, None}
+use Rattle.std.specs.Prelude.{◌≡◌, ℕ, Bool, not, ◌&&◌, List, None}
+use Rattle.std.specs.List.{list_any}
+use Rattle.std.specs.Ordering.{eq_by_cmp}
 use Rattle.std.specs.FinMap as finite
 use Rattle.origin_site.specs.Site.{PlainSite}
 use Rattle.storage_key.specs.Plain.{plain_key}
@@ -30,3 +32,11 @@ key_cmp a b = key_order (plain_key a) (plain_key b)
 -- a tab has no session area
 abbrev pub HasNone : ℕ → SessionAreas → Type 0
 HasNone tab sessions = (key : PlainKey) → finite.get sessions (tab, key) ≡ None
+
+-- a plain key is one of these
+abbrev pub is_one_of : PlainKey → List PlainKey → Bool
+is_one_of q keys = list_any (λ k. eq_by_cmp key_order k q) keys
+
+-- some keys are those of all that are under a site
+abbrev pub AreUnder : PlainSite → (all some : List PlainKey) → Type 0
+AreUnder site all some = (q : PlainKey) → is_one_of q some ≡ (is_one_of q all && is_under site q)

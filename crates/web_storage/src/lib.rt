@@ -7,5 +7,6 @@
 mod local;
 mod session;
 mod storage;
+mod under;
 
 pub use storage::Storage;

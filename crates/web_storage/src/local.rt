@@ -1,5 +1,5 @@
 //! Local areas: room for a storage key in a shed, and evictions.
-ghost use Rattle.std.specs.Prelude.{◌≡◌, ◌-◌, ◌^◌, [], IfOk, OnOk, OnErr, filter, map, min, is_some, true, false};
+ghost use Rattle.std.specs.Prelude.{◌≡◌, ◌-◌, ◌^◌, [], IfOk, OnOk, OnErr, map, min, is_some, true, false};
 ghost use Rattle.std.specs.FinMap as finite;
 ghost use Rattle.std.specs.List.Sorted.{IsStrictlySortedBy};
 ghost use Rattle.std.specs.Map.{keys_of};
@@ -9,12 +9,12 @@ ghost use Rattle.storage_key.specs.Key.{key_order};
 ghost use Rattle.storage_key.specs.Plain.{plain_key};
 ghost use Rattle.key_map.specs.Entries.{map_get};
 ghost use Rattle.web_storage.specs.Stored.{areas_in, keys_in};
-ghost use Rattle.agent_model.specs.Partition.{is_under};
-ghost use Rattle.web_storage.specs.Evicting.{areas_left_by, areas_taken_by, key_cmp};
+ghost use Rattle.web_storage.specs.Evicting.{AreUnder, areas_left_by, areas_taken_by, key_cmp};
 
+use crate::under::keys_under;
 use agent_base::NoMemory;
 use buckets::Shed;
-use origin_site::{Site, same_site};
+use origin_site::Site;
 use std::alloc::Global;
 use storage_key::StorageKey;
 
@@ -40,7 +40,7 @@ pub fn reserve_local(
 
 /// Empties the local areas of the best-effort buckets under a site, and counts those that were not
 /// empty.
-pub fn evict_local(shed: &mut Shed<StorageKey>, site: &Site) -> Result<u32, NoMemory>
+pub fn evict_local(alloc: Global, shed: &mut Shed<StorageKey>, site: &Site) -> Result<u32, NoMemory>
     ensures evicted { OnOk result (areas_in shed.new
         ≡ areas_left_by (plain_site site.now) (keys_in shed.old) (areas_in shed.old)) }
     ensures count { let taken =
@@ -49,18 +49,19 @@ pub fn evict_local(shed: &mut Shed<StorageKey>, site: &Site) -> Result<u32, NoMe
     ensures modes { keys_in shed.new ≡ keys_in shed.old }
     ensures unchanged { OnErr result (areas_in shed.new ≡ areas_in shed.old) }
 {
-    let keys = keys_under(shed, site)?;
+    let keys = shed_keys_under(alloc, shed, site)?;
     Ok(shed.evict(keys.as_slice()))
 }
 
-// The keys under a site that have a bucket.
-fn keys_under(shed: &Shed<StorageKey>, site: &Site) -> Result<Vec<StorageKey>, NoMemory>
+// Copies of the keys under a site that have a bucket.
+fn shed_keys_under(
+    alloc: Global,
+    shed: &Shed<StorageKey>,
+    site: &Site,
+) -> Result<Vec<StorageKey>, NoMemory>
     ensures keys { let all = map plain_key (keys_of shed.now) in
-        IfOk result (λ keys. map plain_key keys.items
-        ≡ filter (is_under (plain_site site.now)) all) }
+        IfOk result (λ keys. AreUnder (plain_site site.now) all (map plain_key keys.items)) }
     ensures ordered { IsStrictlySortedBy key_cmp (keys_of shed.now) }
 {
-    let mut keys = shed.keys()?;
-    keys.retain(|key| same_site(site, &key.top));
-    Ok(keys)
+    keys_under(alloc, shed.buckets(), site)
 }

@@ -1,15 +1,18 @@
 //! Session areas: room for a tab and a storage key, and copies for another tab.
-ghost use Rattle.std.specs.Prelude.{◌≡◌, [], OnOk, OnErr};
+ghost use Rattle.std.specs.Prelude.{◌≡◌, [], IfOk, OnOk, OnErr, map};
+ghost use Rattle.std.specs.Map.{keys_of};
 ghost use Rattle.unwinding.specs.FiniteCells.{get_cell};
 ghost use Rattle.storage_key.specs.Plain.{plain_key};
 ghost use Rattle.origin_site.specs.Plain.{plain_site};
 ghost use Rattle.agent_model.specs.Partition.{Holdings, session_order};
 ghost use Rattle.agent_model.specs.Sessions.{copy_sessions};
-ghost use Rattle.web_storage.specs.Evicting.{HasNone};
+ghost use Rattle.session_area.specs.Sessions.{areas_of};
+ghost use Rattle.web_storage.specs.Evicting.{AreUnder, HasNone};
 ghost use Rattle.web_storage.specs.Stored.{sessions_in};
 
+use crate::under::keys_under;
 use agent_base::NoMemory;
-use origin_site::{Site, same_site};
+use origin_site::Site;
 use session_area::Sessions;
 use std::alloc::Global;
 use storage_key::StorageKey;
@@ -34,6 +37,7 @@ pub fn reserve_session(
 
 /// Copies the session areas that one tab has under a site to another tab, which has none.
 pub fn copy_areas(
+    alloc: Global,
     sessions: &mut Sessions<StorageKey>,
     site: &Site,
     from: u16,
@@ -47,7 +51,22 @@ pub fn copy_areas(
 {
     // `clone_tab` asks that no area is there, and an empty one may be.
     sessions.close(to);
-    let mut keys = sessions.keys(from)?;
-    keys.retain(|key| same_site(site, &key.top));
+    let keys = tab_keys_under(alloc, sessions, from, site)?;
     sessions.clone_tab(from, to, keys)
+}
+
+// Copies of the keys under a site at which a tab has areas.
+fn tab_keys_under(
+    alloc: Global,
+    sessions: &Sessions<StorageKey>,
+    tab: u16,
+    site: &Site,
+) -> Result<Vec<StorageKey>, NoMemory>
+    ensures keys { let all = map plain_key (keys_of (areas_of tab sessions.now)) in
+        IfOk result (λ keys. AreUnder (plain_site site.now) all (map plain_key keys.items)) }
+{
+    match sessions.areas(tab) {
+        Some(areas) => keys_under(alloc, areas, site),
+        None => Ok(Vec::new(alloc)),
+    }
 }

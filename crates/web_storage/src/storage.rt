@@ -221,7 +221,7 @@ impl Storage {
         ensures unchanged { (tabs : Tabs) → OnErr result
             (held_with tabs self.new ≡ held_with tabs self.old) }
     {
-        evict_local(&mut self.local, site)
+        evict_local(self.alloc, &mut self.local, site)
     }
 
     /// Copies the session areas that one tab has under a site to another tab, which has none.
@@ -233,7 +233,7 @@ impl Storage {
         ensures unchanged { (tabs : Tabs) → OnErr result
             (held_with tabs self.new ≡ held_with tabs self.old) }
     {
-        copy_areas(&mut self.session, site, from, to)
+        copy_areas(self.alloc, &mut self.session, site, from, to)
     }
 
     /// Drops the session areas of a tab.

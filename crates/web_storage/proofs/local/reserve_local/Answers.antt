@@ -5,16 +5,17 @@ use Rattle.std.proofs.lemmas.Result.{on_ok_weaker, on_err_weaker}
 use Rattle.key_map.specs.Entries.{map_get}
 use Rattle.web_storage.specs.Stored.{areas_in, keys_in}
 use Rattle.web_storage.proofs.OrderOfKeys.{order, alike}
-use Rattle.web_storage.proofs.WriteLemmas.{made_same, made_there, no_area, either_way, at_err}
+use Rattle.web_storage.proofs.WriteLemmas.{made_same, made_there, no_area, either_way}
+use Rattle.agent_base.proofs.Logic.{on_err}
 use Rattle.web_storage.proofs.local.reserve_local.Goals as goal
 
 pub returns-in_err-key-clause-area : goal.returns-in_err-key-clause-area
 returns-in_err-key-clause-area c =
-    at_err c.from_residual.result (no_area order alike c.args.key.now c.args.shed.now (sym c.contains.ensures.contains ∙ c.if-contains.false)).0
+    on_err c.from_residual.result (no_area order alike c.args.key.now c.args.shed.now (sym c.contains.ensures.contains ∙ c.if-contains.false)).0
 
 pub returns-in_err-key-clause-mode : goal.returns-in_err-key-clause-mode
 returns-in_err-key-clause-mode c =
-    at_err c.from_residual.result (no_area order alike c.args.key.now c.args.shed.now (sym c.contains.ensures.contains ∙ c.if-contains.false)).1
+    on_err c.from_residual.result (no_area order alike c.args.key.now c.args.shed.now (sym c.contains.ensures.contains ∙ c.if-contains.false)).1
 
 pub returns-clause-areas : goal.returns-clause-areas
 returns-clause-areas c = either_way c.reserve.result
@@ -34,8 +35,8 @@ returns-clause-there c =
 
 pub returns-clause-area : goal.returns-clause-area
 returns-clause-area c =
-    at_err c.reserve.result (no_area order alike c.args.key.now c.args.shed.now (sym c.contains.ensures.contains ∙ c.if-contains.false)).0
+    on_err c.reserve.result (no_area order alike c.args.key.now c.args.shed.now (sym c.contains.ensures.contains ∙ c.if-contains.false)).0
 
 pub returns-clause-mode : goal.returns-clause-mode
 returns-clause-mode c =
-    at_err c.reserve.result (no_area order alike c.args.key.now c.args.shed.now (sym c.contains.ensures.contains ∙ c.if-contains.false)).1
+    on_err c.reserve.result (no_area order alike c.args.key.now c.args.shed.now (sym c.contains.ensures.contains ∙ c.if-contains.false)).1

@@ -4,21 +4,22 @@ use Rattle.std.specs.FinMap as finite
 use Rattle.storage_key.specs.Plain.{plain_key}
 use Rattle.web_storage.specs.Stored.{held_with, areas_in, keys_in, sessions_in}
 use Rattle.web_storage.proofs.OrderOfKeys.{order, alike}
-use Rattle.web_storage.proofs.WriteLemmas.{persisted_keys, at_err}
+use Rattle.web_storage.proofs.WriteLemmas.{persisted_keys}
+use Rattle.agent_base.proofs.Logic.{on_err}
 use Rattle.web_storage.proofs.HeldLemmas.{local_kept}
 use Rattle.web_storage.proofs.storage.Storage.persist.Goals as goal
 
 pub returns-in_err-reserve_local-clause-unchanged : goal.returns-in_err-reserve_local-clause-unchanged
-returns-in_err-reserve_local-clause-unchanged c = rw (← c.self.view_is) (at_err c.from_residual.result (λ tabs.
+returns-in_err-reserve_local-clause-unchanged c = rw (← c.self.view_is) (on_err c.from_residual.result (λ tabs.
     local_kept tabs (record { local = c.self.inside.local; session = c.self.inside.session }) c.reserve_local.new.shed c.reserve_local.ensures.areas c.reserve_local.ensures.modes))
 
 pub returns-in_err-reserve_local-clause-area : goal.returns-in_err-reserve_local-clause-area
 unfolding held_with
-returns-in_err-reserve_local-clause-area c = rw (← c.self.view_is) (λ tabs. at_err c.from_residual.result c.in_err-reserve_local.ensures.area)
+returns-in_err-reserve_local-clause-area c = rw (← c.self.view_is) (λ tabs. on_err c.from_residual.result c.in_err-reserve_local.ensures.area)
 
 pub returns-in_err-reserve_local-clause-mode : goal.returns-in_err-reserve_local-clause-mode
 unfolding held_with
-returns-in_err-reserve_local-clause-mode c = rw (← c.self.view_is) (λ tabs. at_err c.from_residual.result c.in_err-reserve_local.ensures.mode)
+returns-in_err-reserve_local-clause-mode c = rw (← c.self.view_is) (λ tabs. on_err c.from_residual.result c.in_err-reserve_local.ensures.mode)
 
 pub returns-clause-stored : goal.returns-clause-stored
 unfolding held_with

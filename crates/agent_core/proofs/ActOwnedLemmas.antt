@@ -9,7 +9,7 @@ use Rattle.frame_tree.specs.Tree.{PlainFrame, has_frame}
 use Rattle.local_area.specs.Area.{area_get, area_put}
 use Rattle.local_area.specs.Put.{put_answer}
 use Rattle.live_state.specs.Tabs.{PlainTab, queue_of}
-use Rattle.script_lines.specs.Reply.{PlainBody, Plain, Load}
+use Rattle.reply_lines.specs.Reply.{PlainBody, Plain, Load}
 use Rattle.script_lines.specs.Script as script
 use Rattle.script_lines.specs.Script.{DocumentAction, Frame, Nav, Drop, Click, Set, Get, Del, Clear, Len, Key, Persisted, Estimate, Persist}
 use Rattle.agent_model.specs.Partition.{Holdings, tab_named}

@@ -1,5 +1,6 @@
 -- Who hears of a change: the audience over the list of documents, and each document of the map.
 use Rattle.std.proofs.Common.{◌≡◌, ◌==◌, ◌&&◌, ◌||◌, ◌<◌, ℕ, Bool, true, false, List, [], ◌∷◌, Option, Some, None, refl, sym, ap, ◌∙◌, arith}
+use Rattle.std.proofs.lemmas.Bool.{and_parts}
 use Rattle.std.proofs.Math.Bool.{or-false}
 use Rattle.std.proofs.lemmas.Bool.Decides.{nat_tests}
 use Rattle.std.specs.Prelude.{find, is_some, nat_lt, option_and_then, option_map}
@@ -14,7 +15,7 @@ use Rattle.frame_tree.specs.Tree.{PlainFrame, has_frame}
 use Rattle.live_state.specs.Tabs.{PlainTab, is_rising, tab_at}
 use Rattle.frame_tree.specs.Keys.{key_of_document, key_of_frame}
 use Rattle.live_state.specs.Documents.{documents, documents_in, frame_numbers, keyed}
-use Rattle.live_state.proofs.ListLemmas.{and_parts, is_some-find}
+use Rattle.live_state.proofs.ListLemmas.{is_some-find}
 use Rattle.agent_model.specs.Documents.{Keyed, hears_at, hears_by}
 use Rattle.agent_core.specs.FrameTrees.{AreTrees, IsFrameTreeAt, are_numbered}
 use Rattle.agent_core.proofs.LiveLemmas.{number_found}

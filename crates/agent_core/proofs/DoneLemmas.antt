@@ -14,9 +14,9 @@ use Rattle.live_state.specs.Tabs.{PlainTab, made_tab, queue_of, queues_before, t
 use Rattle.live_state.specs.Queues.{frames_by, queue_at, taken}
 use Rattle.web_storage.specs.Stored.{Entries, held_with}
 use Rattle.agent_base.specs.declared.refusals.NoMemory as fault
-use Rattle.script_lines.specs.declared.reply.ReplyBody.{ReplyBody}
-use Rattle.script_lines.specs.Reply.{PlainBody}
-use Rattle.script_lines.specs.Reply as reply
+use Rattle.reply_lines.specs.declared.reply.ReplyBody.{ReplyBody}
+use Rattle.reply_lines.specs.Reply.{PlainBody}
+use Rattle.reply_lines.specs.Reply as reply
 use Rattle.agent_model.specs.Partition.{Tabs}
 use Rattle.agent_model.specs.Frames.{on_frames, refused_by}
 use Rattle.agent_model.specs.Lines.{placed}

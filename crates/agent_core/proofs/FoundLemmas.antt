@@ -1,6 +1,7 @@
 -- The tab and the document that a line names, where they are found.
-use Rattle.std.proofs.Common.{◌≡◌, ◌==◌, ℕ, true, List, reverse, Option, Some, None, Bor, refl, sym, ap, ◌∙◌}
-use Rattle.std.specs.Prelude.{find, is_some, option_and_then, option_map}
+use Rattle.std.proofs.Common.{◌≡◌, ◌==◌, ℕ, true, List, reverse, Option, Some, None, Bor, refl, sym, ap, subst, ◌∙◌}
+use Rattle.std.specs.Prelude.{Result, find, is_some, option_and_then, option_map}
+use Rattle.agent_base.specs.declared.refusals.NoMemory.{NoMemory}
 use Rattle.agent_base.specs.declared.refusals.Label.{Label}
 use Rattle.storage_key.specs.Key.{PlainKey}
 use Rattle.storage_key.specs.Plain.{plain_key}
@@ -11,13 +12,16 @@ use Rattle.frame_tree.proofs.ShapeLemmas.{has-reversed}
 use Rattle.frame_tree.proofs.TopLemmas.{has_zero, top-document}
 use Rattle.frame_tree.specs.Keys.{key_of_document, key_of_frame}
 use Rattle.live_state.specs.Queues.{frames_by}
-use Rattle.live_state.specs.Tabs.{PlainTab}
+use Rattle.live_state.specs.Tabs.{PlainTab, tab_at}
+use Rattle.reply_lines.specs.declared.reply.ReplyBody.{ReplyBody}
+use Rattle.agent_core.specs.HoldingsView.{HoldingsView}
+use Rattle.agent_core.specs.Actions.{Acts, ActsBy, ActsIn}
 use Rattle.live_state.proofs.ListLemmas.{is_some-find, is_some-map}
 use Rattle.agent_model.specs.Done.{Effect}
 use Rattle.agent_model.specs.Documents as keyed
 use Rattle.agent_model.specs.Documents.{by_document, by_key, with_key}
 use Rattle.agent_core.specs.Documents.{IsFound, key_wanted}
-use Rattle.agent_core.specs.declared.documents.Found.TheVariants.{Keyed}
+use Rattle.agent_core.specs.declared.holdings.Found.TheVariants.{Keyed}
 
 -- ---- tabs
 
@@ -62,6 +66,19 @@ pub with_found : (at : Label) (tab : PlainTab) (does : keyed.Keyed → Effect) (
 with_found at tab does document key there own =
     ap (λ found. by_document found (λ document. by_key at document (key_of_document at.frame tab.frames document) does)) there
     ∙ ap (λ key. by_key at document key does) own
+
+-- what was done under that key, in the tab whose frames were found, is done with the key of the document
+pub acts_found : (at : Label) (old new : HoldingsView) (result : Result ReplyBody NoMemory) (frames : List PlainFrame) (found : Bor StorageKey) (own : PlainKey)
+    → Some frames ≡ option_map (λ t. t.frames) (tab_at at.tab old.live.tabs) → IsFound (key_wanted at.frame frames) (Keyed found) → own ≡ plain_key found.now
+    → (does : PlainTab → keyed.Keyed → Effect) → ((tab : PlainTab) → tab_at at.tab old.live.tabs ≡ Some tab → ActsBy at own (does tab) old new result)
+    → ActsIn at.tab (λ tab. with_key at tab (does tab)) old new result
+acts_found at old new result frames found own shown is same does done tab there =
+    let frames_same = frames_are (tab_at at.tab old.live.tabs) frames tab shown there in
+    let it = found_key at.frame tab.frames found (subst (λ (frames : List PlainFrame). IsFound (key_wanted at.frame frames) (Keyed found)) (sym frames_same) is) in
+    subst (λ (d : Effect). Acts d old new result)
+    (sym (with_found at tab (does tab) it.0 (plain_key found.now) it.1 it.2))
+    (subst (λ (k : PlainKey). Acts (does tab (record { at = at; document = it.0; key = k })) old new result) same
+    (done tab there it.0 (ap (λ tab. document_of at.frame (frames_by tab)) there ∙ it.1)))
 
 -- a tree has a document in frame 0
 pub top_there : (frames : List PlainFrame) → IsTree frames → is_some (document_of 0 frames) ≡ true

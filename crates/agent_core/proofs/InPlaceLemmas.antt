@@ -9,9 +9,9 @@ use Rattle.frame_tree.specs.Tree.{PlainFrame, top_site}
 use Rattle.live_state.specs.FramesInPlace.{IsPutIn, frames_at}
 use Rattle.live_state.specs.Queues.{frames_by}
 use Rattle.live_state.specs.Tabs.{PlainLive, PlainTab, is_open, tab_at}
-use Rattle.script_lines.specs.declared.reply.ReplyBody.{ReplyBody}
-use Rattle.script_lines.specs.Plain.{body_of}
-use Rattle.script_lines.specs.Reply.{PlainBody}
+use Rattle.reply_lines.specs.declared.reply.ReplyBody.{ReplyBody}
+use Rattle.reply_lines.specs.Plain.{body_of}
+use Rattle.reply_lines.specs.Reply.{PlainBody}
 use Rattle.agent_model.specs.Done.{answers, no_shared_cells}
 use Rattle.agent_model.specs.Frames.{on_frames}
 use Rattle.agent_core.specs.Actions.{Acts, Answered, IsDone, Stays}

@@ -1,12 +1,12 @@
 -- Tests of lists that are made of other lists, and of lists whose keys rise.
 use Rattle.std.proofs.Common.{◌≡◌, ◌≢◌, ◌⊎◌, ◌==◌, ◌&&◌, ◌||◌, ◌++◌, ℕ, zero, suc, ◌+◌, ◌<◌, ◌≤◌, Bool, true, false, cond, List, [], ◌∷◌, map, Option, Some, None, refl, sym, ap, ◌∙◌, arith, inl, inr}
+use Rattle.std.proofs.lemmas.Bool.{and_parts, and_from}
 use Rattle.std.proofs.lemmas.Bool.Decides.{Decides-eqb, eqb_tells, nat_tests}
 use Rattle.std.proofs.lemmas.List.Folds.{list_any-append}
 use Rattle.std.specs.Prelude.{filter, find, nat_lt}
 use Rattle.std.specs.List.{cons_option, filter_map, flat_map, list_all, list_any, range_with_len}
 use Rattle.live_state.specs.Tabs.{PlainTab, is_rising}
 use Rattle.live_state.specs.Documents.{frame_numbers}
-use Rattle.live_state.proofs.ListLemmas.{and_both, and_parts}
 
 -- ---- tests of a list that is made of another
 
@@ -98,12 +98,12 @@ range_above : (low first count : ℕ) → low < first → list_all (λ m. nat_lt
 range_above low first zero is = refl
 range_above low first (suc count) is =
     let one : nat_lt low first ≡ true = grind (arith, nat_tests) in
-    and_both (nat_lt low first) (list_all (λ m. nat_lt low m) (range_with_len (first + 1) count)) one (range_above low (first + 1) count (omega arith))
+    and_from (nat_lt low first) (list_all (λ m. nat_lt low m) (range_with_len (first + 1) count)) one (range_above low (first + 1) count (omega arith))
 
 range_rises : (first count : ℕ) → rises (λ m. m) (range_with_len first count) ≡ true
 range_rises first zero = refl
 range_rises first (suc count) =
-    and_both (list_all (λ m. nat_lt first m) (range_with_len (first + 1) count)) (rises (λ m. m) (range_with_len (first + 1) count))
+    and_from (list_all (λ m. nat_lt first m) (range_with_len (first + 1) count)) (rises (λ m. m) (range_with_len (first + 1) count))
     (range_above first (first + 1) count (omega arith)) (range_rises (first + 1) count)
 
 pub numbers_rise : rises (λ m. m) frame_numbers ≡ true

@@ -7,13 +7,12 @@ use Rattle.frame_tree.specs.Tree.{top_site}
 use Rattle.live_state.specs.Queues.{frames_by}
 use Rattle.live_state.specs.Tabs.{PlainTab, is_open, tab_at}
 use Rattle.web_storage.specs.Stored.{Entries}
-use Rattle.script_lines.specs.declared.reply.Reply.{Reply}
+use Rattle.reply_lines.specs.declared.reply.Reply.{Reply}
 use Rattle.script_lines.specs.declared.words.Method.{Method}
-use Rattle.script_lines.specs.Plain.{reply_of}
-use Rattle.script_lines.specs.Reply.{Plain, Load}
+use Rattle.reply_lines.specs.Plain.{reply_of}
+use Rattle.reply_lines.specs.Reply.{Plain, Load}
 use Rattle.script_lines.specs.Script.{PlainAction, Open}
 use Rattle.agent_model.specs.Partition.{Holdings}
-use Rattle.agent_model.specs.Done.{no_shared_cells}
 use Rattle.agent_model.specs.Sessions.{has_session, show}
 use Rattle.agent_model.specs.Isolation.{printed}
 use Rattle.agent_model.specs.Lines.{Places, Starter, User, Page, opener_of, placed}
@@ -27,6 +26,7 @@ use Rattle.one_store.proofs.WorldOpenLemmas.{no_opener_makes, open_makes, taken_
 use Rattle.agent_core.specs.AgentState.{AgentState, IsStanding, held_in, places_in, world_of}
 use Rattle.agent_core.specs.Lines.{Runs, copied_under, is_there, with_copies}
 use Rattle.agent_core.proofs.LiveLemmas.{site_found, site_of}
+use Rattle.agent_model.specs.Done.{no_shared_cells}
 use Rattle.agent_core.proofs.OwnedLemmas.{AreCopies, copies_by, owned_shown}
 use Rattle.agent_core.proofs.RunsLemmas.{replaced}
 use Rattle.agent_core.proofs.StandingLemmas.{closed_is, nowhere_is, place_is, runs_done, runs_refused, stands, tab_absent, tab_there, world_is}
@@ -53,7 +53,7 @@ same_copies (Some from) false number tabs held = under (top_site (frames_by (tab
 
 module _ (old : AgentState) (standing : IsStanding old) where
   -- the opener is there, and so who starts the load
-  starter_is : (opener : Option ℕ) → is_there opener old.tabs ≡ true → (starter : Starter) × (opener_of opener (places_in old.tabs) ≡ Some starter)
+  pub starter_is : (opener : Option ℕ) → is_there opener old.tabs ≡ true → (starter : Starter) × (opener_of opener (places_in old.tabs) ≡ Some starter)
   starter_is None there = (User, refl)
   starter_is (Some opener) there =
       let tab = tab_there opener old.tabs there in

@@ -9,10 +9,10 @@ use Rattle.origin_site.specs.Address.{PlainAddress}
 use Rattle.origin_site.specs.Site.{PlainSite, site_of_address}
 use Rattle.live_state.specs.Tabs.{PlainTab, tab_at}
 use Rattle.web_storage.specs.Stored.{Entries}
-use Rattle.script_lines.specs.declared.reply.Reply.{Reply}
+use Rattle.reply_lines.specs.declared.reply.Reply.{Reply}
 use Rattle.script_lines.specs.declared.words.Method.{Method}
-use Rattle.script_lines.specs.Plain.{reply_of}
-use Rattle.script_lines.specs.Reply.{Cleared, Load, Now}
+use Rattle.reply_lines.specs.Plain.{reply_of}
+use Rattle.reply_lines.specs.Reply.{Cleared, Load, Now}
 use Rattle.script_lines.specs.Script.{PlainAction, DocumentAction, Tick, Close, Go, Evict, Act}
 use Rattle.agent_model.specs.Partition.{Holdings}
 use Rattle.agent_model.specs.Done.{Done, no_shared_cells, ok}
@@ -22,9 +22,10 @@ use Rattle.agent_model.specs.SiteStep.{act_in}
 use Rattle.agent_model.specs.Isolation.{printed}
 use Rattle.agent_model.specs.Lines.{Places, placed, site_at}
 use Rattle.agent_model.specs.Rest.{clock_after}
+use Rattle.agent_model.proofs.ApartLemmas.{act_apart}
 use Rattle.one_store.specs.WholeWorld.{whole_world}
 use Rattle.one_store.proofs.ActPlacedLemmas.{act_placed}
-use Rattle.one_store.proofs.WorldLemmas.{told_at, told_nowhere}
+use Rattle.one_store.proofs.WorldLemmas.{LineMakes, told_at, told_nowhere}
 use Rattle.one_store.proofs.WorldActLemmas.{act_makes}
 use Rattle.one_store.proofs.WorldCloseLemmas.{close_makes, close_placed, evict_makes, evict_placed, tick_makes}
 use Rattle.one_store.proofs.WorldLoadLemmas.{go_makes, show_placed}
@@ -32,7 +33,7 @@ use Rattle.agent_core.specs.AgentState.{AgentState, IsStanding, held_in, places_
 use Rattle.agent_core.specs.Lines.{Runs}
 use Rattle.agent_core.proofs.OwnedLemmas.{no_copies, owned_shown, owned_closed, owned_evicted}
 use Rattle.agent_core.proofs.ActOwnedLemmas.{owned_acted}
-use Rattle.agent_core.proofs.StandingLemmas.{open_is, place_is, runs_done, runs_wanting, stands, world_is}
+use Rattle.agent_core.proofs.StandingLemmas.{HasEvent, open_is, place_is, runs_done, runs_wanting, stands, world_is}
 
 -- the agent with other tabs and another storage
 abbrev pub replaced : AgentState → List PlainTab → Entries → AgentState
@@ -55,10 +56,10 @@ module _ (old : AgentState) (standing : IsStanding old) (tabs : List PlainTab) (
     pub standing_stays : IsStanding new
     standing_stays = stands new places before there has standing.in_time standing.placed_all standing.owned
 
-    pub runs_stays : (action : PlainAction) (result : Result Reply NoMemory) → IsErr result → Runs action old new result
+    pub runs_stays : (action : PlainAction) → HasEvent action places → (result : Result Reply NoMemory) → IsErr result → Runs action old new result
     unfolding world_of
-    runs_stays action (Ok reply) wanting = cc
-    runs_stays action (Err wanting) is = runs_wanting action old new refl wanting (world_is new places before there has)
+    runs_stays action event (Ok reply) wanting = cc
+    runs_stays action event (Err wanting) is = runs_wanting action old new refl wanting (world_is new places before there has) event
 
   -- ---- an action in an open tab
 
@@ -78,8 +79,10 @@ module _ (old : AgentState) (standing : IsStanding old) (tabs : List PlainTab) (
       unfolding world_of
       runs_acted line is site place reply replies =
           subst (λ line. Runs line old new (Ok reply)) (sym is)
-          (runs_done (Act at action) old new refl reply (whole_world old.now places done.cells done.held) (told_at site (Act at action) done.body)
-          (act_makes old.rules old.now places no_shared_cells before standing.placed_all at action tab (open_is old at.tab tab found) site place)
+          (runs_done (Act at action) old new refl reply (whole_world old.now places no_shared_cells done.held) (told_at site (Act at action) done.body)
+          (subst (λ (d : Done). LineMakes old.rules (world_of old) (Act at action) (whole_world old.now places d.cells d.held) (told_at site (Act at action) d.body))
+          (act_apart old.rules old.now at action tab no_shared_cells before)
+          (act_makes old.rules old.now places no_shared_cells before standing.placed_all at action tab (open_is old at.tab tab found) site place))
           (world_is new places done.held there has) (replies ∙ ap (λ line. printed (told_at site line done.body)) is))
 
   -- ---- a closing
@@ -132,6 +135,12 @@ module _ (old : AgentState) (standing : IsStanding old) (tabs : List PlainTab) (
         runs_done (Evict site) old new refl reply (whole_world old.now places no_shared_cells (without_evicted site before))
         (told_at site (Evict site) (Cleared (evicted_count site before))) (evict_makes old.rules old.now places no_shared_cells before site)
         (world_is new places (without_evicted site before) there has) replies
+
+-- ---- memory was wanting before anything was done
+
+pub runs_unchanged : (old : AgentState) (action : PlainAction) → HasEvent action (places_in old.tabs) → (result : Result Reply NoMemory) → IsErr result → Runs action old old result
+runs_unchanged old action event (Ok reply) wanting = cc
+runs_unchanged old action event (Err wanting) is = runs_wanting action old old refl wanting refl event
 
 -- ---- a tick
 

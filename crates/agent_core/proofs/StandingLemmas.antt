@@ -1,21 +1,25 @@
 -- The world that the agent stands for, and what it keeps, from where its tabs are and what it holds.
 use Rattle.std.proofs.Common.{◌≡◌, ◌≤◌, ℕ, true, false, List, Option, Some, None, Ok, Err, refl, sym, ap, subst, ◌∙◌}
-use Rattle.std.specs.Prelude.{Result, codes, is_some}
+use Rattle.std.specs.Prelude.{Bool, Result, codes, is_some, option_map}
 use Rattle.unwinding.specs.World.{SiteReply}
 use Rattle.agent_base.specs.declared.refusals.NoMemory.{NoMemory}
 use Rattle.origin_site.specs.Site.{PlainSite}
 use Rattle.live_state.specs.Tabs.{PlainTab, is_open, tab_at}
 use Rattle.web_storage.specs.Stored.{held_with}
-use Rattle.script_lines.specs.declared.reply.Reply.{Reply}
-use Rattle.script_lines.specs.Plain.{reply_of}
-use Rattle.script_lines.specs.Reply.{PlainBody, Plain}
+use Rattle.reply_lines.specs.declared.reply.Reply.{Reply}
+use Rattle.reply_lines.specs.Plain.{reply_of}
+use Rattle.reply_lines.specs.Reply.{PlainBody, Plain}
 use Rattle.script_lines.specs.Script.{PlainAction, Tick, Open, Close, Go, Evict, Act}
 use Rattle.agent_model.specs.Partition.{Holdings, tab_named}
 use Rattle.agent_model.specs.Done.{no_shared_cells}
 use Rattle.agent_model.specs.SiteEvent.{Answer}
 use Rattle.agent_model.specs.ActionNames.{action_name}
 use Rattle.agent_model.specs.Isolation.{printed}
-use Rattle.agent_model.specs.Lines.{AgentWorld, Places, site_at}
+use Rattle.suffix_list.specs.Suffix.{Rule}
+use Rattle.origin_site.specs.Address.{PlainAddress}
+use Rattle.script_lines.specs.declared.words.Method.{Method}
+use Rattle.agent_model.specs.SiteEvent.{SiteEvent, Acts, Closes}
+use Rattle.agent_model.specs.Lines.{AgentWorld, Places, Starter, going, main_event, occurs, opener_of, opening, site_at}
 use Rattle.agent_model.specs.Rest.{last_moment}
 use Rattle.one_store.specs.WholeWorld.{IsPlaced, whole_world}
 use Rattle.one_store.proofs.PlacedLemmas.{open_tab, site_of_tab}
@@ -85,6 +89,44 @@ module _ (state : AgentState) (number : ℕ) where
       let found = open_tab (places_in state.tabs) (held_in state) standing.placed_all number site place in
       (found.0, sym tab_is ∙ found.1)
 
+-- ---- a line that is an event of a site
+
+-- what a line finds that has a main event
+abbrev pub HasEvent : PlainAction → Places → Type 0
+HasEvent (Tick s) places = ⊥
+HasEvent (Open tab url opener noopener method) places = (is_some (opener_of opener places) ≡ true) × (site_at tab places ≡ None)
+HasEvent (Close tab) places = is_some (site_at tab places) ≡ true
+HasEvent (Go tab url by_page method) places = is_some (site_at tab places) ≡ true
+HasEvent (Evict site) places = Unit {0}
+HasEvent (Act at action) places = is_some (site_at at.tab places) ≡ true
+
+some_occurs : (world : AgentWorld) (event : SiteEvent) (here : Option PlainSite) → is_some here ≡ true → option_map (occurs world event) here ≡ None → ⊥
+some_occurs world event None there none = cc
+some_occurs world event (Some site) there none = cc
+
+some_opens : (rules : List Rule) (world : AgentWorld) (tab : ℕ) (url : PlainAddress) (method : Method) (starter : Option Starter) (here : Option PlainSite)
+    → is_some starter ≡ true → here ≡ None → opening rules world tab url method starter here ≡ None → ⊥
+some_opens rules world tab url method None here there free none = cc
+some_opens rules world tab url method (Some starter) None there free none = cc
+some_opens rules world tab url method (Some starter) (Some site) there free none = cc
+
+some_goes : (rules : List Rule) (world : AgentWorld) (tab : ℕ) (url : PlainAddress) (by_page : Bool) (method : Method) (here : Option PlainSite)
+    → is_some here ≡ true → going rules world tab url by_page method here ≡ None → ⊥
+some_goes rules world tab url by_page method None there none = cc
+some_goes rules world tab url by_page method (Some site) there none = cc
+
+-- it is not refused
+pub not_refused : (state : AgentState) (action : PlainAction) → HasEvent action (places_in state.tabs) → main_event state.rules (world_of state) action ≡ None → ⊥
+unfolding main_event world_of whole_world
+not_refused state (Tick s) event none = absurd event
+not_refused state (Open tab url opener noopener method) event none =
+    some_opens state.rules (world_of state) tab url method (opener_of opener (places_in state.tabs)) (site_at tab (places_in state.tabs)) event.0 event.1 none
+not_refused state (Close tab) event none = some_occurs (world_of state) (Closes tab) (site_at tab (places_in state.tabs)) event none
+not_refused state (Go tab url by_page method) event none =
+    some_goes state.rules (world_of state) tab url by_page method (site_at tab (places_in state.tabs)) event none
+not_refused state (Evict site) event none = cc
+not_refused state (Act at action) event none = some_occurs (world_of state) (Acts at action) (site_at at.tab (places_in state.tabs)) event none
+
 -- ---- a line was run
 
 -- a reply of a site, whose site and answer are told otherwise
@@ -105,11 +147,12 @@ module _ (action : PlainAction) (old new : AgentState) (rules : new.rules ≡ ol
   pub runs_done : (reply : Reply) (after : AgentWorld) (told : SiteReply PlainSite Answer) → LineMakes old.rules (world_of old) action after told
       → world_of new ≡ after → reply_of reply ≡ printed told → Runs action old new (Ok reply)
   runs_done reply after told makes world is =
-      record { reply = is ∙ ap printed (sym makes.reply); world = world ∙ sym makes.world; rules = rules; unchanged = tt }
+      record { reply = is ∙ ap printed (sym makes.reply); world = world ∙ sym makes.world; rules = rules; unchanged = tt; refused = λ none. refl }
 
   -- memory was wanting
-  pub runs_wanting : (wanting : NoMemory) → world_of new ≡ world_of old → Runs action old new (Err wanting)
-  runs_wanting wanting world = record { reply = tt; world = tt; rules = rules; unchanged = world }
+  pub runs_wanting : (wanting : NoMemory) → world_of new ≡ world_of old → HasEvent action (places_in old.tabs) → Runs action old new (Err wanting)
+  runs_wanting wanting world event =
+      record { reply = tt; world = tt; rules = rules; unchanged = world; refused = λ none. absurd (not_refused old action event none) }
 
 -- ---- the line was refused, and all stays
 

@@ -22,7 +22,7 @@ use Rattle.std.specs.Ordering.{eq_by_cmp}
 use Rattle.storage_events.specs.Audience.{hears}
 use Rattle.storage_events.specs.declared.event.Event.{Event}
 use Rattle.web_storage.specs.Stored.{held_with}
-use Rattle.script_lines.specs.Reply.{PlainBody, Plain}
+use Rattle.reply_lines.specs.Reply.{PlainBody, Plain}
 use Rattle.agent_model.specs.Partition.{Holdings, Tabs, with_area}
 use Rattle.agent_model.specs.Done.{SharedCells, no_shared_cells, answers, ok}
 use Rattle.agent_model.specs.AreaActions.{change_event, pairs_of, remove_by, remove_item, set_by, set_item, store, write}

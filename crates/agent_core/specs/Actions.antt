@@ -1,6 +1,8 @@
 -- What an action in an open tab makes of what the agent holds, and its answer.
 -- Source: none; what each action does stands in `agent_model`.
-use Rattle.std.specs.Prelude.{◌≡◌, ℕ, Bool, List, Option, Some, None, is_some, option_and_then}
+use Rattle.std.specs.List.{list_any}
+use Rattle.std.specs.Option.{option_to_list}
+use Rattle.std.specs.Prelude.{◌≡◌, ℕ, Bool, true, false, List, Option, Some, None, is_some, option_and_then}
 use Rattle.std.specs.Prelude.{Result, Ok, Err, MatchResult}
 use Rattle.agent_base.specs.declared.refusals.Label.{Label}
 use Rattle.agent_base.specs.declared.refusals.NoMemory.{NoMemory}
@@ -12,9 +14,9 @@ use Rattle.local_area.specs.Area.{area_put}
 use Rattle.storage_events.specs.declared.event.AreaKind.{AreaKind}
 use Rattle.storage_events.specs.Event.{PlainEvent}
 use Rattle.live_state.specs.Tabs.{PlainTab, tab_at}
-use Rattle.script_lines.specs.declared.reply.ReplyBody.{ReplyBody}
-use Rattle.script_lines.specs.Plain.{body_of}
-use Rattle.script_lines.specs.Reply.{PlainBody}
+use Rattle.reply_lines.specs.declared.reply.ReplyBody.{ReplyBody}
+use Rattle.reply_lines.specs.Plain.{body_of}
+use Rattle.reply_lines.specs.Reply.{PlainBody}
 use Rattle.script_lines.specs.Script.{PlainAction, Tick, Open, Close, Go, Evict, Act}
 use Rattle.script_lines.specs.Script.{DocumentAction, Frame, Nav, Drop, Click, Set, Get, Del}
 use Rattle.script_lines.specs.Script.{Clear, Len, Key, Events, Persisted, Estimate, Persist}
@@ -46,7 +48,8 @@ pub record Stays (old new : HoldingsView) : Type 0 where
   pub held : held_of new ≡ held_of old
   pub places : places_in new.live.tabs ≡ places_in old.live.tabs
 
--- this was done with what was held, where no cell is shared, or memory was wanting and all stays
+-- this was done with what was held, where all shared cells are empty, or memory was wanting and all
+-- stays
 abbrev pub Acts : Effect → (old new : HoldingsView) → Result ReplyBody NoMemory → Type 0
 Acts does old new result =
     MatchResult result (λ body. IsDone (does no_shared_cells (held_of old)) old new (body_of body))
@@ -107,6 +110,27 @@ by_keyed action = option_and_then key_action (document_action action)
 -- a line does such an action
 abbrev pub is_keyed : PlainAction → Bool
 is_keyed action = is_some (by_keyed action)
+
+-- an action only reads what the key of its document has
+abbrev pub reads : DocumentAction → Bool
+reads (Frame parent url sandbox deny) = false
+reads (Nav url by_self method) = false
+reads Drop = false
+reads Click = false
+reads (Set area key value) = false
+reads (Get area key) = true
+reads (Del area key) = false
+reads (Clear area) = false
+reads (Len area) = true
+reads (Key area n) = true
+reads Events = false
+reads Persisted = true
+reads Estimate = true
+reads (Persist answer) = false
+
+-- a line does such an action
+abbrev pub is_reading : PlainAction → Bool
+is_reading action = list_any reads (option_to_list (document_action action))
 
 -- ---- an action on the frames of a tab
 

@@ -52,7 +52,7 @@ pub record IsStanding (state : AgentState) : Type 0 where
   pub placed_all : IsPlaced (places_in state.tabs) (held_in state)
   pub owned : AreOwned (held_in state)
 
--- the world that the agent stands for. No cell is shared between sites.
+-- the world that the agent stands for. It keeps no shared cell, as each is empty.
 unfoldable pub world_of : AgentState → AgentWorld
 world_of state =
     whole_world state.now (places_in state.tabs) no_shared_cells (held_in state)

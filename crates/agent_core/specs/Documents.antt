@@ -10,8 +10,8 @@ use Rattle.storage_events.specs.Event.{PlainEvent}
 use Rattle.frame_tree.specs.Keys.{key_of_document}
 use Rattle.live_state.specs.Queues.{frames_by}
 use Rattle.live_state.specs.Tabs.{PlainTab, tab_at}
-use Rattle.agent_core.specs.declared.documents.Found.{Found}
-use Rattle.agent_core.specs.declared.documents.Found.TheVariants as found
+use Rattle.agent_core.specs.declared.holdings.Found.{Found}
+use Rattle.agent_core.specs.declared.holdings.Found.TheVariants as found
 
 -- the document of a frame of an open tab
 abbrev pub document_at : Label → List PlainTab → Option PlainDocument

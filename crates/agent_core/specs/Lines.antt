@@ -1,15 +1,16 @@
 -- What a line makes of the agent, and its reply; and what a tab that is opened copies.
 -- Source: HTML, "Navigables"; Storage Standard, "Storage sheds", for the copies.
-use Rattle.std.specs.Prelude.{◌≡◌, ℕ, Bool, true, List, Option, Some, None, Result, IfOk, OnOk, OnErr}
+use Rattle.std.specs.Prelude.{◌≡◌, ℕ, Bool, true, List, Option, Some, None, Result, IfOk, IsOk, OnOk, OnErr}
 use Rattle.unwinding.specs.World.{line_reply, world_step}
 use Rattle.agent_base.specs.declared.refusals.NoMemory.{NoMemory}
 use Rattle.origin_site.specs.Site.{PlainSite}
 use Rattle.frame_tree.specs.Tree.{top_site}
 use Rattle.live_state.specs.Queues.{frames_by}
 use Rattle.live_state.specs.Tabs.{PlainTab, is_open, tab_at}
-use Rattle.script_lines.specs.declared.reply.Reply.{Reply}
-use Rattle.script_lines.specs.Plain.{reply_of}
+use Rattle.reply_lines.specs.declared.reply.Reply.{Reply}
+use Rattle.reply_lines.specs.Plain.{reply_of}
 use Rattle.script_lines.specs.Script.{PlainAction}
+use Rattle.agent_model.specs.Lines.{main_event}
 use Rattle.agent_model.specs.Partition.{Holdings}
 use Rattle.agent_model.specs.Sessions.{copy_sessions}
 use Rattle.agent_model.specs.TheMachine.{machine}
@@ -19,7 +20,8 @@ use Rattle.agent_core.specs.AgentState.{AgentState, world_of}
 -- ---- a line of the agent
 
 -- a line was run: its reply is the world's, and the agent stands for the world after it; or memory
--- was wanting, and the agent stands for the world as it was
+-- was wanting, which a line without a main event does not take, and the agent stands for the world
+-- as it was
 pub record Runs (action : PlainAction) (old new : AgentState) (result : Result Reply NoMemory)
     : Type 0 where
   pub reply : IfOk result (λ r.
@@ -27,6 +29,7 @@ pub record Runs (action : PlainAction) (old new : AgentState) (result : Result R
   pub world : OnOk result (world_of new ≡ world_step (machine old.rules) (world_of old) action)
   pub rules : new.rules ≡ old.rules
   pub unchanged : OnErr result (world_of new ≡ world_of old)
+  pub refused : main_event old.rules (world_of old) action ≡ None → IsOk result
 
 -- ---- loads
 

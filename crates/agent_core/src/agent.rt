@@ -1,24 +1,26 @@
 //! The agent: one list of tabs and one storage, for all sites.
-ghost use Rattle.std.specs.Prelude.{◌≡◌, ◌≤◌, Bool, IfOk, Ok, OnOk, OnErr, Some};
+ghost use Rattle.std.specs.Prelude.{◌≡◌, ◌≤◌, Bool, IfOk, IsOk, None, Ok, OnOk, OnErr, Some};
 ghost use Rattle.unwinding.specs.World.{line_reply, world_step};
 ghost use Rattle.origin_site.specs.Plain.{plain_address, plain_site};
-ghost use Rattle.script_lines.specs.Plain.{action_of, reply_of};
+ghost use Rattle.script_lines.specs.Plain.{action_of};
+ghost use Rattle.reply_lines.specs.Plain.{reply_of};
 ghost use Rattle.script_lines.specs.Script as plain;
 ghost use Rattle.script_lines.specs.declared.words.Method.{Method};
 ghost use Rattle.agent_model.specs.Isolation.{printed};
+ghost use Rattle.agent_model.specs.Lines.{main_event};
 ghost use Rattle.agent_model.specs.Rest as spec;
 ghost use Rattle.agent_model.specs.TheMachine.{machine, beginning};
 ghost use Rattle.agent_core.specs.AgentState.{world_of};
 ghost use Rattle.agent_core.specs.Lines.{Runs};
 ghost use Rattle.agent_core.specs.Actions.{label_of};
 
-use crate::acts::name_of;
 use crate::clock::clock_after;
 use crate::holdings::Holdings;
-use crate::replies::{answer, loaded, refused, replied, ticked};
+use crate::replies::{answer, loaded, name_of, refused, replied, ticked};
 use agent_base::{Label, NoMemory};
 use origin_site::{Address, Site};
-use script_lines::{Action, Reply, ReplyBody};
+use reply_lines::{Reply, ReplyBody};
+use script_lines::Action;
 use std::alloc::Global;
 use std::marker::Model;
 use suffix_list::SuffixList;
@@ -67,7 +69,8 @@ impl<'l> Agent<'l> {
         self.now
     }
 
-    /// Runs one line, and gives its reply. Want of memory leaves the agent as it was.
+    /// Runs one line, and gives its reply. Want of memory leaves the agent as it was, and never
+    /// comes where the line moves the clock or is refused for its tabs.
     pub fn line(&mut self, action: &Action) -> Result<Reply, NoMemory>
         ensures reply { let here = world_of self.old in
             let told = line_reply (machine self.old.rules) here (action_of action.now) in
@@ -76,6 +79,8 @@ impl<'l> Agent<'l> {
             let next = world_step (machine self.old.rules) here (action_of action.now) in
             OnOk result (world_of self.new ≡ next) }
         ensures rules { self.new.rules ≡ self.old.rules }
+        ensures refused { let here = world_of self.old in
+            main_event self.old.rules here (action_of action.now) ≡ None → IsOk result }
         ensures unchanged { OnErr result (world_of self.new ≡ world_of self.old) }
     {
         match action {

@@ -4,17 +4,9 @@
 //! line's reply. The world and its replies are defined in `agent_model`.
 #![tactic(auto)]
 
-mod acts;
 mod agent;
-mod areas;
 mod clock;
-mod documents;
-mod events;
-mod frames;
 mod holdings;
-mod loads;
-mod modes;
 mod replies;
-mod sites;
 
 pub use agent::Agent;

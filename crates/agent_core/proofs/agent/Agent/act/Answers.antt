@@ -1,8 +1,9 @@
 use Rattle.std.proofs.Common.{◌≡◌, ℕ, List, Some, None, refl, sym, ap, subst, ◌∙◌}
 use Rattle.std.specs.Prelude.{IfSome, codes, is_some, option_map}
 use Rattle.origin_site.specs.Plain.{plain_site}
-use Rattle.script_lines.specs.Plain.{action_of, body_of}
-use Rattle.script_lines.specs.Reply.{Plain}
+use Rattle.script_lines.specs.Plain.{action_of}
+use Rattle.reply_lines.specs.Plain.{body_of}
+use Rattle.reply_lines.specs.Reply.{Plain}
 use Rattle.script_lines.specs.Script.{PlainAction}
 use Rattle.live_state.specs.Tabs.{PlainTab, tab_at}
 use Rattle.agent_model.specs.Done.{no_shared_cells}
@@ -11,8 +12,8 @@ use Rattle.agent_core.specs.AgentState.{places_in}
 use Rattle.agent_core.specs.HoldingsView.{held_of}
 use Rattle.agent_core.specs.Actions.{IsDone, Stays, document_action}
 use Rattle.agent_core.proofs.ActLemmas.{IsActOf, act_of}
-use Rattle.agent_core.proofs.StandingLemmas.{NeedsTab, reply_told, runs_from, runs_still, runs_without_tab, shown_is}
-use Rattle.agent_core.proofs.RunsLemmas.{runs_acted, runs_stays, standing_acted, standing_stays}
+use Rattle.agent_core.proofs.StandingLemmas.{HasEvent, NeedsTab, reply_told, runs_from, runs_still, runs_without_tab, shown_is}
+use Rattle.agent_core.proofs.RunsLemmas.{runs_acted, runs_stays, runs_unchanged, standing_acted, standing_stays}
 use Rattle.agent_core.proofs.agent.Agent.act.Goals as goal
 
 pub returns-in_default : goal.returns-in_default
@@ -23,6 +24,14 @@ returns-in_default c =
       runs = runs_still c.self.view_is
           (runs_without_tab (action_of c.args.action.now) _ c.refused.result (subst (λ (line : PlainAction). NeedsTab line (places_in c.self.inside.held.live.tabs)) (sym own.is) nowhere)
           (c.refused.ensures ∙ ap (λ (name : List ℕ). record { name = name; site = None; body = Plain (codes "no-tab") }) c.name_of-name.ensures));
+    }
+
+pub returns-in_err-site : goal.returns-in_err-site
+returns-in_err-site c =
+    let own = act_of (action_of c.args.action.now) c.args.at c.requires.named in
+    let event = subst (λ (line : PlainAction). HasEvent line (places_in c.self.inside.held.live.tabs)) (sym own.is) c.in_err-site.ensures.memory in
+    record {
+      runs = runs_still c.self.view_is (runs_unchanged _ (action_of c.args.action.now) event c.from_residual.result c.from_residual.ensures.0);
     }
 
 pub act-requires-clause-open : goal.act-requires-clause-open
@@ -44,9 +53,12 @@ invariant_of-self c = standing_stays _ c.self.invariant _ _ (failed c).places (f
 
 pub returns-in_err-body : goal.returns-in_err-body
 returns-in_err-body c =
+    let own = act_of (action_of c.args.action.now) c.args.at c.requires.named in
+    let place = ap is_some (sym c.in_ok-site.ensures.site ∙ ap (option_map plain_site) c.in-Some.is) in
+    let event = subst (λ (line : PlainAction). HasEvent line (places_in c.self.inside.held.live.tabs)) (sym own.is) place in
     record {
       runs = runs_from c.self.view_is
-          (runs_stays _ c.self.invariant _ _ (failed c).places (failed c).held (action_of c.args.action.now) c.from_residual-in_err-body.result c.from_residual-in_err-body.ensures.0);
+          (runs_stays _ c.self.invariant _ _ (failed c).places (failed c).held (action_of c.args.action.now) event c.from_residual-in_err-body.result c.from_residual-in_err-body.ensures.0);
     }
 
 -- what was done in the tab

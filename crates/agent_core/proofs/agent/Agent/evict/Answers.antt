@@ -1,12 +1,18 @@
-use Rattle.std.proofs.Common.{ap}
+use Rattle.std.proofs.Common.{ap, refl}
 use Rattle.origin_site.specs.Plain.{plain_site}
 use Rattle.live_state.specs.Tabs.{PlainLive}
-use Rattle.script_lines.specs.Reply.{Cleared}
+use Rattle.reply_lines.specs.Reply.{Cleared}
 use Rattle.script_lines.specs.Script.{Evict}
 use Rattle.agent_core.specs.AgentState.{places_in}
-use Rattle.agent_core.proofs.StandingLemmas.{reply_told, runs_from}
-use Rattle.agent_core.proofs.RunsLemmas.{runs_evicted, runs_stays, standing_evicted, standing_stays}
+use Rattle.agent_core.proofs.StandingLemmas.{reply_told, runs_from, runs_still}
+use Rattle.agent_core.proofs.RunsLemmas.{runs_evicted, runs_stays, runs_unchanged, standing_evicted, standing_stays}
 use Rattle.agent_core.proofs.agent.Agent.evict.Goals as goal
+
+pub returns-in_err-named : goal.returns-in_err-named
+returns-in_err-named c =
+    record {
+      runs = runs_still c.self.view_is (runs_unchanged _ (Evict (plain_site c.args.site.now)) tt c.from_residual.result c.from_residual.ensures.0);
+    }
 
 pub invariant_of-self : goal.invariant_of-self
 invariant_of-self c =
@@ -19,7 +25,7 @@ returns-in_err-cleared c =
     record {
       runs = runs_from c.self.view_is
           (runs_stays _ c.self.invariant _ _ (ap (λ (live : PlainLive). places_in live.tabs) evicted.live) evicted.unchanged
-          (Evict (plain_site c.args.site.now)) c.from_residual-in_err-cleared.result c.from_residual-in_err-cleared.ensures.0);
+          (Evict (plain_site c.args.site.now)) tt c.from_residual-in_err-cleared.result c.from_residual-in_err-cleared.ensures.0);
     }
 
 pub invariant_of-self-2 : goal.invariant_of-self-2

@@ -1,7 +1,8 @@
-use Rattle.std.proofs.Common.{sym}
+use Rattle.std.proofs.Common.{ap, sym}
+use Rattle.std.specs.Prelude.{is_some}
 use Rattle.origin_site.specs.Plain.{plain_address}
 use Rattle.script_lines.specs.Script.{Go}
-use Rattle.agent_core.proofs.StandingLemmas.{nowhere_is, reply_told, runs_from, runs_still, runs_without_tab, tab_there}
+use Rattle.agent_core.proofs.StandingLemmas.{nowhere_is, place_is, reply_told, runs_from, runs_still, runs_without_tab, tab_there}
 use Rattle.agent_core.proofs.RunsLemmas.{runs_gone, runs_stays, standing_gone}
 use Rattle.agent_core.proofs.agent.Agent.go.Goals as goal
 
@@ -17,10 +18,12 @@ returns-then-not-is_open c =
 pub returns-in_err-site : goal.returns-in_err-site
 returns-in_err-site c =
     let stays = c.in_err-site.ensures.unchanged in
+    let tab = tab_there c.args.tab c.self.inside.held.live.tabs (sym c.if-not-is_open.ensures.«open») in
+    let event = ap is_some (place_is _ c.args.tab c.self.invariant tab.0 tab.1).1 in
     record {
       runs = λ by_page method.
           runs_from c.self.view_is
-          (runs_stays _ c.self.invariant _ _ stays.places stays.held (Go c.args.tab (plain_address c.args.url.now) by_page method) c.from_residual.result c.from_residual.ensures.0);
+          (runs_stays _ c.self.invariant _ _ stays.places stays.held (Go c.args.tab (plain_address c.args.url.now) by_page method) event c.from_residual.result c.from_residual.ensures.0);
     }
 
 pub invariant_of-self-2 : goal.invariant_of-self-2

@@ -1,12 +1,13 @@
 use Rattle.std.proofs.Common.{◌≡◌, sym, ap, ◌∙◌}
 use Rattle.origin_site.specs.Plain.{plain_address}
+use Rattle.std.specs.Prelude.{is_some}
 use Rattle.script_lines.specs.Script.{Open}
 use Rattle.agent_model.specs.Sessions.{show}
 use Rattle.agent_core.specs.HoldingsView.{held_of}
 use Rattle.agent_core.specs.Lines.{is_there, with_copies}
-use Rattle.agent_core.proofs.StandingLemmas.{reply_told, runs_from, runs_still}
+use Rattle.agent_core.proofs.StandingLemmas.{nowhere_is, reply_told, runs_from, runs_still}
 use Rattle.agent_core.proofs.RunsLemmas.{runs_stays}
-use Rattle.agent_core.proofs.OpenRunsLemmas.{copied_from, fresh_is, runs_opened, runs_taken, runs_unopened, standing_opened}
+use Rattle.agent_core.proofs.OpenRunsLemmas.{copied_from, fresh_is, runs_opened, runs_taken, runs_unopened, standing_opened, starter_is}
 use Rattle.agent_core.proofs.agent.Agent.open.Goals as goal
 use Rattle.agent_core.proofs.agent.Agent.open.Goals.{then-noopener, else-noopener}
 
@@ -44,10 +45,12 @@ pub returns-in_err-site : goal.returns-in_err-site
 returns-in_err-site c =
     let a = c.args in
     let stays = c.in_err-site.ensures.unchanged in
+    let starter = starter_is _ c.self.invariant a.opener (sym c.if-not-is_there.ensures.there) in
     record {
       runs = λ method.
           runs_from c.self.view_is
-          (runs_stays _ c.self.invariant _ _ stays.places stays.held (Open a.tab (plain_address a.url.now) a.opener a.noopener method) c.from_residual.result c.from_residual.ensures.0);
+          (runs_stays _ c.self.invariant _ _ stays.places stays.held (Open a.tab (plain_address a.url.now) a.opener a.noopener method)
+          (ap is_some starter.1, nowhere_is a.tab c.self.inside.held.live.tabs (sym c.if-is_open.ensures.«open»)) c.from_residual.result c.from_residual.ensures.0);
     }
 
 copied_is : (c : goal.After-replied) → c.if-noopener.copied ≡ copied_from c.args.noopener c.args.opener

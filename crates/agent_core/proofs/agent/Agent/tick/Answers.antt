@@ -1,6 +1,6 @@
 use Rattle.std.proofs.Common.{ℕ, Ok, ap, subst, sym, ◌∙◌}
 use Rattle.std.specs.Prelude.{pos}
-use Rattle.script_lines.specs.Reply.{Now}
+use Rattle.reply_lines.specs.Reply.{Now}
 use Rattle.script_lines.specs.Script.{Tick}
 use Rattle.agent_model.specs.Isolation.{printed}
 use Rattle.one_store.proofs.WorldLemmas.{told_nowhere}

@@ -2,13 +2,13 @@
 use Rattle.std.proofs.Common.{[], None, refl, ap, string_bytes, ◌∙◌}
 use Rattle.std.specs.Prelude.{option_map}
 use Rattle.origin_site.specs.Plain.{plain_address}
-use Rattle.script_lines.specs.Reply.{Load}
+use Rattle.reply_lines.specs.Reply.{Load}
 use Rattle.agent_model.specs.Frames.{frames_added}
 use Rattle.agent_core.proofs.FrameLemmas.{tree_added}
 use Rattle.live_state.specs.FramesInPlace.{frames_at}
 use Rattle.live_state.specs.Queues.{frames_by}
 use Rattle.live_state.specs.Tabs.{is_open}
-use Rattle.script_lines.specs.Plain.{body_of}
+use Rattle.reply_lines.specs.Plain.{body_of}
 use Rattle.agent_core.specs.HoldingsView.{HoldingsView}
 use Rattle.agent_core.proofs.DoneLemmas.{frames_as}
 use Rattle.agent_core.proofs.InPlaceLemmas.{acts_in_place, trees_in_place}

@@ -6,7 +6,7 @@ use Rattle.agent_core.proofs.FrameLemmas.{tree_removed}
 use Rattle.live_state.specs.FramesInPlace.{frames_at}
 use Rattle.live_state.specs.Queues.{frames_by}
 use Rattle.live_state.specs.Tabs.{is_open}
-use Rattle.script_lines.specs.Plain.{body_of}
+use Rattle.reply_lines.specs.Plain.{body_of}
 use Rattle.agent_core.specs.HoldingsView.{HoldingsView}
 use Rattle.agent_core.proofs.DoneLemmas.{frames_as}
 use Rattle.agent_core.proofs.InPlaceLemmas.{acts_in_place, trees_in_place}

@@ -2,7 +2,7 @@ use Rattle.std.proofs.Common.{◌≡◌, true, Option, refl, ap, sym, subst, ◌
 use Rattle.frame_tree.specs.Tree.{has_frame}
 use Rattle.live_state.specs.Queues.{frames_by, has_document}
 use Rattle.live_state.specs.Tabs.{PlainTab}
-use Rattle.script_lines.specs.Reply.{Events}
+use Rattle.reply_lines.specs.Reply.{Events}
 use Rattle.agent_core.specs.FrameTrees.{AreTrees}
 use Rattle.agent_core.specs.HoldingsView.{HoldingsView}
 use Rattle.agent_core.proofs.DoneLemmas.{taken_done}

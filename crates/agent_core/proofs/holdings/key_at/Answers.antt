@@ -4,9 +4,9 @@ use Rattle.std.specs.Prelude.{option_map}
 use Rattle.storage_key.specs.Plain.{plain_key}
 use Rattle.frame_tree.specs.Keys.{key_of_document}
 use Rattle.agent_core.specs.Documents.{IsFound}
-use Rattle.agent_core.specs.declared.documents.Found.TheVariants.{Keyed, NoFrame, Opaque}
+use Rattle.agent_core.specs.declared.holdings.Found.TheVariants.{Keyed, NoFrame, Opaque}
 use Rattle.agent_core.proofs.FoundLemmas.{key_found, no_key_found}
-use Rattle.agent_core.proofs.documents.key_at.Goals as goal
+use Rattle.agent_core.proofs.holdings.key_at.Goals as goal
 
 pub returns-in-Some : goal.returns-in-Some
 returns-in-Some c = record {

@@ -9,7 +9,7 @@ ghost use Rattle.frame_tree.specs.Tree.{top_site};
 ghost use Rattle.live_state.specs.FramesInPlace.{IsPutIn, frames_at};
 ghost use Rattle.live_state.specs.Tabs.{is_open};
 ghost use Rattle.script_lines.specs.declared.words.Method.{Method};
-ghost use Rattle.script_lines.specs.Plain.{body_of};
+ghost use Rattle.reply_lines.specs.Plain.{body_of};
 ghost use Rattle.agent_model.specs.Rest.{last_moment};
 ghost use Rattle.agent_model.specs.Frames.{add_frame, click, frames_added, frames_clicked};
 ghost use Rattle.agent_model.specs.Frames.{frames_navigated, frames_removed, navigate_frame};
@@ -23,7 +23,7 @@ use agent_base::{Label, NoMemory};
 use frame_tree::{Sandbox, TreeFault};
 use live_state::Live;
 use origin_site::Address;
-use script_lines::ReplyBody;
+use reply_lines::ReplyBody;
 use std::alloc::Global;
 use suffix_list::SuffixList;
 

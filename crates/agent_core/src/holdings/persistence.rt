@@ -1,23 +1,27 @@
-//! Actions on the buckets of documents.
-ghost use Rattle.std.specs.Prelude.{◌≡◌, Some, true};
+//! Actions on the buckets of documents, and evictions of a site.
+ghost use Rattle.std.specs.Prelude.{◌≡◌, IfOk, OnErr, OnOk, Some, true};
+ghost use Rattle.origin_site.specs.Plain.{plain_site};
 ghost use Rattle.storage_key.specs.Plain.{plain_key};
 ghost use Rattle.frame_tree.specs.Calls.{is_https_chain};
 ghost use Rattle.frame_tree.specs.Document.{PlainDocument};
 ghost use Rattle.local_area.specs.Area.{area_weight};
 ghost use Rattle.live_state.specs.Tabs.{PlainTab, is_open, tab_at};
-ghost use Rattle.script_lines.specs.Plain.{body_of};
-ghost use Rattle.script_lines.specs.Reply as reply_text;
+ghost use Rattle.reply_lines.specs.Plain.{body_of};
+ghost use Rattle.reply_lines.specs.Reply as reply_text;
 ghost use Rattle.storage_events.specs.declared.event.AreaKind.TheVariants.{Local};
 ghost use Rattle.agent_model.specs.Partition.{area_of};
 ghost use Rattle.agent_model.specs.Documents.{Keyed};
-ghost use Rattle.agent_model.specs.Buckets.{is_grant, is_persistent, persist};
+ghost use Rattle.agent_model.specs.Buckets.{evicted_count, is_grant, is_persistent, persist};
+ghost use Rattle.agent_model.specs.Buckets.{without_evicted};
 ghost use Rattle.agent_core.specs.HoldingsView.{held_of};
 ghost use Rattle.agent_core.specs.Actions.{ActsIn};
 
 use crate::holdings::Holdings;
 use crate::replies::answer;
 use agent_base::{Label, NoMemory};
-use script_lines::{Prompt, ReplyBody};
+use origin_site::Site;
+use reply_lines::ReplyBody;
+use script_lines::Prompt;
 use storage_key::StorageKey;
 
 impl Holdings {
@@ -66,6 +70,18 @@ impl Holdings {
         }
         self.storage.persist(key)?;
         Ok(ReplyBody::Truth { value: true })
+    }
+
+    /// Evicts the storage of a site, and counts the areas that went. No tab is closed.
+    pub fn evict(&mut self, site: &Site) -> Result<u32, NoMemory>
+        ensures held { let left = without_evicted (plain_site site.now) (held_of self.old) in
+            OnOk result (held_of self.new ≡ left) }
+        ensures count { let taken = evicted_count (plain_site site.now) (held_of self.old) in
+            IfOk result (λ count. count ≡ taken) }
+        ensures live { self.new.live ≡ self.old.live }
+        ensures unchanged { OnErr result (held_of self.new ≡ held_of self.old) }
+    {
+        self.storage.evict(site)
     }
 
     // Whether each document from the top to this one is https.

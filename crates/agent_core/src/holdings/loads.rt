@@ -19,23 +19,6 @@ use std::alloc::Global;
 use suffix_list::SuffixList;
 
 impl Holdings {
-    /// Whether a tab is open.
-    pub fn is_open(&self, tab: u16) -> bool
-        ensures open { result ≡ is_open tab self.now.live.tabs }
-    {
-        self.live.tab(tab).is_some()
-    }
-
-    /// Whether the opener of a tab is open, if it has one.
-    pub fn is_there(&self, opener: Option<u16>) -> bool
-        ensures there { result ≡ is_there opener self.now.live.tabs }
-    {
-        match opener {
-            Some(opener) => self.is_open(opener),
-            None => true,
-        }
-    }
-
     /// Shows an address alone in a tab, which is open or new. Answers the site that is reached.
     pub fn show(
         &mut self,

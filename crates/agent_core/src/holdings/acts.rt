@@ -1,51 +1,23 @@
 //! Actions in an open tab.
-ghost use Rattle.std.specs.Prelude.{◌≡◌, ◌≤◌, IfSome, Some, true};
+ghost use Rattle.std.specs.Prelude.{◌≡◌, ◌≤◌, IfSome, Some, false, true};
 ghost use Rattle.storage_key.specs.Plain.{plain_key};
 ghost use Rattle.live_state.specs.Queues.{has_document};
 ghost use Rattle.live_state.specs.Tabs.{PlainTab, is_open, tab_at};
 ghost use Rattle.script_lines.specs.Plain.{action_of};
 ghost use Rattle.agent_model.specs.Rest.{last_moment};
 ghost use Rattle.agent_model.specs.Documents.{Keyed, with_key};
-ghost use Rattle.agent_model.specs.ActionNames.{action_name};
 ghost use Rattle.agent_model.specs.SiteStep.{act_in};
 ghost use Rattle.agent_core.specs.Actions.{ActsBy, ActsIn, by_keyed, document_action, is_keyed};
-ghost use Rattle.agent_core.specs.Actions.{label_of};
+ghost use Rattle.agent_core.specs.Actions.{is_reading, label_of};
 
-use crate::documents::{Found, key_at};
-use crate::holdings::Holdings;
+use crate::holdings::{Found, Holdings, key_at};
 use crate::replies::answer;
 use agent_base::{Label, NoMemory};
-use script_lines::{Action, ReplyBody};
+use reply_lines::ReplyBody;
+use script_lines::Action;
 use std::alloc::Global;
 use storage_key::StorageKey;
 use suffix_list::SuffixList;
-
-/// The name of an action.
-pub fn name_of(action: &Action) -> &'static str
-    ensures { result.now ≡ action_name (action_of action.now) }
-{
-    match action {
-        Action::Tick { .. } => "tick",
-        Action::Open { .. } => "open",
-        Action::Close { .. } => "close",
-        Action::Go { .. } => "go",
-        Action::Frame { .. } => "frame",
-        Action::Nav { .. } => "nav",
-        Action::Drop { .. } => "drop",
-        Action::Click { .. } => "click",
-        Action::Set { .. } => "set",
-        Action::Get { .. } => "get",
-        Action::Del { .. } => "del",
-        Action::Clear { .. } => "clear",
-        Action::Len { .. } => "len",
-        Action::Key { .. } => "key",
-        Action::Events { .. } => "events",
-        Action::Persisted { .. } => "persisted",
-        Action::Estimate { .. } => "estimate",
-        Action::Persist { .. } => "persist",
-        Action::Evict { .. } => "evict",
-    }
-}
 
 impl Holdings {
     /// Does an action in an open tab, at this moment.
@@ -79,7 +51,8 @@ impl Holdings {
         }
     }
 
-    // Does an action that is done with the storage key of its document.
+    // Does an action that is done with the storage key of its document. The key is copied where the
+    // action changes what is held, and with it the tab that has the key.
     fn act_with_key(
         &mut self,
         alloc: Global,
@@ -95,14 +68,44 @@ impl Holdings {
             Found::NoFrame => Ok(answer("no-frame")),
             Found::Opaque => Ok(answer("security")),
             Found::Keyed(key) => {
+                if is_reading(action) {
+                    return self.read_under(alloc, at, key, action);
+                }
                 let key = key.copy(alloc)?;
-                self.act_under(alloc, at, &key, action)
+                self.write_under(alloc, at, &key, action)
             }
         }
     }
 
-    // Does such an action under this key.
-    fn act_under(
+    // Does an action that only reads, under the key of its document.
+    fn read_under(
+        &self,
+        alloc: Global,
+        at: Label,
+        key: &StorageKey,
+        action: &Action,
+    ) -> Result<ReplyBody, NoMemory>
+        requires reads { is_reading (action_of action.now) ≡ true }
+        ensures acts { IfSome (by_keyed (action_of action.now)) (λ does.
+            (tab : PlainTab) → tab_at at.tab self.now.live.tabs ≡ Some tab
+            → ActsBy at (plain_key key.now) (does tab) self.now self.now result) }
+    {
+        match action {
+            Action::Get {
+                area,
+                key: name,
+                ..
+            } => self.get(alloc, *area, at.tab, key, name),
+            Action::Len { area, .. } => Ok(self.len(*area, at.tab, key)),
+            Action::Key { area, n, .. } => self.name_at(alloc, *area, at.tab, key, *n),
+            Action::Persisted { .. } => Ok(self.persisted(key)),
+            Action::Estimate { .. } => Ok(self.estimate(key)),
+            _ => unreachable!(),
+        }
+    }
+
+    // Does an action that changes what is held, under the key of its document.
+    fn write_under(
         &mut self,
         alloc: Global,
         at: Label,
@@ -111,6 +114,7 @@ impl Holdings {
     ) -> Result<ReplyBody, NoMemory>
         requires there { has_document self.old.live.tabs at ≡ true }
         requires keyed { is_keyed (action_of action.now) ≡ true }
+        requires writes { is_reading (action_of action.now) ≡ false }
         ensures acts { IfSome (by_keyed (action_of action.now)) (λ does.
             (tab : PlainTab) → tab_at at.tab self.old.live.tabs ≡ Some tab
             → ActsBy at (plain_key key.now) (does tab) self.old self.new result) }
@@ -122,23 +126,28 @@ impl Holdings {
                 value,
                 ..
             } => self.set(alloc, at, *area, key, name, value),
-            Action::Get {
-                area,
-                key: name,
-                ..
-            } => self.get(alloc, *area, at.tab, key, name),
             Action::Del {
                 area,
                 key: name,
                 ..
             } => self.del(alloc, at, *area, key, name),
             Action::Clear { area, .. } => self.clear(alloc, at, *area, key),
-            Action::Len { area, .. } => Ok(self.len(*area, at.tab, key)),
-            Action::Key { area, n, .. } => self.name_at(alloc, *area, at.tab, key, *n),
-            Action::Persisted { .. } => Ok(self.persisted(key)),
-            Action::Estimate { .. } => Ok(self.estimate(key)),
             Action::Persist { answer, .. } => self.persist(at, key, *answer),
             _ => unreachable!(),
         }
+    }
+}
+
+// Whether an action only reads what its document's key has.
+fn is_reading(action: &Action) -> bool
+    ensures { result ≡ is_reading (action_of action.now) }
+{
+    match action {
+        Action::Get { .. }
+        | Action::Len { .. }
+        | Action::Key { .. }
+        | Action::Persisted { .. }
+        | Action::Estimate { .. } => true,
+        _ => false,
     }
 }

@@ -12,7 +12,7 @@ ghost use Rattle.agent_core.specs.Actions.{ActsIn};
 use crate::holdings::Holdings;
 use crate::replies::answer;
 use agent_base::{Label, NoMemory};
-use script_lines::ReplyBody;
+use reply_lines::ReplyBody;
 use std::alloc::Global;
 use storage_events::{AreaKind, Event};
 use storage_key::StorageKey;

@@ -6,8 +6,10 @@ use Rattle.agent_base.specs.Streams.{Gives}
 use Rattle.agent_base.proofs.Pieces.{takes_none}
 use Rattle.suffix_list.specs.Suffix.{Rule}
 use Rattle.suffix_list.specs.ListText.{RuleList, list_of}
+use Rattle.suffix_list.specs.declared.fault.ListFault.{ListFault}
 use Rattle.script_lines.specs.Script.{PlainAction, PlainScript}
 use Rattle.script_lines.specs.Grammar.{script_of_bytes}
+use Rattle.script_lines.specs.declared.script.ScriptFault.{ScriptFault}
 use Rattle.command_line.specs.Words.{Replay}
 use Rattle.replay.specs.BeforeAfter.{BeforeAfter, from_to}
 use Rattle.replay.specs.declared.status.Status.{Status}
@@ -17,16 +19,42 @@ use Rattle.replay.specs.Runs.{WritesText}
 use Rattle.replay.specs.Causes.{CanEnd, ListCause, ReadCause, ReadCounts, ReadsNoScript, ScriptCause, WriteCounts}
 use Rattle.replay.specs.Loop.{IsListOf, ListRefusal, ListUnread, ScriptAnswer, ScriptCounts, WritesLines}
 
+-- lines end with one of three statuses
+by_lines : (rules : List Rule) (start : ℕ) (actions : List PlainAction) (taken : BeforeAfter (Option (List ℕ))) (P : Status → Type 0) → P Done → P Write → P Memory → (status : Status) → WritesLines status rules start actions taken → P status
+by_lines rules start actions taken P done write memory Done written = done
+by_lines rules start actions taken P done write memory Write written = write
+by_lines rules start actions taken P done write memory Memory written = memory
+by_lines rules start actions taken P done write memory Usage written = absurd written
+by_lines rules start actions taken P done write memory (Script why) written = absurd written
+by_lines rules start actions taken P done write memory (ListStatus why) written = absurd written
+by_lines rules start actions taken P done write memory Read written = absurd written
+
+-- a script ends with one of five
+by_answer : (told : Option (List ℕ)) (P : Status → Type 0) → (ScriptAnswer Done told → P Done) → ((why : ScriptFault) → ScriptAnswer (Script why) told → P (Script why)) → P Read → (ScriptAnswer Write told → P Write) → P Memory
+    → (status : Status) → ScriptAnswer status told → P status
+by_answer told P done script read write memory Done answer = done answer
+by_answer told P done script read write memory Usage answer = absurd answer
+by_answer told P done script read write memory (Script why) answer = script why answer
+by_answer told P done script read write memory (ListStatus why) answer = absurd answer
+by_answer told P done script read write memory Read answer = read
+by_answer told P done script read write memory Write answer = write answer
+by_answer told P done script read write memory Memory answer = memory
+
+-- and a list that was not read with one of three
+by_refusal : (told : Option (List ℕ)) (faults : BeforeAfter ℕ) (P : Status → Type 0) → ((why : ListFault) → ListRefusal (ListStatus why) told faults → P (ListStatus why)) → (ListRefusal Read told faults → P Read) → (ListRefusal Memory told faults → P Memory)
+    → (status : Status) → ListRefusal status told faults → P status
+by_refusal told faults P list read memory Done why_so = absurd why_so
+by_refusal told faults P list read memory Usage why_so = absurd why_so
+by_refusal told faults P list read memory (Script why) why_so = absurd why_so
+by_refusal told faults P list read memory (ListStatus why) why_so = list why why_so
+by_refusal told faults P list read memory Read why_so = read why_so
+by_refusal told faults P list read memory Write why_so = absurd why_so
+by_refusal told faults P list read memory Memory why_so = memory why_so
+
 -- the script that was read has no fault, if its bytes are told
 pub script_answered : (status : Status) (rules : List Rule) (start : ℕ) (actions : List PlainAction) (taken : BeforeAfter (Option (List ℕ))) (told : Option (List ℕ))
     → WritesLines status rules start actions taken → IfSome told (λ bytes. IsOk (script_of_bytes bytes)) → ScriptAnswer status told
-script_answered Done rules start actions taken told written ok = ok
-script_answered Write rules start actions taken told written ok = ok
-script_answered Memory rules start actions taken told written ok = tt
-script_answered Usage rules start actions taken told written ok = absurd written
-script_answered (Script why) rules start actions taken told written ok = absurd written
-script_answered (ListStatus why) rules start actions taken told written ok = absurd written
-script_answered Read rules start actions taken told written ok = absurd written
+script_answered status rules start actions taken told written ok = by_lines rules start actions taken (λ s. ScriptAnswer s told) ok ok tt status written
 
 -- the bytes of a script that was read to its end have no fault
 pub script_fine : (before after : Option (List ℕ)) (bytes : List ℕ) (script : PlainScript) → Gives before after bytes → IfSome after (λ rest. rest ≡ []) → script_of_bytes bytes ≡ Ok script
@@ -40,13 +68,7 @@ script_fine (Some all) (Some rest) bytes script given ended grammar =
 -- lines leave the script's count alone
 pub lines_counts : (status : Status) (rules : List Rule) (start : ℕ) (actions : List PlainAction) (taken : BeforeAfter (Option (List ℕ))) (script : BeforeAfter ℕ)
     → WritesLines status rules start actions taken → script.after ≡ script.before → ScriptCounts status script
-lines_counts Done rules start actions taken script written stays = stays
-lines_counts Write rules start actions taken script written stays = stays
-lines_counts Memory rules start actions taken script written stays = stays
-lines_counts Usage rules start actions taken script written stays = absurd written
-lines_counts (Script why) rules start actions taken script written stays = absurd written
-lines_counts (ListStatus why) rules start actions taken script written stays = absurd written
-lines_counts Read rules start actions taken script written stays = absurd written
+lines_counts status rules start actions taken script written stays = by_lines rules start actions taken (λ s. ScriptCounts s script) stays stays stays status written
 
 -- the bytes of a list that was read have no fault
 list_fine : (told : Option (List ℕ)) (list : RuleList) → IsListOf told list → IfSome told (λ bytes. IsOk (list_of bytes))
@@ -69,40 +91,18 @@ if_first A B (Some bytes) rose = inl rose
 
 module _ (path : List ℕ) (start : ℕ) where
   pub read_ends : (status : Status) (told : Option (List ℕ)) → ScriptAnswer status told → CanEnd (Some (Replay path start)) status
-  read_ends Done told answer = tt
-  read_ends Usage told answer = absurd answer
-  read_ends (Script why) told answer = answer.1
-  read_ends (ListStatus why) told answer = absurd answer
-  read_ends Read told answer = tt
-  read_ends Write told answer = tt
-  read_ends Memory told answer = tt
+  read_ends status told answer = by_answer told (λ s. CanEnd (Some (Replay path start)) s) (λ a. tt) (λ why a. a.1) tt (λ a. tt) tt status answer
 
   pub read_script : (status : Status) (told : Option (List ℕ)) → ScriptAnswer status told → ScriptCause (Some (Replay path start)) status told
-  read_script Done told answer = answer
-  read_script Usage told answer = absurd answer
-  read_script (Script why) told answer = answer.0
-  read_script (ListStatus why) told answer = absurd answer
-  read_script Read told answer = tt
-  read_script Write told answer = answer
-  read_script Memory told answer = tt
+  read_script status told answer = by_answer told (λ s. ScriptCause (Some (Replay path start)) s told) (λ a. a) (λ why a. a.0) tt (λ a. a) tt status answer
 
   pub read_unread : (status : Status) (told : Option (List ℕ)) → ScriptAnswer status told → ReadsNoScript (Some (Replay path start)) status → ⊥
-  read_unread Done told answer is = is
-  read_unread Usage told answer is = is
-  read_unread (Script why) told answer is = is
-  read_unread (ListStatus why) told answer is = answer
-  read_unread Read told answer is = is
-  read_unread Write told answer is = is
-  read_unread Memory told answer is = is
+  read_unread status told answer = by_answer told (λ s. ReadsNoScript (Some (Replay path start)) s → ⊥) (λ a is. is) (λ why a is. is) (λ is. is) (λ a is. is) (λ is. is) status answer
 
 pub read_list_cause : (status : Status) (before told : Option (List ℕ)) (list : RuleList) → ScriptAnswer status before → IsListOf told list → ListCause status told
-read_list_cause Done before told list answer read = list_fine told list read
-read_list_cause Usage before told list answer read = absurd answer
-read_list_cause (Script why) before told list answer read = list_fine told list read
-read_list_cause (ListStatus why) before told list answer read = absurd answer
-read_list_cause Read before told list answer read = tt
-read_list_cause Write before told list answer read = list_fine told list read
-read_list_cause Memory before told list answer read = tt
+read_list_cause status before told list answer read =
+    let fine = list_fine told list read in
+    by_answer before (λ s. ListCause s told) (λ a. fine) (λ why a. fine) tt (λ a. fine) tt status answer
 
 pub read_counts : (status : Status) (host script : BeforeAfter ℕ) → host.after ≡ host.before → ScriptCounts status script → ReadCounts status host script
 read_counts Done host script stays counts = (stays, counts)
@@ -126,58 +126,23 @@ read_cause Memory told list reads script read counts = tt
 
 module _ (path : List ℕ) (start : ℕ) where
   pub refused_ends : (status : Status) (told : Option (List ℕ)) (faults : BeforeAfter ℕ) → ListRefusal status told faults → CanEnd (Some (Replay path start)) status
-  refused_ends Done told faults why_so = absurd why_so
-  refused_ends Usage told faults why_so = absurd why_so
-  refused_ends (Script why) told faults why_so = absurd why_so
-  refused_ends (ListStatus why) told faults why_so = why_so.1
-  refused_ends Read told faults why_so = tt
-  refused_ends Write told faults why_so = absurd why_so
-  refused_ends Memory told faults why_so = tt
+  refused_ends status told faults why_so = by_refusal told faults (λ s. CanEnd (Some (Replay path start)) s) (λ why r. r.1) (λ r. tt) (λ r. tt) status why_so
 
   pub refused_script : (status : Status) (told : Option (List ℕ)) (faults : BeforeAfter ℕ) → ListRefusal status told faults → (before : Option (List ℕ)) → ScriptCause (Some (Replay path start)) status before
-  refused_script Done told faults why_so before = absurd why_so
-  refused_script Usage told faults why_so before = absurd why_so
-  refused_script (Script why) told faults why_so before = absurd why_so
-  refused_script (ListStatus why) told faults why_so before = tt
-  refused_script Read told faults why_so before = tt
-  refused_script Write told faults why_so before = absurd why_so
-  refused_script Memory told faults why_so before = tt
+  refused_script status told faults why_so before = by_refusal told faults (λ s. ScriptCause (Some (Replay path start)) s before) (λ why r. tt) (λ r. tt) (λ r. tt) status why_so
 
   pub refused_text : (status : Status) (told : Option (List ℕ)) (faults : BeforeAfter ℕ) → ListRefusal status told faults → (left taken : Option (List ℕ)) → WritesText start status told (from_to left left) (from_to taken taken)
-  refused_text Done told faults why_so left taken = absurd why_so
-  refused_text Usage told faults why_so left taken = absurd why_so
-  refused_text (Script why) told faults why_so left taken = absurd why_so
-  refused_text (ListStatus why) told faults why_so left taken = takes_none taken
-  refused_text Read told faults why_so left taken = takes_none taken
-  refused_text Write told faults why_so left taken = absurd why_so
-  refused_text Memory told faults why_so left taken = inl (takes_none taken)
+  refused_text status told faults why_so left taken =
+      by_refusal told faults (λ s. WritesText start s told (from_to left left) (from_to taken taken)) (λ why r. takes_none taken) (λ r. takes_none taken) (λ r. inl (takes_none taken)) status why_so
 
   pub refused_list : (status : Status) (told : Option (List ℕ)) (faults : BeforeAfter ℕ) → ListRefusal status told faults → ListCause status told
-  refused_list Done told faults why_so = absurd why_so
-  refused_list Usage told faults why_so = absurd why_so
-  refused_list (Script why) told faults why_so = absurd why_so
-  refused_list (ListStatus why) told faults why_so = why_so.0
-  refused_list Read told faults why_so = tt
-  refused_list Write told faults why_so = absurd why_so
-  refused_list Memory told faults why_so = tt
+  refused_list status told faults why_so = by_refusal told faults (λ s. ListCause s told) (λ why r. r.0) (λ r. tt) (λ r. tt) status why_so
 
   pub refused_counts : (status : Status) (told : Option (List ℕ)) (faults : BeforeAfter ℕ) → ListRefusal status told faults → (script : ℕ) → ReadCounts status faults (from_to script script)
-  refused_counts Done told faults why_so script = absurd why_so
-  refused_counts Usage told faults why_so script = absurd why_so
-  refused_counts (Script why) told faults why_so script = absurd why_so
-  refused_counts (ListStatus why) told faults why_so script = (why_so.2, refl)
-  refused_counts Read told faults why_so script = inl why_so
-  refused_counts Write told faults why_so script = absurd why_so
-  refused_counts Memory told faults why_so script = (why_so, refl)
+  refused_counts status told faults why_so script = by_refusal told faults (λ s. ReadCounts s faults (from_to script script)) (λ why r. (r.2, refl)) (λ r. inl r) (λ r. (r, refl)) status why_so
 
   pub refused_write : (status : Status) (told : Option (List ℕ)) (faults : BeforeAfter ℕ) → ListRefusal status told faults → (out : ℕ) → WriteCounts status (from_to out out)
-  refused_write Done told faults why_so out = absurd why_so
-  refused_write Usage told faults why_so out = absurd why_so
-  refused_write (Script why) told faults why_so out = absurd why_so
-  refused_write (ListStatus why) told faults why_so out = refl
-  refused_write Read told faults why_so out = refl
-  refused_write Write told faults why_so out = absurd why_so
-  refused_write Memory told faults why_so out = refl
+  refused_write status told faults why_so out = by_refusal told faults (λ s. WriteCounts s (from_to out out)) (λ why r. refl) (λ r. refl) (λ r. refl) status why_so
 
   pub refused_cause : (status : Status) (told : Option (List ℕ)) (reads script : BeforeAfter ℕ) → ListUnread status told reads → ReadCause status told reads script
   refused_cause Done told reads script unread = tt

@@ -1,13 +1,15 @@
 -- Commands that end before a list is opened.
 use Rattle.std.proofs.Common.{◌≡◌, ℕ, List, Option, Some, None, IfSome, IsSome, refl, inl, subst}
+use Rattle.std.specs.Prelude.{option_and_then}
 use Rattle.std.proofs.lemmas.Bool.{false≢true}
 use Rattle.agent_base.proofs.Pieces.{takes_none}
 use Rattle.command_line.specs.Words.{PlainCommand, Help, IsReplay, Replay}
 use Rattle.replay.specs.BeforeAfter.{BeforeAfter, from_to}
 use Rattle.replay.specs.declared.status.Status.{Status}
 use Rattle.replay.specs.declared.status.Status.TheVariants.{Done, Usage, Script, List as ListStatus, Read, Write, Memory}
-use Rattle.replay.specs.Causes.{CanEnd, WriteCounts}
+use Rattle.replay.specs.Causes.{CanEnd, ListCause, ReadCause, ReadCounts, WriteCounts}
 use Rattle.replay.specs.Runs.{WritesUsage}
+use Rattle.replay.specs.Words.{list_named}
 use Rattle.replay.specs.Loop.{Obeys}
 
 -- a status other than `Usage`
@@ -58,39 +60,32 @@ module _ {HostStays ScriptStays : Type 0} (lists : List ℕ → Option (List ℕ
     closed = refl;
   }
 
-  -- the usage line
-  pub obeys_help : (status : Status) (taken : BeforeAfter (Option (List ℕ))) (out : BeforeAfter ℕ) → CanEnd (Some Help) status → WritesUsage status taken → WriteCounts status out
+  -- a status that the usage line can end with
+  help_obeys : (status : Status) (taken : BeforeAfter (Option (List ℕ))) (out : BeforeAfter ℕ) → IsNotUsage status → CanEnd (Some Help) status → WritesUsage status taken → WriteCounts status out
+      → ListCause status (option_and_then lists (list_named (Some Help))) → ReadCounts status (from_to host host) (from_to script script) → ReadCause status (option_and_then lists (list_named (Some Help))) (from_to reads reads) (from_to script script)
       → Obeys (Some Help) status lists (from_to left left) taken (from_to host host) (from_to reads reads) (from_to script script) out (from_to lists_out lists_out) HostStays ScriptStays
-  obeys_help Done taken out ends text write = record {
+  help_obeys status taken out not ends text write list read read_told = record {
     text = text;
-    usage = no_usage Done Help tt;
-    ends = tt;
+    usage = no_usage status Help not;
+    ends = ends;
     refused = tt;
-    list = tt;
-    read = (refl, refl);
-    read_told = tt;
+    list = list;
+    read = read;
+    read_told = read_told;
     write = write;
     untouched = λ is. host_stays;
     unread = λ is. script_stays;
     list_first = inl refl;
     closed = refl;
   }
+
+  -- the usage line
+  pub obeys_help : (status : Status) (taken : BeforeAfter (Option (List ℕ))) (out : BeforeAfter ℕ) → CanEnd (Some Help) status → WritesUsage status taken → WriteCounts status out
+      → Obeys (Some Help) status lists (from_to left left) taken (from_to host host) (from_to reads reads) (from_to script script) out (from_to lists_out lists_out) HostStays ScriptStays
+  obeys_help Done taken out ends text write = help_obeys Done taken out tt tt text write tt (refl, refl) tt
   obeys_help Usage taken out ends text write = absurd ends
   obeys_help (Script why) taken out ends text write = absurd ends
   obeys_help (ListStatus why) taken out ends text write = absurd ends
   obeys_help Read taken out ends text write = absurd ends
-  obeys_help Write taken out ends text write = record {
-    text = text;
-    usage = no_usage Write Help tt;
-    ends = tt;
-    refused = tt;
-    list = tt;
-    read = (refl, refl);
-    read_told = tt;
-    write = write;
-    untouched = λ is. host_stays;
-    unread = λ is. script_stays;
-    list_first = inl refl;
-    closed = refl;
-  }
+  obeys_help Write taken out ends text write = help_obeys Write taken out tt tt text write tt (refl, refl) tt
   obeys_help Memory taken out ends text write = absurd ends

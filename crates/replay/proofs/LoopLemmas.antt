@@ -10,7 +10,7 @@ use Rattle.origin_site.specs.Site.{PlainSite}
 use Rattle.script_lines.specs.declared.script.Line.{Line}
 use Rattle.script_lines.specs.Script.{PlainAction}
 use Rattle.script_lines.specs.Plain.{action_of}
-use Rattle.script_lines.specs.Reply.{reply_text}
+use Rattle.reply_lines.specs.Reply.{reply_text}
 use Rattle.agent_model.specs.SiteEvent.{Answer}
 use Rattle.agent_model.specs.Lines.{AgentWorld}
 use Rattle.agent_model.specs.TheMachine.{machine, beginning}
@@ -82,3 +82,10 @@ module _ (rules : List Rule) (start : ℕ) where
   pub stopped_after : (lines : List Line) (i : ℕ) (a b : Option (List ℕ)) → Takes a b (transcript rules start (acted (take i lines))) → TakesPrefix a b (transcript rules start (acted lines))
   stopped_after lines i a b takes =
       subst (TakesPrefix a b) (sym (text_whole lines i)) (prefix_front a b (transcript rules start (acted (take i lines))) (text_rest lines i) takes)
+
+-- what waits after a line, said of the lines of the script
+pub waits_more : (rules mine : List Rule) (start : ℕ) (lines : List Line) (i : ℕ) (item line : Line) (world : AgentWorld) (held text : List ℕ) → text ≡ held ++ line_text mine start world (action_of item.action)
+    → mine ≡ rules → world ≡ world_at rules start (acted (take i lines)) → item ≡ line → text ≡ held ++ line_text rules start (world_at rules start (acted (take i lines))) (action_of line.action)
+waits_more rules mine start lines i item line world held text says is_rules is_world is_line =
+    says ∙ ap (λ rs. held ++ line_text rs start world (action_of item.action)) is_rules ∙ ap (λ w. held ++ line_text rules start w (action_of item.action)) is_world
+    ∙ ap (λ (l : Line). held ++ line_text rules start (world_at rules start (acted (take i lines))) (action_of l.action)) is_line

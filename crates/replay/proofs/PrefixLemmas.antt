@@ -1,7 +1,8 @@
 -- What was taken in pieces, as a part of the whole.
 use Rattle.std.proofs.Common.{ℕ, ◌+◌, List, ◌++◌, Option, take, length, refl, sym, ap, subst, ◌∙◌, arith, length-append, append-nil, append_assoc, [], ◌≡◌}
-use Rattle.std.specs.Prelude.{OnErr, Result, Ok, Err}
+use Rattle.std.specs.Prelude.{OnErr, Result}
 use Rattle.std.proofs.lemmas.List.{take-append-le}
+use Rattle.std.proofs.lemmas.Result.{on_err_weaker}
 use Rattle.std.proofs.Math.Seq.{take-append-add, take-append_seam}
 use Rattle.agent_base.specs.Streams.{Takes, TakesPrefix}
 use Rattle.agent_base.proofs.Pieces.{takes_append, takes_none}
@@ -29,15 +30,9 @@ prefix_after a b c front piece takes prefix = subst (TakesPrefix a c) (ap (λ t.
 pub prefix_longer : (a b : Option (List ℕ)) (piece rest : List ℕ) → TakesPrefix a b piece → TakesPrefix a b (piece ++ rest)
 prefix_longer a b piece rest (count, within, takes) = (count, omega (arith, length-append piece rest), subst (Takes a b) (sym (take-append-le count piece rest within)) takes)
 
--- a fact where the call failed, from the fact alone
-pub on_err : {T E : Type 0} (result : Result T E) {X : Type 0} → X → OnErr result X
-on_err (Ok value) fact = tt
-on_err (Err why) fact = fact
-
--- the same, from another one where the call failed
-pub on_err_then : {T E : Type 0} (result : Result T E) {X Y : Type 0} → (X → Y) → OnErr result X → OnErr result Y
-on_err_then (Ok value) step fact = tt
-on_err_then (Err why) step fact = step fact
+-- the same, where the piece was written behind the front
+pub text_prefix : {T E : Type 0} (result : Result T E) (a b c : Option (List ℕ)) (bytes text rest : List ℕ) → bytes ≡ text → Takes a b bytes → OnErr result (TakesPrefix b c rest) → OnErr result (TakesPrefix a c (text ++ rest))
+text_prefix result a b c bytes text rest is takes = on_err_weaker result (λ prefix. prefix_after a b c text rest (subst (Takes a b) is takes) prefix)
 
 -- ---- a text of which the front was taken, and the rest is held
 

@@ -7,7 +7,7 @@ ghost use Rattle.agent_model.specs.Isolation.{printed};
 ghost use Rattle.agent_model.specs.Rest.{last_moment};
 ghost use Rattle.agent_model.specs.TheMachine.{machine};
 ghost use Rattle.script_lines.specs.Plain.{action_of};
-ghost use Rattle.script_lines.specs.Reply.{reply_text};
+ghost use Rattle.reply_lines.specs.Reply.{reply_text};
 ghost use Rattle.unwinding.specs.World.{line_reply, world_step};
 ghost use Rattle.replay.specs.BeforeAfter.{from_to};
 ghost use Rattle.replay.specs.Causes.{WriteCounts};
@@ -17,7 +17,8 @@ ghost use Rattle.replay.specs.Loop.{WritesScript, acted};
 use crate::Status;
 use agent_base::{Failed, NoMemory, Sink, Source, write_all};
 use agent_core::Agent;
-use script_lines::{Action, Line, Script, ScriptFault, print_into};
+use reply_lines::print_into;
+use script_lines::{Action, Line, Script, ScriptFault};
 use std::alloc::Global;
 use suffix_list::SuffixList;
 

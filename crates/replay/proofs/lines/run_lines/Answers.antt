@@ -10,7 +10,7 @@ use Rattle.replay.specs.Loop.{TakesFront, acted}
 use Rattle.replay.specs.BeforeAfter.{from_to}
 use Rattle.replay.specs.declared.status.Status.TheVariants.{Done, Memory}
 use Rattle.replay.proofs.PrefixLemmas.{front_part, front_then}
-use Rattle.replay.proofs.LoopLemmas.{world_at, world_begins, world_more, text_begins, text_more, line_text, stopped}
+use Rattle.replay.proofs.LoopLemmas.{world_at, world_begins, world_more, text_begins, text_more, waits_more, stopped}
 use Rattle.replay.proofs.EndLemmas.{answered_front, done_writes, ended_counts, memory_writes}
 use Rattle.replay.proofs.lines.run_lines.Goals as goal
 
@@ -43,11 +43,8 @@ returns-in_default-write_many-clause-written g c =
     let lines = c.args.lines.now in
     let i = c.loop-line.line-index in
     let line = c.line-item.result in
-    let here = world_at rules start (acted (take i lines)) in
     let waits =
-    c.in-Ok.ensures.text ∙ ap (λ rs. c.loop-line.waiting.items ++ line_text rs start (world_of c.loop-line.agent) (action_of line.action)) c.loop-line.invariant.rules
-    ∙ ap (λ w. c.loop-line.waiting.items ++ line_text rules start w (action_of line.action)) c.loop-line.invariant.world
-    ∙ ap (λ (x : Line). c.loop-line.waiting.items ++ line_text rules start here (action_of x.action)) c.line-item.is in
+    waits_more rules _ start lines i line _ (world_of c.loop-line.agent) c.loop-line.waiting.items c.answer.new.waiting.items c.in-Ok.ensures.text c.loop-line.invariant.rules c.loop-line.invariant.world c.line-item.is in
     let front =
     answered_front rules start lines i line (taken c.args.out.now) (taken c.loop-line.out) c.loop-line.waiting.items c.answer.new.waiting.items c.loop-line-test.true c.loop-line.invariant.text waits in
     stopped rules start lines (i + 1) (taken c.args.out.now) (taken c.write_many.new.out)
@@ -63,9 +60,7 @@ loop-line-preserved g c =
     let line = c.line-item.result in
     let here = world_at rules start (acted (take i lines)) in
     let waits =
-    c.in-Ok.ensures.text ∙ ap (λ rs. c.loop-line.waiting.items ++ line_text rs start (world_of c.loop-line.agent) (action_of line.action)) c.loop-line.invariant.rules
-    ∙ ap (λ w. c.loop-line.waiting.items ++ line_text rules start w (action_of line.action)) c.loop-line.invariant.world
-    ∙ ap (λ (x : Line). c.loop-line.waiting.items ++ line_text rules start here (action_of x.action)) c.line-item.is in
+    waits_more rules _ start lines i line _ (world_of c.loop-line.agent) c.loop-line.waiting.items c.answer.new.waiting.items c.in-Ok.ensures.text c.loop-line.invariant.rules c.loop-line.invariant.world c.line-item.is in
     let front =
     answered_front rules start lines i line (taken c.args.out.now) (taken c.loop-line.out) c.loop-line.waiting.items c.answer.new.waiting.items c.loop-line-test.true c.loop-line.invariant.text waits in
     record {

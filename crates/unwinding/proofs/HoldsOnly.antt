@@ -78,7 +78,7 @@ module _ {Site Cell Cells Partition Content Rest Line Event Reply Change : Type 
   unfolding line_entries
   line_none touched clean w l = none_append (side_entries m (m.side w l s)) (main_entries m s touched (after_sides m w l) (m.main w l)) (side_none (m.side w l s)) (main_none touched clean (after_sides m w l) (m.main w l))
 
-  line_clean : (touched : List Cell) → is_in m.same_cell c touched ≡ false → (w : WorldOf m) (l : Line) → LeavesCell m s c w.cells (world_step m w l).cells (m.main w l) → is_in m.same_cell c (line_touched m s touched w l) ≡ false
+  pub line_clean : (touched : List Cell) → is_in m.same_cell c touched ≡ false → (w : WorldOf m) (l : Line) → LeavesCell m s c w.cells (world_step m w l).cells (m.main w l) → is_in m.same_cell c (line_touched m s touched w l) ≡ false
   unfolding line_touched world_step
   line_clean touched clean w l leaves = stays_clean touched clean (after_sides m w l) (m.main w l) leaves
 

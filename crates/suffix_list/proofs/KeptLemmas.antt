@@ -20,7 +20,7 @@ label_no_star pattern is = false_from_ne_true (bytes_eq pattern (codes "*")) (λ
 label_stands : (pattern label : List ℕ) → is_label pattern ≡ true → stands_for pattern label ≡ bytes_eq pattern label
 label_stands pattern label is = ap (λ b. b || bytes_eq pattern label) (label_no_star pattern is)
 
-labels_stand : (patterns labels : List (List ℕ)) → list_all is_label patterns ≡ true → pointwise stands_for patterns labels ≡ pointwise bytes_eq patterns labels
+pub labels_stand : (patterns labels : List (List ℕ)) → list_all is_label patterns ≡ true → pointwise stands_for patterns labels ≡ pointwise bytes_eq patterns labels
 labels_stand [] [] is = refl
 labels_stand [] (label ∷ labels) is = refl
 labels_stand (pattern ∷ patterns) [] is = refl

@@ -1,13 +1,14 @@
 -- The labels of a name: its first label and the rest, and its last labels.
-use Rattle.std.proofs.Common.{◌≡◌, ◌==◌, ℕ, suc, ◌+◌, ◌-◌, ◌<◌, ◌≤◌, List, [], ◌∷◌, ◌++◌, length, get_or, take, drop, Some, None, refl, ap, ◌∙◌, sym, arith, All, false, drop-drop, length-drop}
+use Rattle.std.proofs.Common.{◌≡◌, ◌==◌, ℕ, suc, ◌+◌, ◌-◌, ◌<◌, ◌≤◌, inr, List, [], ◌∷◌, ◌++◌, length, get_or, take, drop, Some, None, refl, ap, ◌∙◌, sym, arith, All, false, drop-drop, length-drop}
 use Rattle.std.proofs.lemmas.Grind.{common_steps}
-use Rattle.memchr.specs.Find.{IsFirstByte}
+use Rattle.memchr.specs.Find.{IsFirstByte, IsLastByte}
 use Rattle.std.specs.List.{join_with_byte}
 use Rattle.std.proofs.lemmas.Bool.{ne_eqb, eq-eqb, eqb-true}
-use Rattle.std.proofs.lemmas.List.{drop_all}
+use Rattle.std.proofs.lemmas.List.{drop_all, get_or-drop}
 use Rattle.std.proofs.lemmas.List.Elements.{All-from_get_or}
 use Rattle.std.proofs.lemmas.List.Splits.{slice_split_at, slice_split_none, join_with_byte-slice_split, length-slice_split}
 use Rattle.suffix_list.specs.Suffix.{labels_of, last_of, last_labels}
+use Rattle.suffix_list.specs.Names.{BeginsLabel}
 
 -- the first dot ends the first label
 pub labels_of-dotted : (name : List ℕ) (dot : ℕ) → IsFirstByte (λ b. b == 46) name (Some dot) → labels_of name ≡ take dot name ∷ labels_of (drop (dot + 1) name)
@@ -25,6 +26,23 @@ labels_of-dotted name dot first =
 pub labels_of-whole : (name : List ℕ) → IsFirstByte (λ b. b == 46) name None → labels_of name ≡ name ∷ []
 labels_of-whole name none = slice_split_none (λ b. b == 46) name
     (All-from_get_or (λ b. (b == 46) ≡ false) name 0 (λ k inside. ne_eqb (get_or name k 0) 46 (λ e. none k (omega arith) inside (eq-eqb _ 46 e))))
+
+-- what stands behind the last dot is one label
+pub last_label : (name : List ℕ) (dot : ℕ) → IsLastByte (λ b. b == 46) name (Some dot) → labels_of (drop (dot + 1) name) ≡ drop (dot + 1) name ∷ []
+last_label name dot last = slice_split_none (λ b. b == 46) (drop (dot + 1) name)
+    (All-from_get_or (λ b. (b == 46) ≡ false) (drop (dot + 1) name) 0
+    (λ k inside.
+    rw (get_or-drop (dot + 1) name k 0)
+    (ne_eqb (get_or name (dot + 1 + k) 0) 46 (λ e. last.0.after (dot + 1 + k) (omega arith) (omega (arith, inside, length-drop (dot + 1) name)) (eq-eqb _ 46 e)))))
+
+-- the last dot before a place ends what stands before a label
+pub last_begins : (name : List ℕ) (end dot : ℕ) → IsLastByte (λ b. b == 46) (take end name) (Some dot) → BeginsLabel name (dot + 1)
+last_begins name end dot last =
+    let inside : dot < length (take end name) = last.0.high in
+    let is : get_or (take end name) dot 0 ≡ 46 = eqb-true (get_or (take end name) dot 0) 46 last.1 in
+    let within : dot < length name = grind (arith, common_steps) in
+    let same : get_or name dot 0 ≡ 46 = grind (arith, common_steps) in
+    inr (dot, refl, within, same)
 
 -- the labels give the name back
 pub join_labels : (name : List ℕ) → join_with_byte 46 (labels_of name) ≡ name

@@ -1,16 +1,17 @@
--- The steps of a look-up that goes from the whole host to its last label.
-use Rattle.std.proofs.Common.{◌≡◌, ℕ, suc, ◌<◌, Bool, true, false, cond, List, [], ◌∷◌, length, refl, ap, ◌∙◌, sym, arith}
+-- The longest rule at labels, from that behind their first.
+use Rattle.std.proofs.Common.{◌≡◌, ℕ, suc, Bool, true, false, cond, List, [], ◌∷◌, length, refl, ap, ◌∙◌, sym}
 use Rattle.std.specs.Prelude.{max, ◌&&◌}
 use Rattle.std.specs.List.{list_any}
-use Rattle.std.proofs.lemmas.Bool.{cond-true, cond-false}
+use Rattle.std.proofs.lemmas.Bool.{cond-false}
 use Rattle.suffix_list.specs.Suffix.{Rule, covers}
 use Rattle.suffix_list.specs.Names.{longest}
 
--- a rule covers all labels: it is the longest
-pub longest_here : (test : Rule → Bool) (rules : List Rule) (labels : List (List ℕ)) → 0 < length labels
-    → list_any (λ rule. test rule && covers labels rule) rules ≡ true → longest test rules labels ≡ length labels
-longest_here test rules [] some found = absurd (omega arith)
-longest_here test rules (label ∷ labels) some found = cond-true (list_any (λ rule. test rule && covers (label ∷ labels) rule) rules) (suc (length labels)) (longest test rules labels) found
+-- the longest rule is one that covers all labels, or that behind the first label
+pub longest_step : (test : Rule → Bool) (rules : List Rule) (labels : List (List ℕ)) (label : List ℕ) (rest : List (List ℕ)) → labels ≡ label ∷ rest
+    → longest test rules labels ≡ cond (list_any (λ rule. test rule && covers labels rule) rules) (length labels) (longest test rules rest)
+longest_step test rules labels label rest same =
+    ap (longest test rules) same
+    ∙ (λ i. cond (list_any (λ rule. test rule && covers (sym same i) rule) rules) (length (sym same i)) (longest test rules rest))
 
 -- none covers all labels: the longest is that behind the first label
 pub longest_later : (test : Rule → Bool) (rules : List Rule) (labels : List (List ℕ)) (label : List ℕ) (rest : List (List ℕ)) → labels ≡ label ∷ rest

@@ -1,14 +1,15 @@
 //! The labels of a name, which stand between its dots.
-ghost use Rattle.std.specs.Prelude.{◌≡◌, ◌==◌, ◌∷◌, ◌<◌, ◌≤◌, drop, length, IfSome, option_copied, option_map};
+ghost use Rattle.std.specs.Prelude.{◌≡◌, ◌==◌, ◌∷◌, ◌<◌, ◌≤◌, [], drop, take, length, IfSome, option_copied};
+ghost use Rattle.std.specs.Prelude.{option_map};
 ghost use Rattle.std.specs.List.{join_with_byte, list_all, list_any};
 ghost use Rattle.std.specs.Str.{byte};
 ghost use Rattle.suffix_list.specs.ListText as text;
 ghost use Rattle.suffix_list.specs.Suffix.{labels_of, last_of};
 ghost use Rattle.suffix_list.specs.Suffix as suffix;
-ghost use Rattle.suffix_list.specs.Names.{labels_after};
+ghost use Rattle.suffix_list.specs.Names.{BeginsLabel, labels_after};
 ghost use Rattle.suffix_list.specs.Names as spec;
 
-use memchr::memchr;
+use memchr::{memchr, memrchr};
 
 /// The first label, and what follows its dot.
 pub(crate) fn next_label(name: &str) -> (&str, Option<&str>)
@@ -19,6 +20,27 @@ pub(crate) fn next_label(name: &str) -> (&str, Option<&str>)
         Some(dot) => (&name[..dot], Some(&name[dot + 1..])),
         None => (name, None),
     }
+}
+
+/// Where the label begins that ends at a place of a name.
+pub(crate) fn label_start(name: &str, end: usize) -> usize
+    requires { end ≤ length name.now }
+    ensures begins { BeginsLabel name.now result }
+    ensures within { result ≤ end }
+    ensures label { let label = drop result (take end name.now) in labels_of label ≡ label ∷ [] }
+{
+    match memrchr(b'.', &name.as_bytes()[..end]) {
+        Some(dot) => dot + 1,
+        None => 0,
+    }
+}
+
+/// A name from the beginning of a label on.
+pub(crate) fn name_from(name: &str, start: usize) -> &str
+    requires { BeginsLabel name.now start }
+    ensures { result.now ≡ drop start name.now }
+{
+    &name[start..]
 }
 
 pub(crate) fn count_labels(name: &str) -> usize

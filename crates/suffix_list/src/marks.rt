@@ -1,13 +1,14 @@
 //! The names of a list's rules, and the look-up of a host's suffixes among them.
-ghost use Rattle.std.specs.Prelude.{◌≡◌, ℕ, List, ◌||◌, nat_lt, bytes_eq, map, length, OnOk};
+ghost use Rattle.std.specs.Prelude.{◌≡◌, ℕ, List, ◌||◌, ◌&&◌, nat_lt, bytes_eq, map, OnOk};
 ghost use Rattle.std.specs.Prelude.{if◌then◌else◌};
 ghost use Rattle.std.specs.Prelude.{option_copied};
 ghost use Rattle.suffix_list.specs.declared.rules.KeptRule.{KeptRule};
-ghost use Rattle.suffix_list.specs.Suffix.{labels_of, suffix_labels};
-ghost use Rattle.suffix_list.specs.Names.{Notes, TellsOf, is_parent_named, is_text, joined, marks_at};
-ghost use Rattle.suffix_list.specs.Names.{name_marks, parent_marks, plain_rule};
+ghost use Rattle.suffix_list.specs.Suffix.{suffix_labels};
+ghost use Rattle.suffix_list.specs.Names.{Notes, TellsOf, end_marks, inner_labels, is_parent_named};
+ghost use Rattle.suffix_list.specs.Names.{is_text, joined, marks_at, marks_behind, name_marks};
+ghost use Rattle.suffix_list.specs.Names.{inner_marks, parent_marks, plain_rule};
 
-use crate::labels::{count_labels, next_label};
+use crate::labels::{label_start, last_labels, name_from, next_label};
 use crate::rules::KeptRule;
 use std::alloc::{AllocError, Global};
 use std::collections::HashMap;
@@ -21,19 +22,34 @@ pub(crate) struct Marks {
     pub(crate) is_parent: bool,
     // an exception has this name
     pub(crate) is_exception: bool,
+    // a rule's name has more labels, and then this name, which has `INNER_LABELS` at most
+    pub(crate) is_inner: bool,
 }
 
 const NO_MARKS: Marks = Marks {
     is_rule: false,
     is_parent: false,
     is_exception: false,
+    is_inner: false,
 };
 
 const PARENT: Marks = Marks {
     is_rule: false,
     is_parent: true,
     is_exception: false,
+    is_inner: false,
 };
+
+const INNER: Marks = Marks {
+    is_rule: false,
+    is_parent: false,
+    is_exception: false,
+    is_inner: true,
+};
+
+// The most labels of a name that is marked as inner. So a rule marks a few names at most, and
+// reading a list stays linear in its bytes.
+const INNER_LABELS: usize = 8;
 
 impl Marks {
     fn joined(self, more: Marks) -> Marks
@@ -43,46 +59,57 @@ impl Marks {
             is_rule: self.is_rule || more.is_rule,
             is_parent: self.is_parent || more.is_parent,
             is_exception: self.is_exception || more.is_exception,
+            is_inner: self.is_inner || more.is_inner,
         }
     }
 }
 
-/// How many of a host's last labels are its public suffix, with one look-up for each of its labels.
+/// How many of a host's last labels are its public suffix. The look-up goes from the last label to
+/// longer names, and ends at one that no rule has behind more labels. The map hashes with a fixed
+/// seed, since a list comes from where a program trusts.
 pub(crate) fn suffix_labels(names: &HashMap<String, Marks>, host: &str) -> usize
     ensures { (kept : List KeptRule) → TellsOf names.now kept
         → result ≡ suffix_labels (map plain_rule kept) host.now }
 {
-    let mut rest = host;
-    let mut here = marks_of(names, host);
-    let mut longest = 0;
-    'labels: loop {
-        if here.is_exception {
-            return count_labels(rest).saturating_sub(1);
-        }
-        match next_label(rest) {
-            (_, Some(more)) => {
-                let behind = marks_of(names, more);
-                longest = longest_so_far(longest, rest, here, behind);
-                rest = more;
-                here = behind;
-            }
-            (_, None) => return 1usize.max(longest),
-        }
+    let mut start = label_start(host, host.len());
+    let mut here = marks_of(names, name_from(host, start));
+    let mut count = 1;
+    let mut longest = 1;
+    let mut exception = count_if(here.is_exception, count, 0);
+    'labels: while goes_on(start, here, count) {
+        let behind = here;
+        start = label_start(host, start - 1);
+        here = marks_of(names, name_from(host, start));
+        count += 1;
+        longest = count_if(has_rule(here, behind), count, longest);
+        exception = count_if(here.is_exception, count, exception);
+    }
+    if exception > 0 {
+        exception - 1
+    } else {
+        longest
     }
 }
 
-// The number of labels of the longest rule: the one found before, or one that stands for this name.
-fn longest_so_far(before: usize, name: &str, here: Marks, behind: Marks) -> usize
-    ensures { result ≡ (if nat_lt 0 before then before
-        else (if here.is_rule || behind.is_parent then length (labels_of name.now) else 0)) }
+// Whether a rule may have more labels than a name, which begins at this place of a host.
+fn goes_on(start: usize, here: Marks, count: usize) -> bool
+    ensures { result ≡ (nat_lt 0 start && (here.is_inner || nat_lt inner_labels count)) }
 {
-    if before > 0 {
-        before
-    } else if here.is_rule || behind.is_parent {
-        count_labels(name)
-    } else {
-        0
-    }
+    start > 0 && (here.is_inner || count > INNER_LABELS)
+}
+
+// Whether a rule that is no exception stands for a name, by its marks and those of the name behind
+// its first label.
+fn has_rule(here: Marks, behind: Marks) -> bool
+    ensures { result ≡ (here.is_rule || behind.is_parent) }
+{
+    here.is_rule || behind.is_parent
+}
+
+fn count_if(is_found: bool, count: usize, before: usize) -> usize
+    ensures { result ≡ (if is_found then count else before) }
+{
+    if is_found { count } else { before }
 }
 
 fn marks_of(names: &HashMap<String, Marks>, name: &str) -> Marks
@@ -106,6 +133,7 @@ pub(crate) fn note_name(
         is_rule: !rule.is_exception,
         is_parent: false,
         is_exception: rule.is_exception,
+        is_inner: false,
     };
     mark(names, alloc, rule.name.as_str(), more)
 }
@@ -135,6 +163,54 @@ fn parent_of(rule: &KeptRule) -> Option<&str>
         (label, Some(parent)) => { if label == "*" { Some(parent) } else { None } }
         (_, None) => None,
     }
+}
+
+/// Marks the names that a rule's name has behind a dot.
+pub(crate) fn note_ends(
+    names: &mut HashMap<String, Marks>,
+    alloc: Global,
+    rule: &KeptRule,
+) -> Result<(), AllocError>
+    ensures { OnOk result (Notes end_marks names.old names.new rule.now) }
+{
+    mark_behind(
+        names,
+        alloc,
+        last_labels(rule.name.as_str(), INNER_LABELS + 1),
+    )
+}
+
+// Marks what stands behind each dot of a name.
+fn mark_behind(
+    names: &mut HashMap<String, Marks>,
+    alloc: Global,
+    name: &str,
+) -> Result<(), AllocError>
+    ensures { OnOk result ((other : List ℕ) → marks_at names.new other
+        ≡ joined (marks_at names.old other) (marks_behind other name.now)) }
+{
+    match next_label(name) {
+        (_, Some(more)) => {
+            mark_inner(names, alloc, more)?;
+            mark_behind(names, alloc, more)
+        }
+        (_, None) => Ok(()),
+    }
+}
+
+fn mark_inner(
+    names: &mut HashMap<String, Marks>,
+    alloc: Global,
+    name: &str,
+) -> Result<(), AllocError>
+    ensures { OnOk result ((other : List ℕ) → marks_at names.new other
+        ≡ (if bytes_eq name.now other then joined (marks_at names.old other) inner_marks
+        else marks_at names.old other)) }
+{
+    if marks_of(names, name).is_inner {
+        return Ok(());
+    }
+    mark(names, alloc, name, INNER)
 }
 
 fn mark(

@@ -3,7 +3,7 @@ ghost use Rattle.std.specs.Prelude.{◌≡◌, ◌++◌, ◌∷◌, [], IfOk, Is
 ghost use Rattle.suffix_list.specs.Suffix.{suffix_labels};
 
 use crate::marks;
-use crate::marks::{Marks, note_name, note_parent};
+use crate::marks::{Marks, note_ends, note_name, note_parent};
 use std::alloc::{AllocError, Global};
 use std::collections::HashMap;
 use std::marker::Model;
@@ -74,6 +74,7 @@ impl Rules {
     {
         note_name(&mut self.names, alloc, &rule)?;
         note_parent(&mut self.names, alloc, &rule)?;
+        note_ends(&mut self.names, alloc, &rule)?;
         self.listed.push(rule)?;
         Ok(self)
     }

@@ -1,20 +1,20 @@
-use Rattle.std.proofs.Common.{◌≡◌, List, length, map, cond}
-use Rattle.std.specs.Prelude.{nat_lt}
-use denote.Text.{Utf8}
-use denote.Shadow.{shadow}
+use Rattle.std.proofs.Common.{◌≡◌, List, ◌+◌, ◌≤◌, drop, length, map}
+use Rattle.std.specs.Prelude.{max}
 use Rattle.suffix_list.specs.declared.rules.KeptRule.{KeptRule}
 use Rattle.suffix_list.specs.Suffix.{labels_of}
-use Rattle.suffix_list.specs.Names.{TellsOf, longest, marks_at, plain_rule}
+use Rattle.suffix_list.specs.Names.{BeginsLabel, TellsOf, longest, marks_at, plain_rule}
 use Rattle.suffix_list.proofs.PassLemmas.{adds, excepts}
 use Rattle.suffix_list.proofs.marks.suffix_labels.Given as goal
 
 abbrev pub invariant-labels : goal.invariant-labels
 invariant-labels l = record {
-  text : shadow (Utf8 l.rest);
-  here : l.here ≡ marks_at l.names l.rest;
-  exceptions : (kept : List KeptRule) → TellsOf l.names kept → longest excepts (map plain_rule kept) (labels_of l.rest) ≡ longest excepts (map plain_rule kept) (labels_of l.host);
-  rules : (kept : List KeptRule) → TellsOf l.names kept → cond (nat_lt 0 l.longest) l.longest (longest adds (map plain_rule kept) (labels_of l.rest)) ≡ longest adds (map plain_rule kept) (labels_of l.host);
+  begins : BeginsLabel l.host l.start;
+  room : l.count + l.start ≤ length l.host + 1;
+  here : l.here ≡ marks_at l.names (drop l.start l.host);
+  count : l.count ≡ length (labels_of (drop l.start l.host));
+  exceptions : (kept : List KeptRule) → TellsOf l.names kept → l.exception ≡ longest excepts (map plain_rule kept) (labels_of (drop l.start l.host));
+  rules : (kept : List KeptRule) → TellsOf l.names kept → l.longest ≡ max 1 (longest adds (map plain_rule kept) (labels_of (drop l.start l.host)));
 }
 
 abbrev pub decreases-labels : goal.decreases-labels
-decreases-labels l = length l.rest
+decreases-labels l = l.start

@@ -9,6 +9,7 @@ use Rattle.origin_site.specs.Origin.{PlainOrigin}
 use Rattle.origin_site.specs.Site.{PlainSite, same_plain_site}
 use Rattle.storage_key.specs.Context.{is_first_party, is_of, top_of}
 use Rattle.storage_key.specs.Key.{own_bit, storage_key}
+use Rattle.storage_key.specs.Plain.{plain_key}
 use Rattle.storage_key.proofs.ContextLemmas.{bit-below, bit-of-chain, first-of-chain, top-below}
 use Rattle.frame_tree.specs.Calls.{with_document, without_below}
 use Rattle.frame_tree.specs.Document.{PlainDocument}
@@ -204,7 +205,7 @@ document-found n xs o is =
     by (Some f) = refl
 
 -- its key
-pub key-found : (n : ℕ) (xs : List Frame) (f : Frame) → Some f ≡ find (λ g. g.frame == n) xs
+key-found : (n : ℕ) (xs : List Frame) (f : Frame) → Some f ≡ find (λ g. g.frame == n) xs
     → All (IsKept (map plain_frame xs)) (map kept_frame xs) → (kept_frame f).key ≡ key_of_frame n (map plain_frame xs)
 key-found n xs f is all =
     let fs : List PlainFrame = map plain_frame xs in
@@ -212,8 +213,20 @@ key-found n xs f is all =
     at.1.key ∙ ap (λ m. key_of_document m fs (plain_frame f).document) at.0
     ∙ ap (option_and_then (key_of_document n fs)) (document-found n xs (Some f) is)
 
-pub key-absent : (n : ℕ) (xs : List Frame) → None ≡ find (λ g. g.frame == n) xs → None ≡ key_of_frame n (map plain_frame xs)
+key-absent : (n : ℕ) (xs : List Frame) → None ≡ find (λ g. g.frame == n) xs → None ≡ key_of_frame n (map plain_frame xs)
 key-absent n xs is = ap (option_and_then (key_of_document n (map plain_frame xs))) (document-found n xs None is)
+
+-- the key of what was found, if anything was
+pub key-of-found : (n : ℕ) (xs : List Frame) (o : Option Frame) → o ≡ find (λ g. g.frame == n) xs
+    → All (IsKept (map plain_frame xs)) (map kept_frame xs)
+    → option_and_then (λ f. option_map plain_key f.loaded.key) o ≡ key_of_frame n (map plain_frame xs)
+key-of-found n xs None is all = key-absent n xs is
+key-of-found n xs (Some f) is all = key-found n xs f is all
+
+-- what was found in a slice of the frames was found among them
+pub found-in : (n : ℕ) (xs searched : List Frame) (o : Option Frame) → o ≡ find (λ g. g.frame == n) searched → searched ≡ xs
+    → o ≡ find (λ g. g.frame == n) xs
+found-in n xs searched o is same = is ∙ ap (find (λ g. g.frame == n)) same
 
 -- a frame is there where it is found
 pub has-found : (n : ℕ) (xs : List Frame) → has_frame n (map plain_frame xs) ≡ is_some (find (λ g. g.frame == n) xs)

@@ -5,7 +5,7 @@ ghost use Rattle.frame_tree.specs.Keys.{key_of_frame};
 ghost use Rattle.frame_tree.specs.Tree.{IsLastFrame};
 
 use crate::Tab;
-use crate::frames::{frame_at, places_of};
+use crate::frames::{frame_at, key_of, places_of};
 use std::marker::Model;
 use storage_key::StorageKey;
 
@@ -54,9 +54,6 @@ impl ByNumber<'_> {
     {
         let place = self.places[usize::from(frame)];
         let tab = self.tab;
-        match frame_at(tab.frames.as_slice(), usize::from(place), frame) {
-            Some(f) => f.loaded.key.as_ref(),
-            None => None,
-        }
+        key_of(frame_at(tab.frames.as_slice(), usize::from(place), frame))
     }
 }

@@ -1,9 +1,10 @@
 //! The list of frames of a tab.
 ghost use Rattle.std.specs.Prelude.{◌≡◌, ◌<◌, ◌==◌, IfOk, MatchOption, map, reverse, true, false};
 ghost use Rattle.std.specs.Prelude.{Some, length, find, option_map, option_copied, slice_get};
-ghost use Rattle.std.specs.Prelude.{unwrap_or};
+ghost use Rattle.std.specs.Prelude.{option_and_then, unwrap_or};
 ghost use Rattle.std.specs.List.{list_all};
 ghost use Rattle.origin_site.specs.Plain.{plain_origin};
+ghost use Rattle.storage_key.specs.Plain.{plain_key};
 ghost use Rattle.frame_tree.specs.Calls.{origin_of};
 ghost use Rattle.frame_tree.specs.Kept.{kept_frame};
 ghost use Rattle.frame_tree.specs.Places.{ArePlaces, IsPlaceOf};
@@ -16,6 +17,7 @@ use crate::keys::Loaded;
 use agent_base::NoMemory;
 use origin_site::{Origin, Site};
 use std::alloc::Global;
+use storage_key::StorageKey;
 
 /// A frame of a tab, its parent and its document.
 #[derive(Debug, Drop)]
@@ -77,6 +79,17 @@ pub fn bit_of(frames: &[Frame], frame: u8) -> bool
     match frame_of(frames, frame) {
         Some(f) => f.loaded.bit,
         None => true,
+    }
+}
+
+/// The storage key that is kept with a frame, if one was found.
+pub fn key_of(found: Option<&Frame>) -> Option<&StorageKey>
+    ensures key { option_map plain_key (option_copied result)
+        ≡ option_and_then (λ f. option_map plain_key f.loaded.key) (option_copied found.entry) }
+{
+    match found {
+        Some(f) => f.loaded.key.as_ref(),
+        None => None,
     }
 }
 

@@ -15,7 +15,8 @@ ghost use Rattle.frame_tree.specs.Tree.{top_site};
 
 use crate::document::is_active_by;
 use crate::frames::{
-    Frame, copies_of, document_of, frame_of, has_frame, is_https_chain, last_frame, sites_of,
+    Frame, copies_of, document_of, frame_of, has_frame, is_https_chain, key_of, last_frame,
+    sites_of,
 };
 use crate::keys::Loaded;
 use crate::marks::{drop_frames, flag, mark, put_document, unmark};
@@ -130,10 +131,7 @@ impl Tab {
     pub fn key(&self, frame: u8) -> Option<&StorageKey>
         ensures key { option_map plain_key (option_copied result) ≡ key_of_frame frame self.now }
     {
-        match frame_of(self.frames.as_slice(), frame) {
-            Some(f) => f.loaded.key.as_ref(),
-            None => None,
-        }
+        key_of(frame_of(self.frames.as_slice(), frame))
     }
 
     /// Whether a frame is there and what is at the URL's site is first party below its chain.

@@ -6,14 +6,14 @@ use Rattle.frame_tree.specs.Kept.{IsKept, KeptDocument, kept_document, kept_fram
 use Rattle.frame_tree.specs.Plain.{plain_document, plain_frame}
 use Rattle.frame_tree.specs.Tree.{PlainFrame, has_frame}
 use Rattle.frame_tree.specs.declared.frames.Frame.{Frame}
-use Rattle.frame_tree.proofs.KeyLemmas.{bit-found, kept-below, there-found, under-own}
+use Rattle.frame_tree.proofs.KeyLemmas.{bit-found, found-in, kept-below, there-found, under-own}
 use Rattle.frame_tree.proofs.tab.Tab.below.Goals as goal
 
 pub returns-clause-parent : goal.returns-clause-parent
 returns-clause-parent c =
     ap (has_frame c.args.parent) (sym c.self.view_is)
     ∙ there-found c.args.parent c.self.inside.frames.items c.in-Some.above.now
-    (c.in-Some.ensures.found ∙ ap (λ (xs : List Frame). find (λ f. f.frame == c.args.parent) xs) c.as_slice.ensures.value)
+    (found-in c.args.parent c.self.inside.frames.items c.as_slice.result.now (Some c.in-Some.above.now) c.in-Some.ensures.found c.as_slice.ensures.value)
 
 pub returns-clause-kept : goal.returns-clause-kept
 returns-clause-kept c =
@@ -21,7 +21,7 @@ returns-clause-kept c =
     let fresh : Frame = record { frame = c.args.frame; parent = c.args.parent; loaded = made } in
     let items : List Frame = c.self.inside.frames.items in
     let found : Some c.in-Some.above.now ≡ find (λ f. f.frame == c.args.parent) items =
-    c.in-Some.ensures.found ∙ ap (λ (xs : List Frame). find (λ f. f.frame == c.args.parent) xs) c.as_slice.ensures.value in
+    found-in c.args.parent items c.as_slice.result.now (Some c.in-Some.above.now) c.in-Some.ensures.found c.as_slice.ensures.value in
     let site = plain_site c.self.inside.top in
     let above = c.in-Some.above.now.loaded.bit in
     let own = under-own site above (kept_document made) (plain_document c.in_ok-document.document) c.in_ok-below.ensures.made in

@@ -1,26 +1,17 @@
 -- The key that is kept is that of the chain.
-use Rattle.std.proofs.Common.{List, ap, ◌∙◌}
-use Rattle.std.specs.Prelude.{◌==◌, find, option_map}
-use Rattle.storage_key.specs.Plain.{plain_key}
+use Rattle.std.proofs.Common.{ap, ◌∙◌}
+use Rattle.std.specs.Prelude.{option_copied}
 use Rattle.frame_tree.specs.Keys.{key_of_frame}
-use Rattle.frame_tree.specs.declared.frames.Frame.{Frame}
-use Rattle.frame_tree.proofs.KeyLemmas.{key-absent, key-found}
+use Rattle.frame_tree.proofs.KeyLemmas.{found-in, key-of-found}
 use Rattle.frame_tree.proofs.tab.Tab.key.Goals as goal
 
-pub returns-in-Some : goal.returns-in-Some
-returns-in-Some c = record {
-  key =
-      ap (option_map plain_key) c.as_ref.ensures.value
-      ∙ key-found c.args.frame c.self.inside.frames.items c.in-Some.f.now
-      (c.in-Some.ensures.found ∙ ap (λ (xs : List Frame). find (λ f. f.frame == c.args.frame) xs) c.as_slice.ensures.value)
-      c.self.invariant.keys
-      ∙ ap (key_of_frame c.args.frame) c.self.view_is;
-}
-
-pub returns-in-None : goal.returns-in-None
-returns-in-None c = record {
-  key =
-      key-absent c.args.frame c.self.inside.frames.items
-      (c.in-None.ensures.found ∙ ap (λ (xs : List Frame). find (λ f. f.frame == c.args.frame) xs) c.as_slice.ensures.value)
-      ∙ ap (key_of_frame c.args.frame) c.self.view_is;
-}
+pub returns : goal.returns
+returns c =
+    let items = c.self.inside.frames.items in record {
+      key =
+          c.key_of.ensures.key
+          ∙ key-of-found c.args.frame items (option_copied c.frame_of.result)
+          (found-in c.args.frame items c.as_slice.result.now (option_copied c.frame_of.result) c.frame_of.ensures.found c.as_slice.ensures.value)
+          c.self.invariant.keys
+          ∙ ap (key_of_frame c.args.frame) c.self.view_is;
+    }

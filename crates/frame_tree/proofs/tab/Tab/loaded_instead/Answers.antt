@@ -8,7 +8,7 @@ use Rattle.frame_tree.specs.Kept.{IsKeptAt, KeptDocument, kept_document}
 use Rattle.frame_tree.specs.Plain.{plain_document, plain_frame}
 use Rattle.frame_tree.specs.Tree.{PlainFrame, document_of, has_frame}
 use Rattle.frame_tree.specs.declared.frames.Frame.{Frame}
-use Rattle.frame_tree.proofs.KeyLemmas.{kept-instead, there-found, under-own}
+use Rattle.frame_tree.proofs.KeyLemmas.{found-in, kept-instead, there-found, under-own}
 use Rattle.frame_tree.proofs.tab.Tab.loaded_instead.Goals as goal
 
 pub returns-clause-answer : goal.returns-clause-answer
@@ -27,7 +27,7 @@ pub returns-clause-there : goal.returns-clause-there
 returns-clause-there c =
     ap (has_frame c.args.frame) (sym c.self.view_is)
     ∙ there-found c.args.frame c.self.inside.frames.items c.in-Some.before.now
-    (c.in-Some.ensures.found ∙ ap (λ (xs : List Frame). find (λ f. f.frame == c.args.frame) xs) c.as_slice.ensures.value)
+    (found-in c.args.frame c.self.inside.frames.items c.as_slice.result.now (Some c.in-Some.before.now) c.in-Some.ensures.found c.as_slice.ensures.value)
 
 pub returns-clause-kept : goal.returns-clause-kept
 returns-clause-kept c =
@@ -38,7 +38,7 @@ returns-clause-kept c =
     let above = c.bit_of-above.result in
     subst (λ (fs : List PlainFrame). IsKeptAt c.args.frame fs (kept_document made)) c.self.view_is
     (kept-instead site c.args.frame items before above (kept_document made) c.requires
-    (c.in-Some.ensures.found ∙ ap (λ (xs : List Frame). find (λ f. f.frame == c.args.frame) xs) c.as_slice.ensures.value)
+    (found-in c.args.frame items c.as_slice.result.now (Some before) c.in-Some.ensures.found c.as_slice.ensures.value)
     c.self.invariant.tree c.self.invariant.top c.self.invariant.keys
     (c.bit_of-above.ensures.bit
     ∙ ap (λ (xs : List Frame). unwrap_or (option_map (λ g. g.loaded.bit) (find (λ g. g.frame == before.parent) xs)) true) c.as_slice-2.ensures.value)

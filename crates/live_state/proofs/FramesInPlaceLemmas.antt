@@ -28,10 +28,10 @@ pub record IsWritten (n : ℕ) (tabs : List PlainTab) (ts : List PlainOpenTab) (
   pub seen : plain_of ts ≡ tabs
 
 -- it is so where a search of the tabs found the place
-pub written : (n : ℕ) (tabs : List PlainTab) (ts searched : List PlainOpenTab) (place : ℕ) (old new : PlainOpenTab) → searched ≡ ts
+pub written : {n : ℕ} {tabs : List PlainTab} {ts searched : List PlainOpenTab} {place : ℕ} {old new : PlainOpenTab} → searched ≡ ts
     → IsAt n (plain_of searched) place → place < length ts → old ≡ get_or ts place old → new.plain.number ≡ old.plain.number → plain_of ts ≡ tabs
     → IsWritten n tabs ts place old new
-written n tabs ts searched place old new equal at within read same seen = record {
+written {n} {tabs} {ts} {searched} {place} equal at within read same seen = record {
   at = subst (λ (l : List PlainOpenTab). IsAt n (plain_of l) place) equal at;
   within = within;
   read = read;
@@ -113,5 +113,8 @@ module _ {n : ℕ} {tabs : List PlainTab} {ts : List PlainOpenTab} {place : ℕ}
       changed-set n change others ts place is.at old new is.within is.read own ∙ ap (map change) is.seen
 
 -- a tab that is not open has no frames
-pub frames-gap : (n : ℕ) (ts : List PlainOpenTab) (place : ℕ) → IsGap n (plain_of ts) place → (tabs : List PlainTab) → plain_of ts ≡ tabs → frames_at n tabs ≡ []
-frames-gap n ts place gap tabs same = sym (ap (frames_at n) same) ∙ ap frames_by (found-gap n (plain_of ts) place gap)
+pub frames-gap : {n : ℕ} {tabs : List PlainTab} {ts searched : List PlainOpenTab} {place : ℕ} → searched ≡ ts → IsGap n (plain_of searched) place
+    → plain_of ts ≡ tabs → frames_at n tabs ≡ []
+frames-gap {n} {tabs} {ts} {searched} {place} equal gap seen =
+    sym (ap (frames_at n) seen)
+    ∙ ap frames_by (found-gap n (plain_of ts) place (subst (λ (l : List PlainOpenTab). IsGap n (plain_of l) place) equal gap))

@@ -52,21 +52,24 @@ which i j low = grind arith
 searchable : (ts : List PlainOpenTab) (n : ℕ) → is_rising (plain_of ts) ≡ true → IsNonDecreasingBy (λ t. ordering_index (nat_cmp t.plain.number n)) ts
 searchable ts n rising = λ i j d low within. index_same ts n i j d rising low within (which i j low)
 
+-- a tab that stands at a place is found there
+pub found-given : (n place : ℕ) (ts : List PlainOpenTab) (t : PlainOpenTab) → is_rising (plain_of ts) ≡ true → slice_get ts place ≡ Some t
+    → t.plain.number ≡ n → IsAt n (plain_of ts) place
+found-given n place ts t rising is own =
+    let here : slice_get (plain_of ts) place ≡ Some t.plain = slice_get-map (λ t. t.plain) ts place ∙ ap (option_map (λ t. t.plain)) is in
+    let parts = rising-split (plain_of ts) place t.plain rising here in
+    record {
+      here = ap (option_map (λ u. u.number)) here ∙ ap Some own;
+      lower = rw own at parts.0;
+      higher = rw own at parts.1;
+    }
+
 place-found : (n i : ℕ) (ts : List PlainOpenTab) → is_rising (plain_of ts) ≡ true → i < length ts
     → HoldsAt (λ t. nat_cmp t.plain.number n ≡ Equal) ts i → IsAt n (plain_of ts) i
 place-found n i [] rising within equal = absurd (omega arith)
 place-found n i (d ∷ ts) rising within equal =
     let all : List PlainOpenTab = d ∷ ts in
-    let long : length (plain_of all) ≡ length all = length-map all (λ t. t.plain) in
-    let t : PlainTab = get_or (plain_of all) i d.plain in
-    let here : slice_get (plain_of all) i ≡ Some t = slice_get-get_or (plain_of all) i d.plain (omega arith) in
-    let same : t.number ≡ n = ap (λ (u : PlainTab). u.number) (get_or-map (λ t. t.plain) all i d d.plain within) ∙ is_equal (get_or all i d).plain.number n (equal d) in
-    let parts = rising-split (plain_of all) i t rising here in
-    record {
-      here = ap (option_map (λ u. u.number)) here ∙ ap Some same;
-      lower = rw same at parts.0;
-      higher = rw same at parts.1;
-    }
+    found-given n i all (get_or all i d) rising (slice_get-get_or all i d within) (is_equal (get_or all i d).plain.number n (equal d))
 
 place-gap : (n i : ℕ) (ts : List PlainOpenTab) → i ≤ length ts
     → AllWithin (λ t. nat_cmp t.plain.number n ≡ Less) ts 0 i → AllWithin (λ t. nat_cmp t.plain.number n ≡ Greater) ts i (length ts)

@@ -160,6 +160,51 @@ pub fn place_of(tabs: &[OpenTab], number: u16) -> Result<usize, usize>
     tabs.binary_search_by_key(&number, |tab| tab.number())
 }
 
+/// The same, in one step where the tab stands at a place that is given, which may be any.
+pub fn place_by(tabs: &[OpenTab], given: usize, number: u16) -> Result<usize, usize>
+    requires { is_rising (map (λ t. t.plain) tabs.now) ≡ true }
+    ensures place { let open_tabs = map (λ t. t.plain) tabs.now in
+        MatchResult result (IsAt number open_tabs) (IsGap number open_tabs) }
+    ensures fits { MatchResult result (λ place. place < length tabs.now)
+        (λ place. place ≤ length tabs.now) }
+{
+    match tabs.get(given) {
+        Some(tab) if tab.number() == number => Ok(given),
+        _ => place_of(tabs, number),
+    }
+}
+
+// How far behind a place a tab is looked for, one after another.
+const STEPS: [usize; 18] = [
+    0, 1, 2, 4, 8, 16, 32, 64, 128, 256, 512, 1024, 2048, 4096, 8192, 16384, 32768, 65536,
+];
+
+/// A place to give to `place_by`. It is that of the tab if the tab stands at `from` or behind, and
+/// takes fewer steps the nearer it is.
+pub fn place_behind(tabs: &[OpenTab], from: usize, number: u16) -> usize {
+    let mut low = from;
+    for step in &STEPS {
+        let high = from.saturating_add(*step);
+        match tabs.get(high) {
+            Some(tab) if tab.number() < number => low = high,
+            _ => return place_within(tabs, low, high, number),
+        }
+    }
+    low
+}
+
+// The same, where the tab stands at one of two places or between them, if at all behind.
+fn place_within(tabs: &[OpenTab], low: usize, high: usize, number: u16) -> usize {
+    let end = high.saturating_add(1).min(tabs.len());
+    let Some(window) = tabs.get(low..end) else {
+        return low;
+    };
+    match window.binary_search_by_key(&number, |tab| tab.number()) {
+        Ok(place) => low.saturating_add(place),
+        Err(_) => low,
+    }
+}
+
 // The place of the first tab that is after a number.
 fn place_after(tabs: &[OpenTab], after: Option<u16>) -> usize
     requires { is_rising (map (λ t. t.plain) tabs.now) ≡ true }

@@ -9,7 +9,7 @@ ghost use Rattle.live_state.specs.Queues.{are_distinct, has_document};
 ghost use Rattle.live_state.specs.Tabs.{is_rising, tab_at};
 
 use crate::Live;
-use crate::live::place_of;
+use crate::live::{place_behind, place_by};
 use agent_base::{Label, NoMemory};
 use storage_events::AreaKind;
 use storage_key::StorageKey;
@@ -64,8 +64,10 @@ impl Live {
         ensures rising { is_rising self.now.tabs ≡ true }
     {
         let mut to = Vec::new(*self.tabs.allocator());
+        let mut place = 0;
         for number in self.sites.at(&key.top) {
-            self.list_hearers(AreaKind::Local, writer, key, *number, &mut to)?;
+            place = place_behind(self.tabs.as_slice(), place, *number);
+            self.list_hearers(AreaKind::Local, writer, key, *number, place, &mut to)?;
         }
         Ok(to)
     }
@@ -77,24 +79,26 @@ impl Live {
         ensures rising { is_rising self.now.tabs ≡ true }
     {
         let mut to = Vec::new(*self.tabs.allocator());
-        self.list_hearers(AreaKind::Session, writer, key, writer.tab, &mut to)?;
+        self.list_hearers(AreaKind::Session, writer, key, writer.tab, 0, &mut to)?;
         Ok(to)
     }
 
-    // Puts the documents of a tab that hear of a change behind the others.
+    // Puts the documents of a tab that hear of a change behind the others. The tab is looked for at
+    // a given place first.
     fn list_hearers(
         &self,
         kind: AreaKind,
         writer: Label,
         key: &StorageKey,
         number: u16,
+        given: usize,
         to: &mut Vec<Label>,
     ) -> Result<(), NoMemory>
         ensures listed { let found = tab_at number self.now.tabs in
             OnOk result (to.new.items
             ≡ to.old.items ++ hearers_by kind writer (plain_key key.now) found) }
     {
-        match place_of(self.tabs.as_slice(), number) {
+        match place_by(self.tabs.as_slice(), given, number) {
             Ok(place) => self.tabs[place].list_hearers(kind, writer, key, to),
             Err(_) => Ok(()),
         }

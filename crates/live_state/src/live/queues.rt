@@ -7,7 +7,7 @@ ghost use Rattle.live_state.specs.Documents.{documents};
 ghost use Rattle.live_state.specs.Queues.{StayReadyBut, are_distinct, has_document, is_ready, is_told, plain_sent, queue_at, sent, taken};
 
 use crate::Live;
-use crate::live::place_of;
+use crate::live::{place_behind, place_by, place_of};
 use agent_base::{Label, NoMemory};
 use storage_events::Event;
 
@@ -20,8 +20,10 @@ impl Live {
         ensures kept { StayReadyBut (λ at. false) self.old self.new }
         ensures same { (self.new.tabs ≡ self.old.tabs) × (self.new.room ≡ self.old.room) }
     {
+        let mut place = 0;
         for at in to {
-            self.reserve_queue(*at)?;
+            place = place_behind(self.tabs.as_slice(), place, at.tab);
+            self.reserve_queue(*at, place)?;
         }
         Ok(())
     }
@@ -34,8 +36,10 @@ impl Live {
         ensures kept { StayReadyBut (is_told (map plain_sent events.items)) self.old self.new }
         ensures room { self.new.room ≡ self.old.room }
     {
+        let mut place = 0;
         for (at, event) in events {
-            self.push_event(at, event);
+            place = place_behind(self.tabs.as_slice(), place, at.tab);
+            self.push_event(at, place, event);
         }
     }
 
@@ -54,8 +58,9 @@ impl Live {
         }
     }
 
-    // Makes room for one event in the queue of a document.
-    fn reserve_queue(&mut self, at: Label) -> Result<(), NoMemory>
+    // Makes room for one event in the queue of a document. Its tab is looked for at a given place
+    // first.
+    fn reserve_queue(&mut self, at: Label, given: usize) -> Result<(), NoMemory>
         requires there { has_document self.old.tabs at ≡ true }
         ensures reserved { OnOk result (is_ready self.new at ≡ true) }
         ensures memory { OnErr result (is_ready self.old at ≡ false) }
@@ -63,20 +68,21 @@ impl Live {
         ensures same { (self.new.tabs ≡ self.old.tabs) × (self.new.room ≡ self.old.room) }
     {
         let alloc = *self.tabs.allocator();
-        match place_of(self.tabs.as_slice(), at.tab) {
+        match place_by(self.tabs.as_slice(), given, at.tab) {
             Ok(place) => self.tabs[place].reserve(alloc, at.frame),
             Err(_) => Ok(()),
         }
     }
 
-    // Puts an event into the queue of a document, or counts it as lost.
-    fn push_event(&mut self, at: Label, event: Event)
+    // Puts an event into the queue of a document, or counts it as lost. Its tab is looked for at a
+    // given place first.
+    fn push_event(&mut self, at: Label, given: usize, event: Event)
         requires ready { is_ready self.old at ≡ true }
         ensures sent { self.new.tabs ≡ sent ((at, plain_event event) ∷ []) self.old.tabs }
         ensures kept { StayReadyBut (λ other. same_label other at) self.old self.new }
         ensures room { self.new.room ≡ self.old.room }
     {
-        if let Ok(place) = place_of(self.tabs.as_slice(), at.tab) {
+        if let Ok(place) = place_by(self.tabs.as_slice(), given, at.tab) {
             self.tabs[place].push(at.frame, event);
         }
     }

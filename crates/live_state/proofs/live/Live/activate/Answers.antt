@@ -5,50 +5,36 @@ use Rattle.std.proofs.lemmas.Int.{to_z-of_z}
 use Rattle.frame_tree.specs.Tree.{has_frame, top_site}
 use Rattle.frame_tree.specs.Calls.{IsDoneAt, activated}
 use Rattle.live_state.specs.Queues.{is_ready}
-use Rattle.live_state.specs.TabPlaces.{IsGap}
-use Rattle.live_state.proofs.FramesInPlaceLemmas.{framed, frames-gap, indexed-written, put-in, ready-remade, written}
-use Rattle.live_state.proofs.SearchLemmas.{plain_of}
+use Rattle.live_state.proofs.FramesInPlaceLemmas.{IsWritten, framed, frames-gap, indexed-written, put-in, ready-remade, written}
 use Rattle.live_state.proofs.live.Live.activate.Goals as goal
+use Rattle.live_state.proofs.live.Live.activate.Goals.{After-self-1}
+
+changed : (c : After-self-1) → IsWritten c.args.at.tab c.args.self.now.tabs c.self.inside.tabs.items c.in-Ok.place c.index_mut.result.now c.activate.new.self
+changed c = written c.as_slice.ensures.value c.in-Ok.ensures.place (search rules) c.index_mut.ensures.value c.activate.ensures.number (ap (λ live. live.tabs) c.self.view_is)
 
 pub invariant_of-self : goal.invariant_of-self
 invariant_of-self c =
-    let is = written c.args.at.tab c.args.self.now.tabs c.self.inside.tabs.items c.as_slice.result.now c.in-Ok.place c.index_mut.result.now
-    c.activate.new.self c.as_slice.ensures.value c.in-Ok.ensures.place (search rules) c.index_mut.ensures.value c.activate.ensures.number
-    (ap (λ live. live.tabs) c.self.view_is) in
-    indexed-written is c.self.inside.sites.numbers c.self.invariant c.activate.ensures.tree c.activate.ensures.site
+    indexed-written (changed c) c.self.inside.sites.numbers c.self.invariant c.activate.ensures.tree c.activate.ensures.site
 
 pub returns-in-Ok-clause-activated : goal.returns-in-Ok-clause-activated
 returns-in-Ok-clause-activated c =
-    let is = written c.args.at.tab c.args.self.now.tabs c.self.inside.tabs.items c.as_slice.result.now c.in-Ok.place c.index_mut.result.now
-    c.activate.new.self c.as_slice.ensures.value c.in-Ok.ensures.place (search rules) c.index_mut.ensures.value c.activate.ensures.number
-    (ap (λ live. live.tabs) c.self.view_is) in
     let fits = c.ranges.now in
-    framed is (λ before after. IsDoneAt c.args.at.frame before after (activated c.args.at.frame c.args.now before) c.activate.result)
+    framed (changed c) (λ before after. IsDoneAt c.args.at.frame before after (activated c.args.at.frame c.args.now before) c.activate.result)
     (simp to_z-of_z at c.activate.ensures.activated)
 
 pub returns-in-Ok-clause-put : goal.returns-in-Ok-clause-put
 returns-in-Ok-clause-put c =
-    let is = written c.args.at.tab c.args.self.now.tabs c.self.inside.tabs.items c.as_slice.result.now c.in-Ok.place c.index_mut.result.now
-    c.activate.new.self c.as_slice.ensures.value c.in-Ok.ensures.place (search rules) c.index_mut.ensures.value c.activate.ensures.number
-    (ap (λ live. live.tabs) c.self.view_is) in
-    on_ok_weaker c.activate.result (put-in is None) c.activate.ensures.put
+    on_ok_weaker c.activate.result (put-in (changed c) None) c.activate.ensures.put
 
 pub returns-in-Ok-clause-site : goal.returns-in-Ok-clause-site
 returns-in-Ok-clause-site c =
-    let is = written c.args.at.tab c.args.self.now.tabs c.self.inside.tabs.items c.as_slice.result.now c.in-Ok.place c.index_mut.result.now
-    c.activate.new.self c.as_slice.ensures.value c.in-Ok.ensures.place (search rules) c.index_mut.ensures.value c.activate.ensures.number
-    (ap (λ live. live.tabs) c.self.view_is) in
-    framed is (λ before after. top_site after ≡ top_site before) c.activate.ensures.site
+    framed (changed c) (λ before after. top_site after ≡ top_site before) c.activate.ensures.site
 
 pub returns-in-Ok-clause-kept : goal.returns-in-Ok-clause-kept
 returns-in-Ok-clause-kept c = λ other stay ready.
-    let is = written c.args.at.tab c.args.self.now.tabs c.self.inside.tabs.items c.as_slice.result.now c.in-Ok.place c.index_mut.result.now
-    c.activate.new.self c.as_slice.ensures.value c.in-Ok.ensures.place (search rules) c.index_mut.ensures.value c.activate.ensures.number
-    (ap (λ live. live.tabs) c.self.view_is) in
-    ready-remade is None c.activate.ensures.kept other stay (ap (λ live. is_ready live other) c.self.view_is ∙ ready)
+    ready-remade (changed c) None c.activate.ensures.kept other stay (ap (λ live. is_ready live other) c.self.view_is ∙ ready)
 
 pub returns-in-Err-clause-activated : goal.returns-in-Err-clause-activated
 returns-in-Err-clause-activated c =
-    let gap : IsGap c.args.at.tab (plain_of c.self.inside.tabs.items) c.in-Err.field-0 = rw c.as_slice.ensures.value at c.in-Err.ensures.place in
-    let none = frames-gap c.args.at.tab c.self.inside.tabs.items c.in-Err.field-0 gap c.args.self.now.tabs (ap (λ live. live.tabs) c.self.view_is) in
+    let none = frames-gap c.as_slice.ensures.value c.in-Err.ensures.place (ap (λ live. live.tabs) c.self.view_is) in
     (ap (has_frame c.args.at.frame) none, refl)

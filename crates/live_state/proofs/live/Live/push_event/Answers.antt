@@ -4,11 +4,15 @@ use Rattle.storage_events.specs.Event.{plain_event}
 use Rattle.live_state.specs.ExistingQueues.{PlainOpenTab}
 use Rattle.live_state.specs.TabPlaces.{IsAt, IsGap}
 use Rattle.live_state.specs.Queues.{is_ready, sent, with_queues}
-use Rattle.live_state.proofs.FramesInPlaceLemmas.{indexed-told, number-before, ready-written, tabs-changed, written}
+use Rattle.live_state.proofs.FramesInPlaceLemmas.{IsWritten, indexed-told, number-before, ready-written, tabs-changed, written}
 use Rattle.live_state.proofs.LabelLemmas.{after_one, frame-differs, sent-here, sent-others}
 use Rattle.live_state.proofs.LiveLemmas.{changed-none_of, ready-at}
 use Rattle.live_state.proofs.SearchLemmas.{plain_of}
 use Rattle.live_state.proofs.live.Live.push_event.Goals as goal
+use Rattle.live_state.proofs.live.Live.push_event.Goals.{After-self-1}
+
+changed : (c : After-self-1) → IsWritten c.args.at.tab c.args.self.now.tabs c.self.inside.tabs.items c.in-Ok.place c.index_mut.result.now c.push.new.self
+changed c = written c.as_slice.ensures.value c.in-Ok.ensures.place (search rules) c.index_mut.ensures.value (ap (λ t. t.number) c.push.ensures.pushed) (ap (λ live. live.tabs) c.self.view_is)
 
 pub push-requires : goal.push-requires
 push-requires c = record {
@@ -22,22 +26,16 @@ push-requires c = record {
 
 pub invariant_of-self : goal.invariant_of-self
 invariant_of-self c =
-    let is = written c.args.at.tab c.args.self.now.tabs c.self.inside.tabs.items c.as_slice.result.now c.in-Ok.place c.index_mut.result.now
-    c.push.new.self c.as_slice.ensures.value c.in-Ok.ensures.place (search rules) c.index_mut.ensures.value (ap (λ t. t.number) c.push.ensures.pushed)
-    (ap (λ live. live.tabs) c.self.view_is) in
-    indexed-told is c.self.inside.sites.numbers c.self.invariant (ap (λ t. t.frames) c.push.ensures.pushed)
+    indexed-told (changed c) c.self.inside.sites.numbers c.self.invariant (ap (λ t. t.frames) c.push.ensures.pushed)
 
 pub returns-in-Ok : goal.returns-in-Ok
 returns-in-Ok c =
-    let is = written c.args.at.tab c.args.self.now.tabs c.self.inside.tabs.items c.as_slice.result.now c.in-Ok.place c.index_mut.result.now
-    c.push.new.self c.as_slice.ensures.value c.in-Ok.ensures.place (search rules) c.index_mut.ensures.value (ap (λ t. t.number) c.push.ensures.pushed)
-    (ap (λ live. live.tabs) c.self.view_is) in
     let event = plain_event c.args.event in record {
       sent =
-          tabs-changed is (with_queues (after_one c.args.at event)) (sent-others c.args.at event)
-          (c.push.ensures.pushed ∙ sym (sent-here c.args.at event c.index_mut.result.now.plain (number-before is)));
+          tabs-changed (changed c) (with_queues (after_one c.args.at event)) (sent-others c.args.at event)
+          (c.push.ensures.pushed ∙ sym (sent-here c.args.at event c.index_mut.result.now.plain (number-before (changed c))));
       kept = λ other differ ready.
-          ready-written is other (λ here. c.push.ensures.kept other.frame (frame-differs other c.args.at here differ))
+          ready-written (changed c) other (λ here. c.push.ensures.kept other.frame (frame-differs other c.args.at here differ))
           (ap (λ live. is_ready live other) c.self.view_is ∙ ready);
       room = search rules;
     }

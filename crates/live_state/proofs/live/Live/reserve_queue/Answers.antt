@@ -6,11 +6,15 @@ use Rattle.frame_tree.specs.Tree.{has_frame}
 use Rattle.live_state.specs.ExistingQueues.{PlainOpenTab}
 use Rattle.live_state.specs.TabPlaces.{IsAt, IsGap}
 use Rattle.live_state.specs.Queues.{frames_by, has_document, is_ready}
-use Rattle.live_state.proofs.FramesInPlaceLemmas.{indexed-told, ready-after, ready-before, ready-written, tabs-changed, written}
+use Rattle.live_state.proofs.FramesInPlaceLemmas.{IsWritten, indexed-told, ready-after, ready-before, ready-written, tabs-changed, written}
 use Rattle.live_state.proofs.TabPlaceLemmas.{found-gap}
 use Rattle.live_state.proofs.SearchLemmas.{plain_of}
 use Rattle.live_state.proofs.StepLemmas.{tab-here}
 use Rattle.live_state.proofs.live.Live.reserve_queue.Goals as goal
+use Rattle.live_state.proofs.live.Live.reserve_queue.Goals.{After-self-1}
+
+changed : (c : After-self-1) → IsWritten c.args.at.tab c.args.self.now.tabs c.self.inside.tabs.items c.in-Ok.place c.index_mut.result.now c.reserve.new.self
+changed c = written c.as_slice.ensures.value c.in-Ok.ensures.place (search rules) c.index_mut.ensures.value (ap (λ t. t.number) c.reserve.ensures.same) (ap (λ live. live.tabs) c.self.view_is)
 
 pub reserve-requires : goal.reserve-requires
 reserve-requires c = record {
@@ -24,24 +28,18 @@ reserve-requires c = record {
 
 pub invariant_of-self : goal.invariant_of-self
 invariant_of-self c =
-    let is = written c.args.at.tab c.args.self.now.tabs c.self.inside.tabs.items c.as_slice.result.now c.in-Ok.place c.index_mut.result.now
-    c.reserve.new.self c.as_slice.ensures.value c.in-Ok.ensures.place (search rules) c.index_mut.ensures.value (ap (λ t. t.number) c.reserve.ensures.same)
-    (ap (λ live. live.tabs) c.self.view_is) in
-    indexed-told is c.self.inside.sites.numbers c.self.invariant (ap (λ t. t.frames) c.reserve.ensures.same)
+    indexed-told (changed c) c.self.inside.sites.numbers c.self.invariant (ap (λ t. t.frames) c.reserve.ensures.same)
 
 pub returns-in-Ok : goal.returns-in-Ok
 returns-in-Ok c =
-    let is = written c.args.at.tab c.args.self.now.tabs c.self.inside.tabs.items c.as_slice.result.now c.in-Ok.place c.index_mut.result.now
-    c.reserve.new.self c.as_slice.ensures.value c.in-Ok.ensures.place (search rules) c.index_mut.ensures.value (ap (λ t. t.number) c.reserve.ensures.same)
-    (ap (λ live. live.tabs) c.self.view_is) in
     record {
-      reserved = on_ok_weaker c.reserve.result (λ ready. ready-after is c.args.at refl ∙ ready) c.reserve.ensures.reserved;
+      reserved = on_ok_weaker c.reserve.result (λ ready. ready-after (changed c) c.args.at refl ∙ ready) c.reserve.ensures.reserved;
       memory = on_err_weaker c.reserve.result
-          (λ isnt. sym (ap (λ live. is_ready live c.args.at) c.self.view_is) ∙ ready-before is c.args.at refl ∙ isnt)
+          (λ isnt. sym (ap (λ live. is_ready live c.args.at) c.self.view_is) ∙ ready-before (changed c) c.args.at refl ∙ isnt)
           c.reserve.ensures.memory;
       kept = λ other but ready.
-          ready-written is other (λ here. c.reserve.ensures.kept other.frame refl) (ap (λ live. is_ready live other) c.self.view_is ∙ ready);
-      same = (tabs-changed is (λ t. t) (λ t differ. refl) c.reserve.ensures.same ∙ map-id c.args.self.now.tabs, search rules);
+          ready-written (changed c) other (λ here. c.reserve.ensures.kept other.frame refl) (ap (λ live. is_ready live other) c.self.view_is ∙ ready);
+      same = (tabs-changed (changed c) (λ t. t) (λ t differ. refl) c.reserve.ensures.same ∙ map-id c.args.self.now.tabs, search rules);
     }
 
 pub returns-in-Err-clause-reserved : goal.returns-in-Err-clause-reserved

@@ -5,36 +5,34 @@ use Rattle.live_state.specs.ExistingQueues.{PlainOpenTab}
 use Rattle.live_state.specs.TabPlaces.{IsGap}
 use Rattle.live_state.specs.Queues.{is_ready, queue_at, taken, with_queues}
 use Rattle.live_state.specs.Tabs.{PlainFrameQueue, queue_of, queues_before}
-use Rattle.live_state.proofs.FramesInPlaceLemmas.{indexed-told, number-before, ready-written, tab-before, tabs-changed, written}
+use Rattle.live_state.proofs.FramesInPlaceLemmas.{IsWritten, indexed-told, number-before, ready-written, tab-before, tabs-changed, written}
 use Rattle.live_state.proofs.LabelLemmas.{after_take, frame-differs, taken-here, taken-others}
 use Rattle.live_state.proofs.LiveLemmas.{changed-none_of}
 use Rattle.live_state.proofs.TabPlaceLemmas.{found-gap}
 use Rattle.live_state.proofs.SearchLemmas.{plain_of}
 use Rattle.live_state.proofs.live.Live.take_events.Goals as goal
+use Rattle.live_state.proofs.live.Live.take_events.Goals.{After-self-1}
+
+changed : (c : After-self-1) → IsWritten c.args.at.tab c.args.self.now.tabs c.self.inside.tabs.items c.in-Ok.place c.index_mut.result.now c.take.new.self
+changed c = written c.as_slice.ensures.value c.in-Ok.ensures.place (search rules) c.index_mut.ensures.value (ap (λ t. t.number) c.take.ensures.emptied) (ap (λ live. live.tabs) c.self.view_is)
 
 pub invariant_of-self : goal.invariant_of-self
 invariant_of-self c =
-    let is = written c.args.at.tab c.args.self.now.tabs c.self.inside.tabs.items c.as_slice.result.now c.in-Ok.place c.index_mut.result.now
-    c.take.new.self c.as_slice.ensures.value c.in-Ok.ensures.place (search rules) c.index_mut.ensures.value (ap (λ t. t.number) c.take.ensures.emptied)
-    (ap (λ live. live.tabs) c.self.view_is) in
-    indexed-told is c.self.inside.sites.numbers c.self.invariant (ap (λ t. t.frames) c.take.ensures.emptied)
+    indexed-told (changed c) c.self.inside.sites.numbers c.self.invariant (ap (λ t. t.frames) c.take.ensures.emptied)
 
 pub returns-in-Ok : goal.returns-in-Ok
 returns-in-Ok c =
-    let is = written c.args.at.tab c.args.self.now.tabs c.self.inside.tabs.items c.as_slice.result.now c.in-Ok.place c.index_mut.result.now
-    c.take.new.self c.as_slice.ensures.value c.in-Ok.ensures.place (search rules) c.index_mut.ensures.value (ap (λ t. t.number) c.take.ensures.emptied)
-    (ap (λ live. live.tabs) c.self.view_is) in
     let queue : queue_of c.args.at.frame c.index_mut.result.now.plain.queues ≡ queue_at c.args.self.now.tabs c.args.at =
-    sym (ap (λ o. queue_of c.args.at.frame (queues_before o)) (tab-before is)) in record {
+    sym (ap (λ o. queue_of c.args.at.frame (queues_before o)) (tab-before (changed c))) in record {
       given = (
         c.take.ensures.given.0 ∙ ap (λ (q : PlainFrameQueue). q.events) queue,
         c.take.ensures.given.1 ∙ ap (λ (q : PlainFrameQueue). q.lost) queue,
       );
       taken =
-          tabs-changed is (with_queues (after_take c.args.at)) (taken-others c.args.at)
-          (c.take.ensures.emptied ∙ sym (taken-here c.args.at c.index_mut.result.now.plain (number-before is)));
+          tabs-changed (changed c) (with_queues (after_take c.args.at)) (taken-others c.args.at)
+          (c.take.ensures.emptied ∙ sym (taken-here c.args.at c.index_mut.result.now.plain (number-before (changed c))));
       kept = λ other differ ready.
-          ready-written is other (λ here. c.take.ensures.kept other.frame (frame-differs other c.args.at here differ))
+          ready-written (changed c) other (λ here. c.take.ensures.kept other.frame (frame-differs other c.args.at here differ))
           (ap (λ live. is_ready live other) c.self.view_is ∙ ready);
       room = search rules;
     }

@@ -7,6 +7,7 @@ use Rattle.journal.proofs.Frames.{length-encoded}
 use Rattle.journal.proofs.Committed.{place_of, inside_of}
 use Rattle.journal.proofs.Checkpointed.{checkpoint_moments, checkpoint_stands, checkpoint_rests}
 use Rattle.journal.proofs.journal.Journal.checkpoint.Goals as goal
+use Rattle.journal.proofs.journal.Journal.checkpoint.Goals.{After-switch}
 
 -- how long a frame's block is, with its gate
 block_long : (f : Frame) (block : List ℕ) → block ≡ 1 ∷ encoded f ++ 0 ∷ [] → length block ≡ 19 + length f.body
@@ -19,6 +20,17 @@ apart_from to len begin end block is apart = subst (λ (n : ℕ). IsApart to n b
 -- the block is that of the snapshot's frame
 block_of : (changes : ℕ) (body block : List ℕ) → block ≡ 1 ∷ encoded (record { snapshot = true; last = changes; body = body }) ++ 0 ∷ [] → changes < 2 ^ 64 → length body < 2 ^ 64 → IsBlock (record { snapshot = true; last = changes; body = body }) block
 block_of changes body block is last size = record { bytes = is; last = last; size = size }
+
+is_apart : (g : _) (c : After-switch g) → IsApart c.snapshot_place-to.result (length c.deref.result.now) c.self.inside.begin c.self.inside.end
+is_apart g c =
+    apart_from c.snapshot_place-to.result c.len.result c.self.inside.begin c.self.inside.end c.deref.result.now
+    (omega (arith, c.len.ensures, c.deref.ensures.len)) c.snapshot_place-to.ensures.apart
+
+is_block : (g : _) (c : After-switch g)
+    → IsBlock (record { snapshot = true; last = c.self.inside.changes; body = c.args.body.now }) c.deref.result.now
+is_block g c =
+    block_of c.self.inside.changes c.args.body.now c.deref.result.now (c.deref.ensures.value ∙ c.in-Ok.ensures.items)
+    (omega arith) (omega (arith, c.requires.room.fits))
 
 pub switch-requires-clause-place : goal.switch-requires-clause-place
 switch-requires-clause-place g c = λ x is.
@@ -35,43 +47,31 @@ switch-requires-clause-room g c =
 pub returns-in_default-switch-clause-any_moment : goal.returns-in_default-switch-clause-any_moment
 returns-in_default-switch-clause-any_moment g c =
     let V = g.D.Disk.view in
-    let i = c.self.inside in
-    let block = c.deref.result.now in
-    let apart = apart_from c.snapshot_place-to.result c.len.result i.begin i.end block (omega (arith, c.len.ensures, c.deref.ensures.len)) c.snapshot_place-to.ensures.apart in
-    let is_block = block_of i.changes c.args.body.now block (c.deref.ensures.value ∙ c.in-Ok.ensures.items) (omega arith) (omega (arith, c.requires.room.fits)) in
-    checkpoint_moments (inside_of c.self.view_is) (V c.args.disk.now) (V c.switch.new.disk) c.args.body.now block c.snapshot_place-to.result apart is_block (omega arith) c.args.self.now c.self.view_is c.switch.ensures.switches.any_moment
+    let after = (goal.at.returns-in_default-switch-clause-any_moment g c).After-switch in
+    checkpoint_moments (inside_of c.self.view_is) (V c.args.disk.now) (V c.switch.new.disk) c.args.body.now c.deref.result.now c.snapshot_place-to.result (is_apart g after) (is_block g after) (omega arith) c.args.self.now c.self.view_is c.switch.ensures.switches.any_moment
 
 pub returns-clause-any_moment : goal.returns-clause-any_moment
 returns-clause-any_moment g c =
     let V = g.D.Disk.view in
-    let i = c.self.inside in
-    let block = c.deref.result.now in
-    let apart = apart_from c.snapshot_place-to.result c.len.result i.begin i.end block (omega (arith, c.len.ensures, c.deref.ensures.len)) c.snapshot_place-to.ensures.apart in
-    let is_block = block_of i.changes c.args.body.now block (c.deref.ensures.value ∙ c.in-Ok.ensures.items) (omega arith) (omega (arith, c.requires.room.fits)) in
-    checkpoint_moments (inside_of c.self.view_is) (V c.args.disk.now) (V c.switch.new.disk) c.args.body.now block c.snapshot_place-to.result apart is_block (omega arith) c.args.self.now c.self.view_is c.switch.ensures.switches.any_moment
+    let after = (goal.at.returns-clause-any_moment g c).After-switch in
+    checkpoint_moments (inside_of c.self.view_is) (V c.args.disk.now) (V c.switch.new.disk) c.args.body.now c.deref.result.now c.snapshot_place-to.result (is_apart g after) (is_block g after) (omega arith) c.args.self.now c.self.view_is c.switch.ensures.switches.any_moment
 
 pub returns-clause-acknowledged : goal.returns-clause-acknowledged
 returns-clause-acknowledged g c =
     let V = g.D.Disk.view in
-    let i = c.self.inside in
-    let block = c.deref.result.now in
-    let apart = apart_from c.snapshot_place-to.result c.len.result i.begin i.end block (omega (arith, c.len.ensures, c.deref.ensures.len)) c.snapshot_place-to.ensures.apart in
-    let is_block = block_of i.changes c.args.body.now block (c.deref.ensures.value ∙ c.in-Ok.ensures.items) (omega arith) (omega (arith, c.requires.room.fits)) in
-    checkpoint_stands (inside_of c.self.view_is) (V c.args.disk.now) (V c.switch.new.disk) c.args.body.now block c.snapshot_place-to.result apart is_block (omega arith) c.args.self.now c.self.view_is
+    let after = (goal.at.returns-clause-acknowledged g c).After-switch in
+    checkpoint_stands (inside_of c.self.view_is) (V c.args.disk.now) (V c.switch.new.disk) c.args.body.now c.deref.result.now c.snapshot_place-to.result (is_apart g after) (is_block g after) (omega arith) c.args.self.now c.self.view_is
     c.in-Ok-switch.ensures.switches.switched (c.snapshot_place-to.result + 18 + length c.args.body.now) (vec_capacity c.fill.new.block) false refl
 
 pub returns-clause-at_rest : goal.returns-clause-at_rest
 returns-clause-at_rest g c =
     let V = g.D.Disk.view in
-    let i = c.self.inside in
-    let block = c.deref.result.now in
-    let apart = apart_from c.snapshot_place-to.result c.len.result i.begin i.end block (omega (arith, c.len.ensures, c.deref.ensures.len)) c.snapshot_place-to.ensures.apart in
-    let is_block = block_of i.changes c.args.body.now block (c.deref.ensures.value ∙ c.in-Ok.ensures.items) (omega arith) (omega (arith, c.requires.room.fits)) in
+    let after = (goal.at.returns-clause-at_rest g c).After-switch in
     let before : (d : List ℕ) → (V c.switch.new.disk).contents ≡ Some d → (y : List ℕ) × ((V c.args.disk.now).contents ≡ Some y) = λ d told.
     (g.met.D.Disk.lawful c.args.disk.now).told (sym c.switch.ensures.device.faults.tells ∙ (g.met.D.Disk.lawful c.switch.new.disk).tells_contents d told) in
     record {
       settled = c.in-Ok-switch.ensures.switches.settled;
-      stands = checkpoint_rests (inside_of c.self.view_is) (V c.args.disk.now) (V c.switch.new.disk) c.args.body.now block c.snapshot_place-to.result apart is_block (omega arith) c.args.self.now c.self.view_is
+      stands = checkpoint_rests (inside_of c.self.view_is) (V c.args.disk.now) (V c.switch.new.disk) c.args.body.now c.deref.result.now c.snapshot_place-to.result (is_apart g after) (is_block g after) (omega arith) c.args.self.now c.self.view_is
           c.in-Ok-switch.ensures.switches.switched (c.snapshot_place-to.result + 18 + length c.args.body.now) (vec_capacity c.fill.new.block) false refl c.requires.at_rest before;
     }
 

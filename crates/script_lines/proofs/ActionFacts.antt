@@ -1,5 +1,5 @@
 -- Lines of each action, so that a wrong row in the specs does not check.
-use Rattle.std.proofs.Common.{◌≡◌, refl, ℕ, List, [], Some, None, Result, Ok, Err, true, false}
+use Rattle.std.proofs.Common.{◌≡◌, refl, ℕ, List, [], ◌∷◌, Some, None, Result, Ok, Err, true, false}
 use Rattle.std.specs.Prelude.{codes}
 use Rattle.url.proofs.OnLiterals.{url_on_literals}
 use Rattle.serde_json.proofs.OnLiterals.{serde_json_on_literals}
@@ -8,12 +8,13 @@ use Rattle.origin_site.specs.Address.{PlainAddress}
 use Rattle.storage_events.specs.declared.event.AreaKind.TheVariants.{Local, Session}
 use Rattle.script_lines.specs.declared.words.Method.TheVariants as method
 use Rattle.script_lines.specs.declared.words.Prompt.TheVariants.{Grant, Deny}
-use Rattle.script_lines.specs.Script.{PlainAction, Open, Close, Go, Act, Frame, Nav, Drop, Click, Set, Get}
-use Rattle.script_lines.specs.Script.{Del, Clear, Len, Key, Events, Persisted, Estimate, Persist, Evict}
-use Rattle.script_lines.specs.Script.{PlainFault, BadField}
+use Rattle.script_lines.specs.Script.{PlainAction, Open, Close, Go, Act, Frame, Nav, Drop, Click, Fetch, Set, Get}
+use Rattle.script_lines.specs.Script.{Del, Clear, Len, Key, Events, Cookie, SetCookie, Persisted, Estimate, Persist, Evict}
+use Rattle.script_lines.specs.Script.{HeadField, PlainFault, BadField, BadHeader}
 use Rattle.script_lines.specs.Fields.{then_ok}
 use Rattle.script_lines.specs.Rows.{label}
 use Rattle.script_lines.specs.Actions.{table}
+use Rattle.script_lines.specs.Heads.{fields_of_pairs}
 use Rattle.script_lines.specs.Grammar.{json_of, action_of_data}
 
 -- what a line of valid UTF-8 reads as, with the number 1
@@ -34,7 +35,11 @@ home = record {
   path = codes "/";
 }
 
-opens_from_an_opener : line (codes "{\"do\":\"open\",\"tab\":2,\"url\":\"https://a.test/\",\"opener\":1,\"noopener\":true}") ≡ Ok (Open 2 home (Some 1) true method.Get)
+-- the head of one field, `b: c`
+abbrev one_field : List HeadField
+one_field = record { name = codes "b"; value = codes "c" } ∷ []
+
+opens_from_an_opener : line (codes "{\"do\":\"open\",\"tab\":2,\"url\":\"https://a.test/\",\"opener\":1,\"noopener\":true}") ≡ Ok (Open 2 home (Some 1) true method.Get [])
 unfolding table serde_json_on_literals url_on_literals
 opens_from_an_opener = refl
 
@@ -46,15 +51,15 @@ closes : line (codes "{\"do\":\"close\",\"tab\":1}") ≡ Ok (Close 1)
 unfolding table serde_json_on_literals
 closes = refl
 
-goes : line (codes "{\"do\":\"go\",\"tab\":1,\"url\":\"https://a.test/\",\"by\":\"page\"}") ≡ Ok (Go 1 home true method.Get)
+goes : line (codes "{\"do\":\"go\",\"tab\":1,\"url\":\"https://a.test/\",\"by\":\"page\"}") ≡ Ok (Go 1 home true method.Get [])
 unfolding table serde_json_on_literals url_on_literals
 goes = refl
 
-adds_a_frame : line (codes "{\"do\":\"frame\",\"tab\":1,\"frame\":2,\"url\":\"https://a.test/\",\"deny\":true}") ≡ Ok (Act (label 1 2) (Frame 0 home None true))
+adds_a_frame : line (codes "{\"do\":\"frame\",\"tab\":1,\"frame\":2,\"url\":\"https://a.test/\",\"deny\":true}") ≡ Ok (Act (label 1 2) (Frame 0 home None true []))
 unfolding table serde_json_on_literals url_on_literals
 adds_a_frame = refl
 
-navigates : line (codes "{\"do\":\"nav\",\"tab\":1,\"frame\":2,\"url\":\"https://a.test/\",\"by\":\"self\",\"method\":\"POST\"}") ≡ Ok (Act (label 1 2) (Nav home true method.Post))
+navigates : line (codes "{\"do\":\"nav\",\"tab\":1,\"frame\":2,\"url\":\"https://a.test/\",\"by\":\"self\",\"method\":\"POST\"}") ≡ Ok (Act (label 1 2) (Nav home true method.Post []))
 unfolding table serde_json_on_literals url_on_literals
 navigates = refl
 
@@ -69,6 +74,27 @@ drops_no_top_document = refl
 clicks : line (codes "{\"do\":\"click\",\"tab\":1}") ≡ Ok (Act (label 1 0) Click)
 unfolding table serde_json_on_literals
 clicks = refl
+
+fetches : line (codes "{\"do\":\"fetch\",\"tab\":1,\"frame\":2,\"url\":\"https://a.test/\",\"head\":[[\"b\",\"c\"]]}") ≡ Ok (Act (label 1 2) (Fetch home method.Get one_field))
+unfolding table serde_json_on_literals url_on_literals fields_of_pairs
+fetches = refl
+
+opens_with_a_head : line (codes "{\"do\":\"open\",\"tab\":1,\"url\":\"https://a.test/\",\"head\":[[\"b\",\"c\"]]}") ≡ Ok (Open 1 home None false method.Get one_field)
+unfolding table serde_json_on_literals url_on_literals fields_of_pairs
+opens_with_a_head = refl
+
+-- a head comes behind the fields before it, and before a member that no field has
+method_before_head : line (codes "{\"do\":\"go\",\"tab\":1,\"url\":\"https://a.test/\",\"method\":\"get\",\"head\":[[\"\",\"\"]]}") ≡ bad (codes "method")
+unfolding table serde_json_on_literals url_on_literals fields_of_pairs
+method_before_head = refl
+
+head_before_others : line (codes "{\"do\":\"go\",\"tab\":1,\"url\":\"https://a.test/\",\"a\":0,\"head\":[[\"\",\"\"]]}") ≡ Err (BadHeader 1)
+unfolding table serde_json_on_literals url_on_literals fields_of_pairs
+head_before_others = refl
+
+click_has_no_head : line (codes "{\"do\":\"click\",\"tab\":1,\"head\":[]}") ≡ bad (codes "head")
+unfolding table serde_json_on_literals
+click_has_no_head = refl
 
 sets_in_a_session : line (codes "{\"do\":\"set\",\"tab\":1,\"area\":\"session\",\"key\":\"k\",\"value\":\"\"}") ≡ Ok (Act (label 1 0) (Set Session (codes "k") []))
 unfolding table serde_json_on_literals
@@ -109,6 +135,18 @@ takes_events = refl
 events_of_no_area : line (codes "{\"do\":\"events\",\"tab\":1,\"area\":\"local\"}") ≡ bad (codes "area")
 unfolding table serde_json_on_literals
 events_of_no_area = refl
+
+reads_cookies : line (codes "{\"do\":\"cookie\",\"tab\":1,\"frame\":2}") ≡ Ok (Act (label 1 2) Cookie)
+unfolding table serde_json_on_literals
+reads_cookies = refl
+
+sets_a_cookie : line (codes "{\"do\":\"setcookie\",\"tab\":1,\"text\":\"a=b\"}") ≡ Ok (Act (label 1 0) (SetCookie (codes "a=b")))
+unfolding table serde_json_on_literals
+sets_a_cookie = refl
+
+sets_a_cookie_by_a_text : line (codes "{\"do\":\"setcookie\",\"tab\":1,\"value\":\"a=b\"}") ≡ bad (codes "text")
+unfolding table serde_json_on_literals
+sets_a_cookie_by_a_text = refl
 
 asks_the_mode : line (codes "{\"do\":\"persisted\",\"tab\":1}") ≡ Ok (Act (label 1 0) Persisted)
 unfolding table serde_json_on_literals

@@ -2,13 +2,16 @@
 use Rattle.std.proofs.Common.{ℕ, ◌+◌, Bool, true, false, cond, not, List, [], ◌∷◌, Option}
 use Rattle.std.proofs.Common.{Some, None, Result, Ok, Err, IfErr, map, length, option_and_then}
 use Rattle.std.specs.Prelude.{codes, nat_lt}
+use Rattle.std.specs.List.{list_all}
 use Rattle.std.specs.Str.{is_utf8}
 use Rattle.serde_json.specs.Data.{Data}
 use Rattle.serde_json.specs.Find.{get, as_str}
 use Rattle.serde_json.specs.Read.{read}
-use Rattle.script_lines.specs.Script.{PlainAction, PlainFault, NotJson, UnknownAction, BadField}
+use Rattle.script_lines.specs.Script.{PlainFault, NotJson, UnknownAction, BadField}
 use Rattle.script_lines.specs.Script.{LineTooLong, TooLong, NotUtf8, ReadFault, BadHeader, NoMemory}
-use Rattle.script_lines.specs.Fields.{Field, meaning, formed, field_of, fields_of, given, then_ok}
+use Rattle.script_lines.specs.Fields.{Field, Kind, Meaning, meaning, checked, formed, field_of}
+use Rattle.script_lines.specs.Fields.{fields_of, given, then_ok, head_list}
+use Rattle.script_lines.specs.Heads.{is_header}
 use Rattle.script_lines.specs.Rows.{Row}
 use Rattle.script_lines.specs.Grammar.{action_by, action_by_row, action_named}
 use Rattle.script_lines.specs.Grammar.{action_of_bytes, first_unknown, is_blank, json_of, line_limit}
@@ -39,9 +42,15 @@ formed_of_text : {A : Type 0} (number : ℕ) (name : List ℕ) (value : Option A
 formed_of_text number name (Some value) = tt
 formed_of_text number name None = tt
 
+checked_of_text : (kind : Kind) (number : ℕ) (member : Result (Meaning kind) PlainFault) → IfErr member IsOfText → IfErr (checked kind number member) IsOfText
+checked_of_text head_list number head of_text =
+    then_of_text head _ of_text (λ head. if_of_text (list_all is_header head) _ _ tt tt)
+checked_of_text kind number member of_text = of_text
+
 field_of_text : (number : ℕ) (field : Field) (line : Data) → IfErr (field_of number field line) IsOfText
 field_of_text number field line =
-    formed_of_text number field.name (given (meaning field.kind) field.absent (get field.name line))
+    checked_of_text field.kind number _
+    (formed_of_text number field.name (given (meaning field.kind) field.absent (get field.name line)))
 
 fields_of_text : (number : ℕ) (fields : List Field) (line : Data) → IfErr (fields_of number fields line) IsOfText
 fields_of_text number [] line = tt

@@ -1,9 +1,11 @@
 pub mod StandardFacts
 pub mod ActionFacts
 pub mod FieldFacts
+pub mod HeadFacts
 pub mod LineLemmas
 pub mod MemberLemmas
 pub mod FaultLemmas
 pub mod NameLemmas
 pub mod FlatLemmas
+pub mod HeadLemmas
 pub mod PlaceLemmas

@@ -28,7 +28,7 @@ opens : line (codes "{\"do\":\"open\",\"tab\":1,\"url\":\"https://a.test\"}") â‰
   host = codes "a.test";
   port = 443;
   path = codes "/";
-}) None false method.Get)
+}) None false method.Get [])
 unfolding table serde_json_on_literals url_on_literals
 opens = refl
 

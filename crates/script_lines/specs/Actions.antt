@@ -1,13 +1,13 @@
 -- The table of all actions, each with its row.
 -- Source: the script format of docs/FORMATS.md. Our own choice: all of it.
 use Rattle.std.specs.Prelude.{ℕ, false, List, [], ◌∷◌, codes, None}
-use Rattle.script_lines.specs.Script.{Tick, Open, Close, Go, Frame, Nav, Drop, Click, Set, Get}
-use Rattle.script_lines.specs.Script.{Del, Clear, Len, Key, Events, Persisted, Estimate, Persist}
-use Rattle.script_lines.specs.Script.{Evict, Act}
+use Rattle.script_lines.specs.Script.{Tick, Open, Close, Go, Frame, Nav, Drop, Click, Fetch, Set}
+use Rattle.script_lines.specs.Script.{Get, Del, Clear, Len, Key, Events, Cookie, SetCookie}
+use Rattle.script_lines.specs.Script.{Persisted, Estimate, Persist, Evict, Act}
 use Rattle.script_lines.specs.Fields.{required, defaulted, whole, any_text, truth, site_name}
 use Rattle.script_lines.specs.Fields.{loader, navigator, consent, optional}
 use Rattle.script_lines.specs.Rows.{Row, label, document_row, area_row, name_row, tab, frame}
-use Rattle.script_lines.specs.Rows.{inner_frame, url, method_field, area, key}
+use Rattle.script_lines.specs.Rows.{inner_frame, url, method_field, head, area, key}
 use Rattle.script_lines.specs.Rows.{tab_number, frame_number}
 
 abbrev pub tick_row : Row
@@ -19,8 +19,9 @@ tick_row = record {
 abbrev pub open_row : Row
 open_row = record {
   fields = tab ∷ url ∷ defaulted (codes "opener") (optional tab_number) None
-      ∷ defaulted (codes "noopener") truth false ∷ method_field ∷ [];
-  action = λ (tab, (url, (opener, (noopener, (method, _))))). Open tab url opener noopener method;
+      ∷ defaulted (codes "noopener") truth false ∷ method_field ∷ head ∷ [];
+  action = λ (tab, (url, (opener, (noopener, (method, (head, _)))))).
+      Open tab url opener noopener method head;
 }
 
 abbrev pub close_row : Row
@@ -28,25 +29,25 @@ close_row = record { fields = tab ∷ []; action = λ (tab, _). Close tab }
 
 abbrev pub go_row : Row
 go_row = record {
-  fields = tab ∷ url ∷ defaulted (codes "by") loader false ∷ method_field ∷ [];
-  action = λ (tab, (url, (by_page, (method, _)))). Go tab url by_page method;
+  fields = tab ∷ url ∷ defaulted (codes "by") loader false ∷ method_field ∷ head ∷ [];
+  action = λ (tab, (url, (by_page, (method, (head, _))))). Go tab url by_page method head;
 }
 
 abbrev pub frame_row : Row
 frame_row = record {
   fields = tab ∷ inner_frame ∷ defaulted (codes "parent") frame_number 0 ∷ url
       ∷ defaulted (codes "sandbox") (optional any_text) None
-      ∷ defaulted (codes "deny") truth false ∷ [];
-  action = λ (tab, (frame, (parent, (url, (sandbox, (deny, _)))))).
-      Act (label tab frame) (Frame parent url sandbox deny);
+      ∷ defaulted (codes "deny") truth false ∷ head ∷ [];
+  action = λ (tab, (frame, (parent, (url, (sandbox, (deny, (head, _))))))).
+      Act (label tab frame) (Frame parent url sandbox deny head);
 }
 
 abbrev pub nav_row : Row
 nav_row = record {
   fields = tab ∷ inner_frame ∷ url ∷ defaulted (codes "by") navigator false
-      ∷ method_field ∷ [];
-  action = λ (tab, (frame, (url, (by_self, (method, _))))).
-      Act (label tab frame) (Nav url by_self method);
+      ∷ method_field ∷ head ∷ [];
+  action = λ (tab, (frame, (url, (by_self, (method, (head, _)))))).
+      Act (label tab frame) (Nav url by_self method head);
 }
 
 abbrev pub drop_row : Row
@@ -57,6 +58,13 @@ drop_row = record {
 
 abbrev pub click_row : Row
 click_row = document_row Click
+
+abbrev pub fetch_row : Row
+fetch_row = record {
+  fields = tab ∷ frame ∷ url ∷ method_field ∷ head ∷ [];
+  action = λ (tab, (frame, (url, (method, (head, _))))).
+      Act (label tab frame) (Fetch url method head);
+}
 
 abbrev pub set_row : Row
 set_row = record {
@@ -85,6 +93,15 @@ key_row = record {
 abbrev pub events_row : Row
 events_row = document_row Events
 
+abbrev pub cookie_row : Row
+cookie_row = document_row Cookie
+
+abbrev pub setcookie_row : Row
+setcookie_row = record {
+  fields = tab ∷ frame ∷ required (codes "text") any_text ∷ [];
+  action = λ (tab, (frame, (text, _))). Act (label tab frame) (SetCookie text);
+}
+
 abbrev pub persisted_row : Row
 persisted_row = document_row Persisted
 
@@ -108,8 +125,10 @@ unfoldable pub table : List (List ℕ × Row)
 table =
     (codes "tick", tick_row) ∷ (codes "open", open_row) ∷ (codes "close", close_row)
     ∷ (codes "go", go_row) ∷ (codes "frame", frame_row) ∷ (codes "nav", nav_row)
-    ∷ (codes "drop", drop_row) ∷ (codes "click", click_row) ∷ (codes "set", set_row)
-    ∷ (codes "get", get_row) ∷ (codes "del", del_row) ∷ (codes "clear", clear_row)
-    ∷ (codes "len", len_row) ∷ (codes "key", key_row) ∷ (codes "events", events_row)
-    ∷ (codes "persisted", persisted_row) ∷ (codes "estimate", estimate_row)
-    ∷ (codes "persist", persist_row) ∷ (codes "evict", evict_row) ∷ []
+    ∷ (codes "drop", drop_row) ∷ (codes "click", click_row) ∷ (codes "fetch", fetch_row)
+    ∷ (codes "set", set_row) ∷ (codes "get", get_row) ∷ (codes "del", del_row)
+    ∷ (codes "clear", clear_row) ∷ (codes "len", len_row) ∷ (codes "key", key_row)
+    ∷ (codes "events", events_row) ∷ (codes "cookie", cookie_row)
+    ∷ (codes "setcookie", setcookie_row) ∷ (codes "persisted", persisted_row)
+    ∷ (codes "estimate", estimate_row) ∷ (codes "persist", persist_row)
+    ∷ (codes "evict", evict_row) ∷ []

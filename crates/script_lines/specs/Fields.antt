@@ -2,18 +2,20 @@
 -- Source: the script format of docs/FORMATS.md. Addresses and sites are those of the crate
 -- `origin_site`.
 -- Our own choice: all else. A member of an optional field is absent or of the field's form, and
--- `null` is of no form.
+-- `null` is of no form. The form of a head comes before its names and values.
 use Rattle.std.specs.Prelude.{ℕ, Bool, List, [], ◌∷◌, Option, Some, None}
-use Rattle.std.specs.Prelude.{option_map, option_and_then, Result, Ok, Err}
+use Rattle.std.specs.Prelude.{option_map, option_and_then, Result, Ok, Err, if◌then◌else◌}
+use Rattle.std.specs.List.{list_all}
 use Rattle.std.specs.Result.{result_ok}
 use Rattle.serde_json.specs.Data.{Data}
 use Rattle.serde_json.specs.Find.{get, as_bool, as_str}
 use Rattle.origin_site.specs.Address.{PlainAddress, address_of}
 use Rattle.origin_site.specs.Site.{PlainSite, site_of_text}
 use Rattle.storage_events.specs.declared.event.AreaKind.{AreaKind}
-use Rattle.script_lines.specs.Script.{PlainFault, BadField}
+use Rattle.script_lines.specs.Script.{HeadField, PlainFault, BadField, BadHeader}
 use Rattle.script_lines.specs.Words.{number_of, within, word_of, methods, areas, loaders}
 use Rattle.script_lines.specs.Words.{navigators, consents}
+use Rattle.script_lines.specs.Heads.{head_of_value, is_header}
 use Rattle.script_lines.specs.declared.words.Method.{Method}
 use Rattle.script_lines.specs.declared.words.Prompt.{Prompt}
 
@@ -32,6 +34,7 @@ pub data Kind : Type 0 where
   site_name : Kind
   truth : Kind
   method_name : Kind
+  head_list : Kind
   area_name : Kind
   loader : Kind
   navigator : Kind
@@ -46,6 +49,7 @@ Meaning address_text = PlainAddress
 Meaning site_name = PlainSite
 Meaning truth = Bool
 Meaning method_name = Method
+Meaning head_list = List HeadField
 Meaning area_name = AreaKind
 Meaning loader = Bool
 Meaning navigator = Bool
@@ -60,6 +64,7 @@ meaning address_text value = option_and_then (λ text. result_ok (address_of tex
 meaning site_name value = option_and_then (λ text. result_ok (site_of_text text)) (as_str value)
 meaning truth value = as_bool value
 meaning method_name value = word_of methods value
+meaning head_list value = head_of_value value
 meaning area_name value = word_of areas value
 meaning loader value = word_of loaders value
 meaning navigator value = word_of navigators value
@@ -98,10 +103,21 @@ abbrev pub formed : {A : Type 0} → ℕ → List ℕ → Option A → Result A 
 formed number name (Some value) = Ok value
 formed number name None = Err (BadField number name)
 
+-- a head, or the fault of one in which a name or a value is none of a header field
+abbrev pub of_headers : ℕ → List HeadField → Result (List HeadField) PlainFault
+of_headers number head = if list_all is_header head then Ok head else Err (BadHeader number)
+
+-- a member of the right form; of a head the names and values are looked at besides
+abbrev pub checked : (kind : Kind) → ℕ → Result (Meaning kind) PlainFault
+    → Result (Meaning kind) PlainFault
+checked head_list number head = then_ok head (of_headers number)
+checked kind number value = value
+
 -- what a line's member stands for, or its fault
 abbrev pub field_of : ℕ → (field : Field) → Data → Result (Meaning field.kind) PlainFault
 field_of number field line =
-    formed number field.name (given (meaning field.kind) field.absent (get field.name line))
+    checked field.kind number
+    (formed number field.name (given (meaning field.kind) field.absent (get field.name line)))
 
 -- what the members of these fields stand for, or the fault of the first that has one
 abbrev pub fields_of : ℕ → (fields : List Field) → Data → Result (Meanings fields) PlainFault

@@ -1,6 +1,7 @@
 -- What the public clauses rest on.
 pub mod Script
 pub mod Words
+pub mod Heads
 pub mod Fields
 pub mod Rows
 pub mod Actions

@@ -7,7 +7,8 @@ use Rattle.storage_events.specs.declared.event.AreaKind.TheVariants.{Local}
 use Rattle.script_lines.specs.declared.words.Method.TheVariants as method
 use Rattle.script_lines.specs.Script.{PlainAction, DocumentAction, Act}
 use Rattle.script_lines.specs.Fields.{Field, Kind, required, defaulted, Meanings}
-use Rattle.script_lines.specs.Fields.{whole, any_text, address_text, method_name, area_name}
+use Rattle.script_lines.specs.Fields.{whole, any_text, address_text, method_name, head_list}
+use Rattle.script_lines.specs.Fields.{area_name}
 
 -- a kind of line: its fields in order, and the action that they give
 pub record Row : Type 0 where
@@ -39,6 +40,9 @@ url = required (codes "url") address_text
 
 abbrev pub method_field : Field
 method_field = defaulted (codes "method") method_name method.Get
+
+abbrev pub head : Field
+head = defaulted (codes "head") head_list []
 
 abbrev pub area : Field
 area = defaulted (codes "area") area_name Local

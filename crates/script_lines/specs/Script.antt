@@ -8,17 +8,26 @@ use Rattle.storage_events.specs.declared.event.AreaKind.{AreaKind}
 use Rattle.script_lines.specs.declared.words.Method.{Method}
 use Rattle.script_lines.specs.declared.words.Prompt.{Prompt}
 
+-- a field of a response's head: its name and its value, as they are written
+pub record HeadField : Type 0 where
+  pub name : List ℕ
+  pub value : List ℕ
+
 -- what a document does, or what is done to it. It has two areas, and is named beside the action.
 pub data DocumentAction : Type 0 where
-  -- the frame that is named is added below a parent, with the text of its `sandbox` attribute
+  -- the frame that is named is added below a parent, with the text of its `sandbox` attribute. Its
+  -- load has a response with this head.
   Frame : (parent : ℕ) (url : PlainAddress) (sandbox : Option (List ℕ)) (deny : Bool)
-      → DocumentAction
+      (head : List HeadField) → DocumentAction
   -- its frame goes to another document, which its own document starts or its parent's
-  Nav : (url : PlainAddress) (by_self : Bool) (method : Method) → DocumentAction
+  Nav : (url : PlainAddress) (by_self : Bool) (method : Method) (head : List HeadField)
+      → DocumentAction
   -- its frame is removed
   Drop : DocumentAction
   -- a user clicks on it
   Click : DocumentAction
+  -- it requests an address, and the response has this head
+  Fetch : (url : PlainAddress) (method : Method) (head : List HeadField) → DocumentAction
   -- a name of an area gets a value
   Set : (area : AreaKind) (key value : List ℕ) → DocumentAction
   -- what is the value of a name of an area?
@@ -33,6 +42,10 @@ pub data DocumentAction : Type 0 where
   Key : (area : AreaKind) (n : ℕ) → DocumentAction
   -- which storage events does it have, and how many were lost? It has none of them afterwards.
   Events : DocumentAction
+  -- what does its script read of its cookies?
+  Cookie : DocumentAction
+  -- its script sets a cookie by this text
+  SetCookie : (text : List ℕ) → DocumentAction
   -- is its bucket persistent?
   Persisted : DocumentAction
   -- what does its local area weigh?
@@ -47,11 +60,12 @@ pub data PlainAction : Type 0 where
   -- a tab is opened with a top document. Its load is started by the opener's top document, or by
   -- the user where there is no opener. With `noopener` it gets no copy of the opener's areas.
   Open : (tab : ℕ) (url : PlainAddress) (opener : Option ℕ) (noopener : Bool) (method : Method)
-      → PlainAction
+      (head : List HeadField) → PlainAction
   -- a tab is closed
   Close : (tab : ℕ) → PlainAction
   -- a tab goes to another top document, which its page starts or the user
-  Go : (tab : ℕ) (url : PlainAddress) (by_page : Bool) (method : Method) → PlainAction
+  Go : (tab : ℕ) (url : PlainAddress) (by_page : Bool) (method : Method) (head : List HeadField)
+      → PlainAction
   -- the local areas under a top-level site are emptied, but for those of persistent buckets
   Evict : (site : PlainSite) → PlainAction
   -- an action of a document

@@ -1,12 +1,19 @@
 //! What a line asks for.
-ghost use Rattle.std.specs.Prelude.{◌≡◌, IfOk, option_map, string_bytes};
-ghost use Rattle.script_lines.specs.Plain.{action_of};
+ghost use Rattle.std.specs.Prelude.{◌≡◌, IfOk, map, option_map, string_bytes};
+ghost use Rattle.script_lines.specs.Plain.{action_of, head_field_of};
 
 use crate::{Method, Prompt};
 use agent_base::{Label, NoMemory};
 use origin_site::{Address, Site};
 use std::alloc::Global;
 use storage_events::AreaKind;
+
+/// A field of a response's head, as it is written.
+#[derive(Debug, Drop, PartialEq, Eq)]
+pub struct HeadField {
+    pub name: String,
+    pub value: String,
+}
 
 /// What a line asks for.
 #[derive(Debug, Drop, PartialEq, Eq)]
@@ -23,6 +30,7 @@ pub enum Action {
         /// The tab gets no copy of the opener's session areas.
         noopener: bool,
         method: Method,
+        head: Vec<HeadField>,
     },
     /// Closes a tab.
     Close {
@@ -34,14 +42,17 @@ pub enum Action {
         url: Box<Address>,
         by_page: bool,
         method: Method,
+        head: Vec<HeadField>,
     },
     /// Adds a frame below a parent, with the text of its `sandbox` attribute.
     Frame {
         at: Label,
         parent: u8,
-        url: Box<Address>,
-        sandbox: Option<String>,
+        // Fields lie in the order of the source: behind the address it would make a line longer.
         deny: bool,
+        url: Box<Address>,
+        sandbox: Option<Box<String>>,
+        head: Vec<HeadField>,
     },
     /// Navigates a frame, started by itself or by its parent.
     Nav {
@@ -49,6 +60,7 @@ pub enum Action {
         url: Box<Address>,
         by_self: bool,
         method: Method,
+        head: Vec<HeadField>,
     },
     /// Removes a frame.
     Drop {
@@ -57,6 +69,13 @@ pub enum Action {
     /// Activates a document, as a user's click does.
     Click {
         at: Label,
+    },
+    /// Requests an address for a document.
+    Fetch {
+        at: Label,
+        url: Box<Address>,
+        method: Method,
+        head: Vec<HeadField>,
     },
     /// Gives a name of an area a value.
     Set {
@@ -97,6 +116,15 @@ pub enum Action {
     Events {
         at: Label,
     },
+    /// Asks for the cookies that a document's script reads.
+    Cookie {
+        at: Label,
+    },
+    /// Sets a cookie by a document's script.
+    SetCookie {
+        at: Label,
+        text: String,
+    },
     /// Asks whether a document's bucket is persistent.
     Persisted {
         at: Label,
@@ -129,12 +157,14 @@ impl Action {
                 opener,
                 noopener,
                 method,
+                head,
             } => Ok(Action::Open {
                 tab: *tab,
                 url: boxed(alloc, url.copy(alloc)?)?,
                 opener: *opener,
                 noopener: *noopener,
                 method: *method,
+                head: copy_of_head(alloc, head)?,
             }),
             Action::Close { tab } => Ok(Action::Close { tab: *tab }),
             Action::Go {
@@ -142,38 +172,55 @@ impl Action {
                 url,
                 by_page,
                 method,
+                head,
             } => Ok(Action::Go {
                 tab: *tab,
                 url: boxed(alloc, url.copy(alloc)?)?,
                 by_page: *by_page,
                 method: *method,
+                head: copy_of_head(alloc, head)?,
             }),
             Action::Frame {
                 at,
                 parent,
+                deny,
                 url,
                 sandbox,
-                deny,
+                head,
             } => Ok(Action::Frame {
                 at: *at,
                 parent: *parent,
+                deny: *deny,
                 url: boxed(alloc, url.copy(alloc)?)?,
                 sandbox: copy_of_text(alloc, sandbox)?,
-                deny: *deny,
+                head: copy_of_head(alloc, head)?,
             }),
             Action::Nav {
                 at,
                 url,
                 by_self,
                 method,
+                head,
             } => Ok(Action::Nav {
                 at: *at,
                 url: boxed(alloc, url.copy(alloc)?)?,
                 by_self: *by_self,
                 method: *method,
+                head: copy_of_head(alloc, head)?,
             }),
             Action::Drop { at } => Ok(Action::Drop { at: *at }),
             Action::Click { at } => Ok(Action::Click { at: *at }),
+            Action::Fetch {
+                at,
+                url,
+                method,
+                head,
+            } => Ok(Action::Fetch {
+                at: *at,
+                url: boxed(alloc, url.copy(alloc)?)?,
+                method: *method,
+                head: copy_of_head(alloc, head)?,
+            }),
             Action::Set {
                 at,
                 area,
@@ -209,6 +256,11 @@ impl Action {
                 n: *n,
             }),
             Action::Events { at } => Ok(Action::Events { at: *at }),
+            Action::Cookie { at } => Ok(Action::Cookie { at: *at }),
+            Action::SetCookie { at, text } => Ok(Action::SetCookie {
+                at: *at,
+                text: String::from_str(alloc, text.as_str())?,
+            }),
             Action::Persisted { at } => Ok(Action::Persisted { at: *at }),
             Action::Estimate { at } => Ok(Action::Estimate { at: *at }),
             Action::Persist { at, answer } => Ok(Action::Persist {
@@ -222,23 +274,48 @@ impl Action {
     }
 }
 
-/// An address behind a pointer: in place it would take most of a line, and few lines have one.
-pub fn boxed(alloc: Global, url: Address) -> Result<Box<Address>, NoMemory>
-    ensures { IfOk result (λ boxed. boxed.value ≡ url) }
+impl HeadField {
+    /// The same field, over memory of its own.
+    pub fn copy(&self, alloc: Global) -> Result<HeadField, NoMemory>
+        ensures same { IfOk result (λ f. head_field_of f ≡ head_field_of self.now) }
+    {
+        Ok(HeadField {
+            name: String::from_str(alloc, self.name.as_str())?,
+            value: String::from_str(alloc, self.value.as_str())?,
+        })
+    }
+}
+
+/// A value behind a pointer: in place it would take most of a line, and few lines have one.
+pub fn boxed<T: Drop>(alloc: Global, value: T) -> Result<Box<T>, NoMemory>
+    ensures { IfOk result (λ boxed. boxed.value ≡ value) }
 {
-    match Box::new(alloc, url) {
+    match Box::new(alloc, value) {
         Ok(boxed) => Ok(boxed),
         Err(_) => Err(NoMemory),
     }
 }
 
 // A copy of a text, if there is one.
-fn copy_of_text(alloc: Global, text: &Option<String>) -> Result<Option<String>, NoMemory>
-    ensures { IfOk result (λ copy. option_map string_bytes copy
-        ≡ option_map string_bytes text.now) }
+fn copy_of_text(alloc: Global, text: &Option<Box<String>>) -> Result<Option<Box<String>>, NoMemory>
+    ensures { IfOk result (λ copy. option_map (λ t. string_bytes t.value) copy
+        ≡ option_map (λ t. string_bytes t.value) text.now) }
 {
     match text {
-        Some(text) => Ok(Some(String::from_str(alloc, text.as_str())?)),
+        Some(text) => Ok(Some(boxed(alloc, String::from_str(alloc, text.as_str())?)?)),
         None => Ok(None),
     }
+}
+
+// A copy of a head.
+fn copy_of_head(alloc: Global, head: &[HeadField]) -> Result<Vec<HeadField>, NoMemory>
+    ensures { IfOk result (λ v. map head_field_of v.items ≡ map head_field_of head.now) }
+{
+    let mut copy = Vec::new(alloc);
+    for field in head {
+        if copy.push(field.copy(alloc)?).is_err() {
+            return Err(NoMemory);
+        }
+    }
+    Ok(copy)
 }

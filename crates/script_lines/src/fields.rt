@@ -223,12 +223,13 @@ pub fn optional_text(
     line: &JsonLine<'_>,
     number: u32,
     name: &str,
-) -> Result<Option<String>, ScriptFault>
+) -> Result<Option<Box<String>>, ScriptFault>
     ensures { let field = defaulted name.now (spec.optional spec.any_text) None in
-        Reads (option_map string_bytes) (field_of number field (data_of_line line.now)) result }
+        Reads (option_map (λ text. string_bytes text.value))
+        (field_of number field (data_of_line line.now)) result }
 {
     match line.get(name) {
-        Some(_) => Ok(Some(text(alloc, line, number, name)?)),
+        Some(_) => Ok(Some(boxed(alloc, text(alloc, line, number, name)?)?)),
         None => Ok(None),
     }
 }

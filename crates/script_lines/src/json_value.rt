@@ -1,6 +1,7 @@
 //! The value of a member of a line.
-ghost use Rattle.std.specs.Prelude.{◌≡◌, option_and_then, option_copied};
+ghost use Rattle.std.specs.Prelude.{◌≡◌, option_and_then, option_copied, option_map};
 ghost use Rattle.serde_json.specs.Find as find;
+ghost use Rattle.serde_json.specs.View.{items_view};
 ghost use Rattle.script_lines.specs.Flat.{data_of};
 
 use serde_json::Value;
@@ -41,6 +42,16 @@ impl<'a> JsonValue<'a> {
         match self {
             JsonValue::Truth(truth) => Some(truth),
             JsonValue::Any(value) => value.as_bool(),
+            _ => None,
+        }
+    }
+
+    pub fn as_array(self) -> Option<&'a Vec<Value>>
+        ensures { option_map (λ items. items_view items.now.items) result
+            ≡ find.as_array (data_of self.entry) }
+    {
+        match self {
+            JsonValue::Any(value) => value.as_array(),
             _ => None,
         }
     }

@@ -9,6 +9,7 @@ mod action;
 mod actions;
 mod fields;
 mod flat_object;
+mod heads;
 mod json_line;
 mod json_value;
 mod members;
@@ -17,6 +18,6 @@ mod rows;
 mod script;
 mod words;
 
-pub use action::Action;
+pub use action::{Action, HeadField};
 pub use script::{Line, Script, ScriptFault};
 pub use words::{Method, Prompt};

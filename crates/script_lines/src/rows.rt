@@ -1,8 +1,9 @@
 //! The readers of the rows of the table, one a row.
-ghost use Rattle.script_lines.specs.Actions.{clear_row, click_row, close_row, del_row, drop_row};
-ghost use Rattle.script_lines.specs.Actions.{estimate_row, events_row, evict_row, frame_row};
-ghost use Rattle.script_lines.specs.Actions.{get_row, go_row, key_row, len_row, nav_row, open_row};
-ghost use Rattle.script_lines.specs.Actions.{persist_row, persisted_row, set_row, tick_row};
+ghost use Rattle.script_lines.specs.Actions.{clear_row, click_row, close_row, cookie_row, del_row};
+ghost use Rattle.script_lines.specs.Actions.{drop_row, estimate_row, events_row, evict_row};
+ghost use Rattle.script_lines.specs.Actions.{fetch_row, frame_row, get_row, go_row, key_row, len_row};
+ghost use Rattle.script_lines.specs.Actions.{nav_row, open_row, persist_row, persisted_row, set_row};
+ghost use Rattle.script_lines.specs.Actions.{setcookie_row, tick_row};
 ghost use Rattle.script_lines.specs.Grammar.{action_by_row};
 ghost use Rattle.script_lines.specs.JsonLine.{data_of_line};
 ghost use Rattle.script_lines.specs.Plain.{Reads, action_of};
@@ -11,6 +12,7 @@ use crate::fields::{
     address, frame_number, inner_frame, optional_tab, optional_text, site, tab_number, text, truth,
     whole_number, word,
 };
+use crate::heads::head;
 use crate::json_line::JsonLine;
 use crate::members::no_others;
 use crate::words::{AREAS, CONSENTS, LOADERS, METHODS, NAVIGATORS};
@@ -55,7 +57,8 @@ pub fn open(alloc: Global, line: &JsonLine<'_>, number: u32) -> Result<Action, S
         opener: optional_tab,
         noopener: truth(false),
         method: word(&METHODS, DEFAULT_METHOD),
-    } => Action::Open { tab, url, opener, noopener, method });
+        head: head,
+    } => Action::Open { tab, url, opener, noopener, method, head });
     Ok(action)
 }
 
@@ -76,7 +79,8 @@ pub fn go(alloc: Global, line: &JsonLine<'_>, number: u32) -> Result<Action, Scr
         url: address,
         by: word(&LOADERS, Some(false)),
         method: word(&METHODS, DEFAULT_METHOD),
-    } => Action::Go { tab, url, by_page: by, method });
+        head: head,
+    } => Action::Go { tab, url, by_page: by, method, head });
     Ok(action)
 }
 
@@ -90,7 +94,8 @@ pub fn frame(alloc: Global, line: &JsonLine<'_>, number: u32) -> Result<Action, 
         url: address,
         sandbox: optional_text,
         deny: truth(false),
-    } => Action::Frame { at: Label { tab, frame }, parent, url, sandbox, deny });
+        head: head,
+    } => Action::Frame { at: Label { tab, frame }, parent, deny, url, sandbox, head });
     Ok(action)
 }
 
@@ -103,7 +108,8 @@ pub fn nav(alloc: Global, line: &JsonLine<'_>, number: u32) -> Result<Action, Sc
         url: address,
         by: word(&NAVIGATORS, Some(false)),
         method: word(&METHODS, DEFAULT_METHOD),
-    } => Action::Nav { at: Label { tab, frame }, url, by_self: by, method });
+        head: head,
+    } => Action::Nav { at: Label { tab, frame }, url, by_self: by, method, head });
     Ok(action)
 }
 
@@ -121,6 +127,17 @@ pub fn click(alloc: Global, line: &JsonLine<'_>, number: u32) -> Result<Action, 
     ensures { Reads action_of (action_by_row number click_row (data_of_line line.now)) result }
 {
     let action = read_document!((alloc, line, number); {} => Click {});
+    Ok(action)
+}
+
+pub fn fetch(alloc: Global, line: &JsonLine<'_>, number: u32) -> Result<Action, ScriptFault>
+    ensures { Reads action_of (action_by_row number fetch_row (data_of_line line.now)) result }
+{
+    let action = read_document!((alloc, line, number); {
+        url: address,
+        method: word(&METHODS, DEFAULT_METHOD),
+        head: head,
+    } => Fetch { url, method, head });
     Ok(action)
 }
 
@@ -187,6 +204,22 @@ pub fn events(alloc: Global, line: &JsonLine<'_>, number: u32) -> Result<Action,
     ensures { Reads action_of (action_by_row number events_row (data_of_line line.now)) result }
 {
     let action = read_document!((alloc, line, number); {} => Events {});
+    Ok(action)
+}
+
+pub fn cookie(alloc: Global, line: &JsonLine<'_>, number: u32) -> Result<Action, ScriptFault>
+    ensures { Reads action_of (action_by_row number cookie_row (data_of_line line.now)) result }
+{
+    let action = read_document!((alloc, line, number); {} => Cookie {});
+    Ok(action)
+}
+
+pub fn set_cookie(alloc: Global, line: &JsonLine<'_>, number: u32) -> Result<Action, ScriptFault>
+    ensures { Reads action_of (action_by_row number setcookie_row (data_of_line line.now)) result }
+{
+    let action = read_document!((alloc, line, number); {
+        text: text,
+    } => SetCookie { text });
     Ok(action)
 }
 

@@ -26,6 +26,9 @@ returns-in-Drop c = of_row c.args.number (data_of_line c.args.line.now) c.drop.r
 pub returns-in-Click : goal.returns-in-Click
 returns-in-Click c = of_row c.args.number (data_of_line c.args.line.now) c.click.result c.in-Click.is c.click.ensures
 
+pub returns-in-Fetch : goal.returns-in-Fetch
+returns-in-Fetch c = of_row c.args.number (data_of_line c.args.line.now) c.fetch.result c.in-Fetch.is c.fetch.ensures
+
 pub returns-in-Set : goal.returns-in-Set
 returns-in-Set c = of_row c.args.number (data_of_line c.args.line.now) c.set.result c.in-Set.is c.set.ensures
 
@@ -46,6 +49,12 @@ returns-in-Key c = of_row c.args.number (data_of_line c.args.line.now) c.key.res
 
 pub returns-in-Events : goal.returns-in-Events
 returns-in-Events c = of_row c.args.number (data_of_line c.args.line.now) c.events.result c.in-Events.is c.events.ensures
+
+pub returns-in-Cookie : goal.returns-in-Cookie
+returns-in-Cookie c = of_row c.args.number (data_of_line c.args.line.now) c.cookie.result c.in-Cookie.is c.cookie.ensures
+
+pub returns-in-SetCookie : goal.returns-in-SetCookie
+returns-in-SetCookie c = of_row c.args.number (data_of_line c.args.line.now) c.set_cookie.result c.in-SetCookie.is c.set_cookie.ensures
 
 pub returns-in-Persisted : goal.returns-in-Persisted
 returns-in-Persisted c = of_row c.args.number (data_of_line c.args.line.now) c.persisted.result c.in-Persisted.is c.persisted.ensures

@@ -4,7 +4,7 @@ use std::alloc::Global;
 use std::test::Fail;
 
 // A line, and its action behind its number or the message of its fault.
-const ACTIONS: [(&str, &str); 37] = [
+const ACTIONS: [(&str, &str); 44] = [
     (
         "{\"do\":\"tick\",\"s\":1000000000}",
         "1 Tick { s: 1000000000 }\n",
@@ -14,7 +14,7 @@ const ACTIONS: [(&str, &str); 37] = [
             \"noopener\":true,\"method\":\"POST\"}",
         "1 Open { tab: 2, url: Address { text: \"https://a.test/\", https: true, ip: false, \
             host: \"a.test\", port: 443, path: \"/\" }, opener: Some(1), noopener: true, \
-            method: Post }\n",
+            method: Post, head: [] }\n",
     ),
     (
         "{\"do\":\"open\",\"tab\":2,\"url\":\"https://a.test/\",\"opener\":0}",
@@ -28,7 +28,8 @@ const ACTIONS: [(&str, &str); 37] = [
     (
         "{\"do\":\"go\",\"tab\":1,\"url\":\"https://a.test/\",\"by\":\"page\"}",
         "1 Go { tab: 1, url: Address { text: \"https://a.test/\", https: true, ip: false, \
-            host: \"a.test\", port: 443, path: \"/\" }, by_page: true, method: Get }\n",
+            host: \"a.test\", port: 443, path: \"/\" }, by_page: true, method: Get, \
+            head: [] }\n",
     ),
     (
         "{\"do\":\"go\",\"tab\":1,\"url\":\"https://a.test/\",\"by\":\"self\"}",
@@ -37,9 +38,9 @@ const ACTIONS: [(&str, &str); 37] = [
     (
         "{\"do\":\"frame\",\"tab\":1,\"frame\":2,\"url\":\"https://a.test/\",\
             \"sandbox\":\"x\",\"deny\":true}",
-        "1 Frame { at: Label { tab: 1, frame: 2 }, parent: 0, url: Address { text: \
+        "1 Frame { at: Label { tab: 1, frame: 2 }, parent: 0, deny: true, url: Address { text: \
             \"https://a.test/\", https: true, ip: false, host: \"a.test\", port: 443, path: \
-            \"/\" }, sandbox: Some(\"x\"), deny: true }\n",
+            \"/\" }, sandbox: Some(\"x\"), head: [] }\n",
     ),
     (
         "{\"do\":\"frame\",\"tab\":1,\"frame\":0}",
@@ -49,7 +50,7 @@ const ACTIONS: [(&str, &str); 37] = [
         "{\"do\":\"nav\",\"tab\":1,\"frame\":2,\"url\":\"https://a.test/\",\"by\":\"self\"}",
         "1 Nav { at: Label { tab: 1, frame: 2 }, url: Address { text: \"https://a.test/\", \
             https: true, ip: false, host: \"a.test\", port: 443, path: \"/\" }, by_self: true, \
-            method: Get }\n",
+            method: Get, head: [] }\n",
     ),
     (
         "{\"do\":\"nav\",\"tab\":1,\"frame\":2,\"url\":\"https://a.test/\",\"by\":\"user\"}",
@@ -66,6 +67,17 @@ const ACTIONS: [(&str, &str); 37] = [
     (
         "{\"do\":\"click\",\"tab\":1}",
         "1 Click { at: Label { tab: 1, frame: 0 } }\n",
+    ),
+    (
+        "{\"do\":\"fetch\",\"tab\":1,\"frame\":2,\"url\":\"https://a.test/\",\
+            \"method\":\"PUT\"}",
+        "1 Fetch { at: Label { tab: 1, frame: 2 }, url: Address { text: \"https://a.test/\", \
+            https: true, ip: false, host: \"a.test\", port: 443, path: \"/\" }, method: Put, \
+            head: [] }\n",
+    ),
+    (
+        "{\"do\":\"fetch\",\"tab\":1,\"method\":\"put\"}",
+        "script line 1: bad field url",
     ),
     (
         "{\"do\":\"set\",\"tab\":1,\"area\":\"session\",\"key\":\"k\",\"value\":\"\"}",
@@ -111,6 +123,26 @@ const ACTIONS: [(&str, &str); 37] = [
     (
         "{\"do\":\"events\",\"tab\":1,\"frame\":2}",
         "1 Events { at: Label { tab: 1, frame: 2 } }\n",
+    ),
+    (
+        "{\"do\":\"cookie\",\"tab\":1,\"frame\":255}",
+        "1 Cookie { at: Label { tab: 1, frame: 255 } }\n",
+    ),
+    (
+        "{\"do\":\"cookie\",\"tab\":1,\"text\":\"a=b\",\"head\":[]}",
+        "script line 1: bad field head",
+    ),
+    (
+        "{\"do\":\"setcookie\",\"tab\":1,\"text\":\"a=b\\n\"}",
+        "1 SetCookie { at: Label { tab: 1, frame: 0 }, text: \"a=b\\n\" }\n",
+    ),
+    (
+        "{\"do\":\"setcookie\",\"tab\":1,\"frame\":2,\"text\":\"\"}",
+        "1 SetCookie { at: Label { tab: 1, frame: 2 }, text: \"\" }\n",
+    ),
+    (
+        "{\"do\":\"setcookie\",\"tab\":1,\"value\":\"a=b\"}",
+        "script line 1: bad field text",
     ),
     (
         "{\"do\":\"events\",\"tab\":1,\"area\":\"local\"}",
@@ -159,7 +191,7 @@ const ACTIONS: [(&str, &str); 37] = [
 ];
 
 // The lines of a script that a text is, or the message of its first fault.
-fn answer_of(alloc: Global, text: &str) -> Result<String, Fail> {
+pub fn answer_of(alloc: Global, text: &str) -> Result<String, Fail> {
     let bytes = Vec::from_slice(alloc, text.as_bytes())?;
     match script_of(alloc, bytes) {
         Ok(script) => lines_text(alloc, &script),

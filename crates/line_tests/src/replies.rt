@@ -11,7 +11,7 @@ enum Answer {
     Plain(&'static str),
     Now(i64),
     Kept(u64),
-    Load(&'static [&'static str]),
+    Load(Option<&'static str>, &'static [&'static str]),
     Text(Option<&'static str>),
     Number(u64),
     Truth(bool),
@@ -22,7 +22,7 @@ enum Answer {
     Cleared(u32),
 }
 
-const REPLIES: [(&str, Option<&str>, Answer, &str); 14] = [
+const REPLIES: [(&str, Option<&str>, Answer, &str); 16] = [
     (
         "set",
         Some("https://a.test"),
@@ -50,9 +50,16 @@ const REPLIES: [(&str, Option<&str>, Answer, &str); 14] = [
     (
         "open",
         Some("https://a.test"),
-        Answer::Load(&["added", "empty"]),
-        "{\"cookie\":null,\"do\":\"open\",\"is\":\"ok\",\
-            \"set\":[\"added\",\"empty\"],\"site\":\"https://a.test\"}\n",
+        Answer::Load(None, &[]),
+        "{\"cookie\":null,\"do\":\"open\",\"is\":\"ok\",\"set\":[],\
+            \"site\":\"https://a.test\"}\n",
+    ),
+    (
+        "fetch",
+        Some("https://a.test"),
+        Answer::Load(Some("a=\"b\"; c=d"), &["added", "empty", "removed"]),
+        "{\"cookie\":\"a=\\\"b\\\"; c=d\",\"do\":\"fetch\",\"is\":\"ok\",\
+            \"set\":[\"added\",\"empty\",\"removed\"],\"site\":\"https://a.test\"}\n",
     ),
     (
         "tick",
@@ -92,6 +99,12 @@ const REPLIES: [(&str, Option<&str>, Answer, &str); 14] = [
         "{\"cookie\":\"a=b\",\"do\":\"cookie\",\"is\":\"ok\",\"site\":null}\n",
     ),
     (
+        "cookie",
+        None,
+        Answer::Cookie(""),
+        "{\"cookie\":\"\",\"do\":\"cookie\",\"is\":\"ok\",\"site\":null}\n",
+    ),
+    (
         "setcookie",
         None,
         Answer::SetOne("added"),
@@ -111,20 +124,24 @@ const REPLIES: [(&str, Option<&str>, Answer, &str); 14] = [
     ),
 ];
 
-// A body of a document that was loaded, with these answers to Set-Cookie texts.
-fn load_body(alloc: Global, answers: &[&'static str]) -> Result<ReplyBody, Fail> {
-    let set = Vec::from_slice(alloc, answers)?;
-    Ok(ReplyBody::Load { cookie: None, set })
+// A text that is owned, if there is one.
+fn owned(alloc: Global, text: Option<&str>) -> Result<Option<String>, Fail> {
+    match text {
+        Some(text) => Ok(Some(String::from_str(alloc, text)?)),
+        None => Ok(None),
+    }
 }
 
-// A body of a text, if there is one.
-fn text_body(alloc: Global, text: Option<&str>) -> Result<ReplyBody, Fail> {
-    match text {
-        Some(text) => Ok(ReplyBody::Text {
-            value: Some(String::from_str(alloc, text)?),
-        }),
-        None => Ok(ReplyBody::Text { value: None }),
-    }
+// A body of a document that was loaded, with this Cookie header and these answers to Set-Cookie
+// texts.
+fn load_body(
+    alloc: Global,
+    cookie: Option<&str>,
+    answers: &[&'static str],
+) -> Result<ReplyBody, Fail> {
+    let set = Vec::from_slice(alloc, answers)?;
+    let cookie = owned(alloc, cookie)?;
+    Ok(ReplyBody::Load { cookie, set })
 }
 
 // An event of a session area.
@@ -147,8 +164,10 @@ fn body(alloc: Global, answer: Answer) -> Result<ReplyBody, Fail> {
         Answer::Plain(is) => Ok(ReplyBody::Plain { is }),
         Answer::Now(now) => Ok(ReplyBody::Now { now }),
         Answer::Kept(kept) => Ok(ReplyBody::Kept { kept }),
-        Answer::Load(answers) => load_body(alloc, answers),
-        Answer::Text(text) => text_body(alloc, text),
+        Answer::Load(cookie, answers) => load_body(alloc, cookie, answers),
+        Answer::Text(text) => Ok(ReplyBody::Text {
+            value: owned(alloc, text)?,
+        }),
         Answer::Number(value) => Ok(ReplyBody::Number { value }),
         Answer::Truth(value) => Ok(ReplyBody::Truth { value }),
         Answer::OneEvent(lost) => event_body(alloc, lost),

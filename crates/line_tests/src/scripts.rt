@@ -2,6 +2,7 @@
 use agent_base::MemSource;
 use script_lines::{Line, Script, ScriptFault};
 use std::alloc::Global;
+use std::mem::size_of;
 use std::test::Fail;
 
 // What reading these bytes answers.
@@ -62,7 +63,7 @@ const FAULTS: [(&[u8], &[u8]); 25] = [
         b"script line 1: bad field a",
     ),
     (
-        b"{\"do\":\"open\",\"tab\":1,\"url\":\"https://a.test\",\"head\":[]}",
+        b"{\"do\":\"close\",\"tab\":1,\"head\":[]}",
         b"script line 1: bad field head",
     ),
     (
@@ -91,7 +92,7 @@ const FAULTS: [(&[u8], &[u8]); 25] = [
         b"script line 1: bad field s",
     ),
     (
-        b"{\"do\":\"cookie\",\"tab\":1}",
+        b"{\"do\":\"has\",\"tab\":1}",
         b"script line 1: unknown action",
     ),
     (
@@ -148,7 +149,7 @@ const LINES: &[u8] = b"{\"do\":\"open\",\"tab\":65535,\"url\":\"https://a.test\"
 
 const ACTIONS: &str = "1 Open { tab: 65535, url: Address { text: \"https://a.test/\", \
     https: true, ip: false, host: \"a.test\", port: 443, path: \"/\" }, opener: None, \
-    noopener: false, method: Get }\n\
+    noopener: false, method: Get, head: [] }\n\
     3 Get { at: Label { tab: 1, frame: 0 }, area: Local, key: \"k\" }\n";
 
 #[test]
@@ -157,6 +158,11 @@ fn lines_of_a_script(rt: HostRuntime) -> Result<(), Fail> {
     let shown = read_lines(alloc, LINES)?;
     assert_eq!(rt; shown.as_str(), ACTIONS);
     Ok(())
+}
+
+#[test]
+fn a_line_takes_64_bytes(rt: HostRuntime) {
+    assert_eq!(rt; size_of::<Line>(), 64);
 }
 
 #[test]

@@ -16,6 +16,11 @@ load : reply_text (record { name = codes "open"; site = Some (record { https = t
 unfolding serde_json_on_literals
 load = refl
 
+load_with_cookies : said (codes "fetch") (Load (Some (codes "a=b")) (codes "added" ∷ codes "empty" ∷ []))
+    ≡ codes "{\"cookie\":\"a=b\",\"do\":\"fetch\",\"is\":\"ok\",\"set\":[\"added\",\"empty\"],\"site\":\"https://a.test\"}\n"
+unfolding serde_json_on_literals
+load_with_cookies = refl
+
 found : reply_text (record { name = codes "get"; site = Some (record { https = true; host = codes "a.test" }); body = Text (Some (codes "v")) })
     ≡ codes "{\"do\":\"get\",\"is\":\"ok\",\"site\":\"https://a.test\",\"value\":\"v\"}\n"
 unfolding serde_json_on_literals

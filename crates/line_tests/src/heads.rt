@@ -1,0 +1,211 @@
+//! Heads of loads and of requests: good ones, each fault, and which fault is the first.
+use crate::actions::answer_of;
+use std::alloc::Global;
+use std::test::Fail;
+
+// The member `head` of a line, and the head that is read or the message of the fault.
+const HEADS: [(&str, &str); 31] = [
+    ("[]", "[]"),
+    (
+        r#"[["Set-Cookie","a=b"]]"#,
+        r#"[HeadField { name: "Set-Cookie", value: "a=b" }]"#,
+    ),
+    (
+        r#"[["set-COOKIE",""],["Set-Cookie","a=b"],["X","x"]]"#,
+        r#"[HeadField { name: "set-COOKIE", value: "" }, HeadField { name: "Set-Cookie", value: "a=b" }, HeadField { name: "X", value: "x" }]"#,
+    ),
+    (
+        r#"[["!#$%&'*+-.^_`|~09AZaz","a"]]"#,
+        r#"[HeadField { name: "!#$%&'*+-.^_`|~09AZaz", value: "a" }]"#,
+    ),
+    (
+        "[[\"a\",\" \\u0009\u{7f}\u{e9};,\\\"\"]]",
+        r#"[HeadField { name: "a", value: " \t\u{7f}é;,\"" }]"#,
+    ),
+    ("null", "script line 1: bad field head"),
+    ("0", "script line 1: bad field head"),
+    ("true", "script line 1: bad field head"),
+    (r#""Set-Cookie: a=b""#, "script line 1: bad field head"),
+    (r#"{"Set-Cookie":"a=b"}"#, "script line 1: bad field head"),
+    ("[null]", "script line 1: bad field head"),
+    (r#"["Set-Cookie","a=b"]"#, "script line 1: bad field head"),
+    (r#"[{"Set-Cookie":"a=b"}]"#, "script line 1: bad field head"),
+    ("[[]]", "script line 1: bad field head"),
+    (r#"[["a"]]"#, "script line 1: bad field head"),
+    (r#"[["a","b","c"]]"#, "script line 1: bad field head"),
+    (r#"[["a",1]]"#, "script line 1: bad field head"),
+    (r#"[[1,"b"]]"#, "script line 1: bad field head"),
+    (r#"[["a",null]]"#, "script line 1: bad field head"),
+    (r#"[["a",["b"]]]"#, "script line 1: bad field head"),
+    (
+        r#"[["a","b"],["a","b"],["a"]]"#,
+        "script line 1: bad field head",
+    ),
+    (r#"[["","b"]]"#, "script line 1: bad header"),
+    (r#"[["a b","c"]]"#, "script line 1: bad header"),
+    (r#"[["a:","c"]]"#, "script line 1: bad header"),
+    (r#"[["é","c"]]"#, "script line 1: bad header"),
+    (r#"[["a\u0000","c"]]"#, "script line 1: bad header"),
+    (r#"[["a","\u0000"]]"#, "script line 1: bad header"),
+    (r#"[["a","b\n"]]"#, "script line 1: bad header"),
+    (r#"[["a","\rb"]]"#, "script line 1: bad header"),
+    (
+        r#"[["a","b"],["a","b"],["a","b\nc"]]"#,
+        "script line 1: bad header",
+    ),
+    // The form of the whole head is looked at before any name.
+    (r#"[["a b","c"],["a"]]"#, "script line 1: bad field head"),
+];
+
+// A line with this head, whose action is shown before and behind it.
+fn answer_to(alloc: Global, head: &str) -> Result<String, Fail> {
+    let line = format!(in alloc;
+        "{{\"do\":\"fetch\",\"tab\":1,\"url\":\"https://a.test\",\"head\":{head}}}"
+    )?;
+    answer_of(alloc, line.as_str())
+}
+
+// What is shown of a request with this head, where it is not refused.
+fn shown(alloc: Global, want: &str) -> Result<String, Fail> {
+    if want.starts_with("script") {
+        return Ok(String::from_str(alloc, want)?);
+    }
+    Ok(format!(in alloc;
+        "1 Fetch {{ at: Label {{ tab: 1, frame: 0 }}, url: Address {{ text: \
+            \"https://a.test/\", https: true, ip: false, host: \"a.test\", port: 443, path: \
+            \"/\" }}, method: Get, head: {want} }}\n"
+    )?)
+}
+
+#[test]
+fn heads_of_requests(rt: HostRuntime) -> Result<(), Fail> {
+    let alloc = rt.alloc();
+    for (head, want) in HEADS {
+        let answer = answer_to(alloc, head)?;
+        let want = shown(alloc, want)?;
+        assert_eq!(rt; answer.as_str(), want.as_str(), "{head}");
+    }
+    Ok(())
+}
+
+// A line, and its action behind its number or the message of its fault.
+const LINES: [(&str, &str); 12] = [
+    (
+        r#"{"do":"open","tab":1,"url":"https://a.test","head":[["a","b"]]}"#,
+        "1 Open { tab: 1, url: Address { text: \"https://a.test/\", https: true, ip: false, \
+            host: \"a.test\", port: 443, path: \"/\" }, opener: None, noopener: false, \
+            method: Get, head: [HeadField { name: \"a\", value: \"b\" }] }\n",
+    ),
+    (
+        r#"{"do":"go","head":[["a","b"]],"tab":1,"url":"https://a.test"}"#,
+        "1 Go { tab: 1, url: Address { text: \"https://a.test/\", https: true, ip: false, \
+            host: \"a.test\", port: 443, path: \"/\" }, by_page: false, method: Get, \
+            head: [HeadField { name: \"a\", value: \"b\" }] }\n",
+    ),
+    (
+        r#"{"do":"frame","tab":1,"frame":1,"url":"https://a.test","head":[["a","b"]]}"#,
+        "1 Frame { at: Label { tab: 1, frame: 1 }, parent: 0, deny: false, url: Address { text: \
+            \"https://a.test/\", https: true, ip: false, host: \"a.test\", port: 443, path: \
+            \"/\" }, sandbox: None, head: [HeadField { name: \"a\", value: \"b\" }] }\n",
+    ),
+    (
+        r#"{"do":"nav","tab":1,"frame":1,"url":"https://a.test","head":[["a","b"]]}"#,
+        "1 Nav { at: Label { tab: 1, frame: 1 }, url: Address { text: \"https://a.test/\", \
+            https: true, ip: false, host: \"a.test\", port: 443, path: \"/\" }, by_self: false, \
+            method: Get, head: [HeadField { name: \"a\", value: \"b\" }] }\n",
+    ),
+    // A head is the last field of its row, and comes before a member that no field has.
+    (
+        r#"{"do":"open","tab":1,"url":"https://a.test","method":"get","head":[["",""]]}"#,
+        "script line 1: bad field method",
+    ),
+    (
+        r#"{"do":"frame","tab":1,"frame":1,"url":"https://a.test","deny":0,"head":0}"#,
+        "script line 1: bad field deny",
+    ),
+    (
+        r#"{"do":"nav","tab":1,"frame":1,"url":"https://a.test","head":[["",""]],"a":0}"#,
+        "script line 1: bad header",
+    ),
+    (
+        r#"{"do":"go","tab":1,"url":"https://a.test","head":{},"a":0}"#,
+        "script line 1: bad field head",
+    ),
+    (
+        r#"{"do":"go","tab":1,"url":"https://a.test","head":[["a","b"]],"a":0}"#,
+        "script line 1: bad field a",
+    ),
+    // Of two members of one name the later counts.
+    (
+        r#"{"do":"go","tab":1,"url":"https://a.test","head":0,"head":[["",""]]}"#,
+        "script line 1: bad header",
+    ),
+    (
+        r#"{"do":"set","tab":1,"key":"k","value":"v","head":[["",""]]}"#,
+        "script line 1: bad field head",
+    ),
+    (
+        r#"{"do":"setcookie","tab":1,"text":["a=b"]}"#,
+        "script line 1: bad field text",
+    ),
+];
+
+#[test]
+fn heads_of_lines(rt: HostRuntime) -> Result<(), Fail> {
+    let alloc = rt.alloc();
+    for (line, want) in LINES {
+        let answer = answer_of(alloc, line)?;
+        assert_eq!(rt; answer.as_str(), want, "{line}");
+    }
+    Ok(())
+}
+
+// A list of this text, so many times.
+fn list_of(alloc: Global, item: &str, count: usize) -> Result<String, Fail> {
+    let mut list = String::from_str(alloc, "[")?;
+    for place in 0..count {
+        if place > 0 {
+            list.push(',')?;
+        }
+        list.push_str(item)?;
+    }
+    list.push(']')?;
+    Ok(list)
+}
+
+#[test]
+fn a_head_of_the_limit(rt: HostRuntime) -> Result<(), Fail> {
+    let alloc = rt.alloc();
+    for (item, count, want) in [
+        (r#"["a","b"]"#, 65, "script line 1: bad field head"),
+        (r#"["a b","c"]"#, 65, "script line 1: bad field head"),
+        (r#"["a b","c"]"#, 64, "script line 1: bad header"),
+    ] {
+        let answer = answer_to(alloc, list_of(alloc, item, count)?.as_str())?;
+        assert_eq!(rt; answer.as_str(), want, "{count} times {item}");
+    }
+    let one = r#"HeadField { name: "a", value: "b" }"#;
+    let answer = answer_to(alloc, list_of(alloc, r#"["a","b"]"#, 64)?.as_str())?;
+    assert_eq!(rt; answer.matches(one).count(), 64);
+    Ok(())
+}
+
+// A head of one field, whose name has so many letters.
+fn named_by(alloc: Global, count: usize) -> Result<String, Fail> {
+    let mut head = String::from_str(alloc, "[[\"")?;
+    for _ in 0..count {
+        head.push('a')?;
+    }
+    head.push_str("\",\"b\"]]")?;
+    Ok(head)
+}
+
+#[test]
+fn a_name_of_the_limit(rt: HostRuntime) -> Result<(), Fail> {
+    let alloc = rt.alloc();
+    let good = answer_to(alloc, named_by(alloc, 65_535)?.as_str())?;
+    assert!(rt; good.starts_with("1 Fetch"));
+    let bad = answer_to(alloc, named_by(alloc, 65_536)?.as_str())?;
+    assert_eq!(rt; bad.as_str(), "script line 1: bad header");
+    Ok(())
+}

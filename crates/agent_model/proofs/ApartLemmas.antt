@@ -2,7 +2,6 @@
 use Rattle.std.proofs.Common.{◌≡◌, ℕ, Bool, true, false, cond, List, Option, Some, None, Ok, Err, refl}
 use Rattle.std.specs.Prelude.{Result, nat_lt, codes}
 use Rattle.agent_base.specs.declared.refusals.Label.{Label}
-use Rattle.suffix_list.specs.Suffix.{Rule}
 use Rattle.storage_key.specs.Key.{PlainKey}
 use Rattle.frame_tree.specs.Calls.{is_https_chain}
 use Rattle.frame_tree.specs.declared.tab.TreeFault.{TreeFault}
@@ -14,20 +13,15 @@ use Rattle.local_area.specs.Put.{PlainPut, same, added, changed, put_answer}
 use Rattle.storage_events.specs.declared.event.AreaKind.{AreaKind}
 use Rattle.storage_events.specs.Event.{PlainEvent}
 use Rattle.live_state.specs.Tabs.{PlainTab, queue_of}
-use Rattle.script_lines.specs.declared.words.Method.TheVariants as method
 use Rattle.script_lines.specs.declared.words.Prompt.{Prompt}
 use Rattle.reply_lines.specs.Reply.{Plain}
-use Rattle.script_lines.specs.Script.{DocumentAction, Frame, Nav, Drop, Click, Set, Get, Del, Clear, Len, Key}
-use Rattle.script_lines.specs.Script.{Events, Persisted, Estimate, Persist}
 use Rattle.agent_model.specs.Partition.{Holdings}
 use Rattle.agent_model.specs.Done.{SharedCells, Done, Effect, no_shared_cells, answers, ok}
 use Rattle.agent_model.specs.Documents.{Keyed, by_document, by_key, with_key}
 use Rattle.agent_model.specs.AreaActions.{pairs_of, change_event, write, store, set_by, set_item, remove_by, remove_item, clear_area}
-use Rattle.agent_model.specs.AreaActions.{get_item, get_name, get_length}
-use Rattle.agent_model.specs.Buckets.{is_persistent, is_grant, get_mode, get_usage, persist_by, persist}
-use Rattle.agent_model.specs.Frames.{on_frames, load, frames_added, frames_navigated, frames_removed, frames_clicked}
+use Rattle.agent_model.specs.Buckets.{is_persistent, is_grant, persist_by, persist}
+use Rattle.agent_model.specs.Frames.{on_frames, frames_removed, frames_clicked, remove_frame, click}
 use Rattle.agent_model.specs.Queues.{take_queue, take_events}
-use Rattle.agent_model.specs.SiteStep.{act_in}
 
 -- what was done, with other shared cells
 abbrev pub with_cells : SharedCells → Done → Done
@@ -51,7 +45,7 @@ by_key_apart : (at : Label) (document : PlainDocument) (key : Option PlainKey) (
 by_key_apart at document None action each cells held = refl
 by_key_apart at document (Some key) action each cells held = each (record { at = at; document = document; key = key }) cells held
 
-key_apart : (at : Label) (tab : PlainTab) (action : Keyed → Effect) → ((own : Keyed) → IsApart (action own)) → IsApart (with_key at tab action)
+pub key_apart : (at : Label) (tab : PlainTab) (action : Keyed → Effect) → ((own : Keyed) → IsApart (action own)) → IsApart (with_key at tab action)
 key_apart at tab action each = document_apart (document_of at.frame tab.frames) _ (λ document. by_key_apart at document (key_of_document at.frame tab.frames document) action each)
 
 -- ---- areas
@@ -65,7 +59,7 @@ set_by_apart added kind writer name value pairs cells held = store_apart kind wr
 set_by_apart (changed before) kind writer name value pairs cells held =
     store_apart kind writer pairs (change_event kind writer (Some name) (Some before) (Some value)) cells held
 
-set_apart : (kind : AreaKind) (name value : List ℕ) (writer : Keyed) → IsApart (set_item kind name value writer)
+pub set_apart : (kind : AreaKind) (name value : List ℕ) (writer : Keyed) → IsApart (set_item kind name value writer)
 set_apart kind name value writer cells held =
     let pairs = pairs_of kind writer held in
     set_by_apart (put_answer name value pairs) kind writer name value (area_put name value pairs) cells held
@@ -74,8 +68,11 @@ remove_by_apart : (found : Option (List ℕ)) (kind : AreaKind) (writer : Keyed)
 remove_by_apart None kind writer name cells held = refl
 remove_by_apart (Some before) kind writer name cells held = refl
 
-remove_apart : (kind : AreaKind) (name : List ℕ) (writer : Keyed) → IsApart (remove_item kind name writer)
+pub remove_apart : (kind : AreaKind) (name : List ℕ) (writer : Keyed) → IsApart (remove_item kind name writer)
 remove_apart kind name writer cells held = remove_by_apart (area_get name (pairs_of kind writer held)) kind writer name cells held
+
+pub clear_apart : (kind : AreaKind) (writer : Keyed) → IsApart (clear_area kind writer)
+clear_apart kind writer cells held = refl
 
 -- ---- buckets
 
@@ -84,7 +81,7 @@ persist_by_apart true granted asker cells held = refl
 persist_by_apart false true asker cells held = refl
 persist_by_apart false false asker cells held = refl
 
-persist_apart : (tab : PlainTab) (answer : Prompt) (asker : Keyed) → IsApart (persist tab answer asker)
+pub persist_apart : (tab : PlainTab) (answer : Prompt) (asker : Keyed) → IsApart (persist tab answer asker)
 persist_apart tab answer asker cells held =
     either (is_https_chain asker.at.frame tab.frames) (persist_by (is_persistent asker.key held) (is_grant answer) asker) (answers (Plain (codes "insecure")))
     (persist_by_apart (is_persistent asker.key held) (is_grant answer) asker) (λ cells held. refl) cells held
@@ -96,28 +93,15 @@ frames_apart : (number : ℕ) (tab : PlainTab) (replaced : Option ℕ) (next : L
 frames_apart number tab replaced next (Ok frames) each cells held = each frames cells _
 frames_apart number tab replaced next (Err why) each cells held = refl
 
-events_apart : (at : Label) (tab : PlainTab) → IsApart (take_events at tab)
+pub events_apart : (at : Label) (tab : PlainTab) → IsApart (take_events at tab)
 events_apart at tab = by (has_frame at.frame tab.frames)
   where
     by : (b : Bool) → IsApart (cond b (take_queue at tab (queue_of at.frame tab.queues)) (answers (Plain (codes "no-frame"))))
     by true cells held = refl
     by false cells held = refl
 
--- ---- every action of a document
+pub drop_apart : (at : Label) (tab : PlainTab) → IsApart (remove_frame at tab)
+drop_apart at tab = frames_apart at.tab tab None (λ frames. answers ok) (frames_removed at tab.frames) (λ frames cells held. refl)
 
-pub act_apart : (rules : List Rule) (now : ℕ) (at : Label) (action : DocumentAction) (tab : PlainTab) → IsApart (act_in rules now at action tab)
-act_apart rules now at (Frame parent url sandbox deny) tab =
-    frames_apart at.tab tab None (load rules now at url method.Get) (frames_added rules at parent url sandbox deny tab.frames) (λ frames cells held. refl)
-act_apart rules now at (Nav url by_self method) tab = frames_apart at.tab tab (Some at.frame) (load rules now at url method) (frames_navigated rules at url tab.frames) (λ frames cells held. refl)
-act_apart rules now at Drop tab = frames_apart at.tab tab None (λ frames. answers ok) (frames_removed at tab.frames) (λ frames cells held. refl)
-act_apart rules now at Click tab = frames_apart at.tab tab None (λ frames. answers ok) (frames_clicked now at tab.frames) (λ frames cells held. refl)
-act_apart rules now at (Set area key value) tab = key_apart at tab (set_item area key value) (set_apart area key value)
-act_apart rules now at (Get area key) tab = key_apart at tab (get_item area key) (λ reader cells held. refl)
-act_apart rules now at (Del area key) tab = key_apart at tab (remove_item area key) (remove_apart area key)
-act_apart rules now at (Clear area) tab = key_apart at tab (clear_area area) (λ writer cells held. refl)
-act_apart rules now at (Len area) tab = key_apart at tab (get_length area) (λ reader cells held. refl)
-act_apart rules now at (Key area n) tab = key_apart at tab (get_name area n) (λ reader cells held. refl)
-act_apart rules now at Events tab = events_apart at tab
-act_apart rules now at Persisted tab = key_apart at tab get_mode (λ reader cells held. refl)
-act_apart rules now at Estimate tab = key_apart at tab get_usage (λ reader cells held. refl)
-act_apart rules now at (Persist answer) tab = key_apart at tab (persist tab answer) (persist_apart tab answer)
+pub click_apart : (now : ℕ) (at : Label) (tab : PlainTab) → IsApart (click now at tab)
+click_apart now at tab = frames_apart at.tab tab None (λ frames. answers ok) (frames_clicked now at tab.frames) (λ frames cells held. refl)

@@ -6,17 +6,24 @@ pub mod SessionLemmas
 -- The cells that sites share.
 pub mod CookieCellsLemmas
 pub mod ApartLemmas
+pub mod PartitionedLemmas
+pub mod CookieLemmas
+pub mod CookieActionLemmas
 -- The law.
 pub mod Isolated
+mod NoCookieLemmas
 mod SiteRunLemmas
-pub mod ToldLemmas
+pub mod GivenLemmas
 pub mod OwnLemmas
 pub mod LocalScriptLemmas
+mod HoldsLemmas
 -- Values worked out by hand.
 pub mod StandardFacts
 mod OpenerFacts
 pub mod StorageFacts
 mod BucketFacts
 mod SessionFacts
-mod ToldFacts
+pub mod GivenFacts
 mod CookieCellFacts
+pub mod CookieRunFacts
+mod CookieFacts

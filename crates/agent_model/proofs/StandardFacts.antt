@@ -14,6 +14,7 @@ use Rattle.frame_tree.specs.Sandbox.{both, sandbox_of, unrestricted}
 use Rattle.frame_tree.specs.declared.tab.TreeFault.TheVariants.{NoFrame, FrameExists}
 use Rattle.frame_tree.specs.Keys.{key_of_frame}
 use Rattle.script_lines.specs.declared.words.Method.TheVariants as method
+use Rattle.script_lines.specs.Script.{HeadField}
 use Rattle.agent_model.specs.Partition.{Holdings, without_tab}
 use Rattle.agent_model.specs.SiteEvent.{SiteEvent, TimedEvent, Arrives, Leaves, Opens, Goes}
 use Rattle.agent_model.specs.Frames.{frames_added, frames_navigated, frames_removed}
@@ -55,35 +56,40 @@ at_seven event = record { moment = 7; event = event }
 abbrev pub occurs_at : List ℕ → SiteEvent → Option SiteOccurrence
 occurs_at host event = Some (record { site = site host; event = at_seven event })
 
+-- the head of a response with the field `set-cookie: TEXT` alone
+abbrev pub stores : List ℕ → List HeadField
+stores text = record { name = codes "set-cookie"; value = text } ∷ []
+
 -- ---- loads of top documents
 
 -- the user opens a tab, and a page of another site opens one
-free : opening [] (beginning 7) 1 (address a) method.Get (Some User) None ≡ occurs_at a (Arrives Opens 1 (address a) method.Get true)
+free : opening [] (beginning 7) 1 (address a) method.Get [] (Some User) None ≡ occurs_at a (Arrives Opens 1 (address a) method.Get true [])
 unfolding beginning
 free = refl
 
-by_page : opening [] (beginning 7) 2 (address a) method.Get (Some (Page (site b))) None ≡ occurs_at a (Arrives Opens 2 (address a) method.Get false)
+by_page : opening [] (beginning 7) 2 (address a) method.Get [] (Some (Page (site b))) None ≡ occurs_at a (Arrives Opens 2 (address a) method.Get false [])
 unfolding beginning
 by_page = refl
 
 -- a number that is taken opens nothing, and without its opener a free one neither
-taken : opening [] (beginning 7) 1 (address a) method.Get (Some User) (Some (site b)) ≡ None
+taken : opening [] (beginning 7) 1 (address a) method.Get [] (Some User) (Some (site b)) ≡ None
 taken = refl
 
-no_opener : opening [] (beginning 7) 1 (address a) method.Get None None ≡ None
+no_opener : opening [] (beginning 7) 1 (address a) method.Get [] None None ≡ None
 no_opener = refl
 
 -- a tab that a page of another site sends elsewhere arrives there, from another site
-sent : going [] (beginning 7) 1 (address a) true method.Get (Some (site b)) ≡ occurs_at a (Arrives Goes 1 (address a) method.Get false)
+sent : going [] (beginning 7) 1 (address a) true method.Get [] (Some (site b)) ≡ occurs_at a (Arrives Goes 1 (address a) method.Get false [])
 unfolding beginning
 sent = refl
 
 -- the user's own going is same-site, whatever site the tab was at, and each load carries its method
-gone : going [] (beginning 7) 1 (address a) false method.Post (Some (site b)) ≡ occurs_at a (Arrives Goes 1 (address a) method.Post true)
+-- and the head of its response
+gone : going [] (beginning 7) 1 (address a) false method.Post [] (Some (site b)) ≡ occurs_at a (Arrives Goes 1 (address a) method.Post true [])
 unfolding beginning
 gone = refl
 
-posted : opening [] (beginning 7) 1 (address a) method.Post (Some User) None ≡ occurs_at a (Arrives Opens 1 (address a) method.Post true)
+posted : opening [] (beginning 7) 1 (address a) method.Post (stores (codes "s=1")) (Some User) None ≡ occurs_at a (Arrives Opens 1 (address a) method.Post true (stores (codes "s=1")))
 unfolding beginning
 posted = refl
 

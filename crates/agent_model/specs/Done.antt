@@ -1,7 +1,7 @@
 -- What an action makes of what is held, and what it answers.
 -- Source: none; these are the words of the machine.
--- Our own choice: an action finds the shared cells beside what is held, and leaves both. No action
--- looks at a shared cell, and nothing is durable.
+-- Our own choice: an action finds the shared cells beside what is held, and leaves both. Nothing is
+-- durable.
 use Rattle.std.specs.Prelude.{List, [], codes}
 use Rattle.reply_lines.specs.Reply.{PlainBody, Plain}
 use Rattle.agent_model.specs.CookieCells.{CookieCells, no_cookies}

@@ -1,9 +1,10 @@
 -- Actions on the frames of a tab.
 -- Source: HTML, "Navigables", "Navigation" and "Tracking user activation".
--- Our own choice: an action that names a frame that is not there is refused. The top document is
--- replaced by `go` and goes by `close`, and by nothing else.
-use Rattle.std.specs.Prelude.{ℕ, ◌==◌, Bool, false, pos, List, [], Option, Some, None, Result, Ok, Err}
-use Rattle.std.specs.Prelude.{codes, if◌then◌else◌}
+-- Our own choice: an action that names a frame that is not there is refused, and sends nothing. A
+-- load goes by the frames of the tab before it. The top document is replaced by `go` and goes by
+-- `close`, and by nothing else.
+use Rattle.std.specs.Prelude.{ℕ, ◌==◌, Bool, false, pos, List, [], Option, Some, None}
+use Rattle.std.specs.Prelude.{Result, Ok, Err, codes, if◌then◌else◌}
 use Rattle.suffix_list.specs.Suffix.{Rule}
 use Rattle.agent_base.specs.declared.refusals.Label.{Label}
 use Rattle.origin_site.specs.Address.{PlainAddress}
@@ -12,12 +13,15 @@ use Rattle.frame_tree.specs.declared.tab.TreeFault.TheVariants as fault
 use Rattle.frame_tree.specs.Sandbox.{sandbox_of}
 use Rattle.frame_tree.specs.Tree.{PlainFrame, has_frame}
 use Rattle.frame_tree.specs.Calls.{added, navigated, without, activated}
+use Rattle.origin_site.specs.Site.{PlainSite}
 use Rattle.live_state.specs.Tabs.{PlainTab, made_tab}
 use Rattle.script_lines.specs.declared.words.Method.{Method}
-use Rattle.script_lines.specs.declared.words.Method.TheVariants as method
-use Rattle.reply_lines.specs.Reply.{PlainBody, Plain, Load}
+use Rattle.script_lines.specs.Script.{HeadField}
+use Rattle.reply_lines.specs.Reply.{PlainBody, Plain}
 use Rattle.agent_model.specs.Partition.{with_tab}
 use Rattle.agent_model.specs.Done.{Effect, answers, ok}
+use Rattle.agent_model.specs.CookieUse.{frame_use, nav_use}
+use Rattle.agent_model.specs.Cookies.{request}
 
 -- ---- every action on frames
 
@@ -45,22 +49,18 @@ where_below frame after = if frame == 0 then Err fault.NoFrame else after
 
 -- ---- loads of frames
 
--- a frame loads an address at this moment, by this method, where its tab has these frames. The load
--- sends no cookie and stores none.
-abbrev pub load : List Rule → ℕ → Label → PlainAddress → Method → List PlainFrame → Effect
-load rules now at url method frames = answers (Load None [])
-
 -- the frames after one was added, or why it is refused
 abbrev pub frames_added : List Rule → Label → ℕ → PlainAddress → Option (List ℕ) → Bool
     → List PlainFrame → Result (List PlainFrame) TreeFault
 frames_added rules at parent url sandbox deny frames =
     added rules parent at.frame url (sandbox_of sandbox) deny frames
 
--- a frame is added, and loads its address
-abbrev pub add_frame : List Rule → ℕ → Label → ℕ → PlainAddress → Option (List ℕ) → Bool → PlainTab
-    → Effect
-add_frame rules now at parent url sandbox deny tab =
-    on_frames at.tab tab None (load rules now at url method.Get)
+-- a frame is added, and loads its address: a request below its parent
+abbrev pub add_frame : List Rule → ℕ → PlainSite → Label → ℕ → PlainAddress → Option (List ℕ) → Bool
+    → List HeadField → PlainTab → Effect
+add_frame rules now site at parent url sandbox deny head tab =
+    on_frames at.tab tab None
+    (λ frames. request rules now (frame_use rules site parent tab.frames url) head)
     (frames_added rules at parent url sandbox deny tab.frames)
 
 -- the frames after one went to an address, or why it is refused
@@ -69,10 +69,13 @@ abbrev pub frames_navigated : List Rule → Label → PlainAddress → List Plai
 frames_navigated rules at url frames =
     where_below at.frame (navigated rules at.frame url false frames)
 
--- a frame goes to an address
-abbrev pub navigate_frame : List Rule → ℕ → Label → PlainAddress → Method → PlainTab → Effect
-navigate_frame rules now at url method tab =
-    on_frames at.tab tab (Some at.frame) (load rules now at url method)
+-- a frame goes to an address: a request below its parent, which its own document starts or its
+-- parent's
+abbrev pub navigate_frame : List Rule → ℕ → PlainSite → Label → PlainAddress → (by_self : Bool)
+    → Method → List HeadField → PlainTab → Effect
+navigate_frame rules now site at url by_self method head tab =
+    on_frames at.tab tab (Some at.frame)
+    (λ frames. request rules now (nav_use rules site at.frame tab.frames url by_self method) head)
     (frames_navigated rules at url tab.frames)
 
 -- ---- removals and clicks

@@ -1,11 +1,16 @@
 -- The definitions, in the order in which they are read.
 pub mod CookieCells
+pub mod PartitionedCells
 pub mod Partition
 pub mod Done
 pub mod Documents
 pub mod AreaActions
 pub mod Buckets
 pub mod Queues
+pub mod CookieUse
+pub mod CookieWords
+pub mod CookieStore
+pub mod Cookies
 pub mod Frames
 pub mod Sessions
 pub mod SiteEvent
@@ -14,8 +19,10 @@ pub mod SiteStep
 pub mod Lines
 pub mod SideEvents
 pub mod Rest
+pub mod Consults
 pub mod TheMachine
 pub mod Isolation
+pub mod StoresNone
 pub mod SiteRuns
-pub mod Told
+pub mod Given
 pub mod LocalScripts

@@ -11,7 +11,7 @@ use Rattle.suffix_list.specs.Suffix.{Rule}
 use Rattle.origin_site.specs.Address.{PlainAddress}
 use Rattle.origin_site.specs.Site.{PlainSite, site_of_address, same_plain_site}
 use Rattle.script_lines.specs.declared.words.Method.{Method}
-use Rattle.script_lines.specs.Script.{PlainAction, Tick, Open, Close, Go, Evict, Act}
+use Rattle.script_lines.specs.Script.{HeadField, PlainAction, Tick, Open, Close, Go, Evict, Act}
 use Rattle.agent_model.specs.Partition.{Partition}
 use Rattle.agent_model.specs.Done.{SharedCells}
 use Rattle.agent_model.specs.SiteEvent.{SiteEvent, Acts, Arrives, Closes, Evicts, Opens, Goes}
@@ -76,22 +76,23 @@ abbrev pub goer_of : Bool → PlainSite → Starter
 goer_of by_page here = if by_page then Page here else User
 
 -- an opened tab reaches its site, where its opener is open and its number is free
-abbrev pub opening : List Rule → AgentWorld → ℕ → PlainAddress → Method → Option Starter
-    → Option PlainSite → Option SiteOccurrence
-opening rules world tab url method None here = None
-opening rules world tab url method (Some starter) None =
+abbrev pub opening : List Rule → AgentWorld → ℕ → PlainAddress → Method → List HeadField
+    → Option Starter → Option PlainSite → Option SiteOccurrence
+opening rules world tab url method head None here = None
+opening rules world tab url method head (Some starter) None =
     let target = site_of_address rules url in
-    Some (occurs world (Arrives Opens tab url method (is_same_site starter target)) target)
-opening rules world tab url method (Some starter) (Some here) = None
+    let same_site = is_same_site starter target in
+    Some (occurs world (Arrives Opens tab url method same_site head) target)
+opening rules world tab url method head (Some starter) (Some here) = None
 
 -- a tab that is open reaches another address
-abbrev pub going : List Rule → AgentWorld → ℕ → PlainAddress → Bool → Method → Option PlainSite
-    → Option SiteOccurrence
-going rules world tab url by_page method None = None
-going rules world tab url by_page method (Some here) =
+abbrev pub going : List Rule → AgentWorld → ℕ → PlainAddress → Bool → Method → List HeadField
+    → Option PlainSite → Option SiteOccurrence
+going rules world tab url by_page method head None = None
+going rules world tab url by_page method head (Some here) =
     let target = site_of_address rules url in
     let same_site = is_same_site (goer_of by_page here) target in
-    Some (occurs world (Arrives Goes tab url method same_site) target)
+    Some (occurs world (Arrives Goes tab url method same_site head) target)
 
 -- ---- the main event
 
@@ -105,9 +106,10 @@ main_event rules world action = of action
 
     of : PlainAction → Option SiteOccurrence
     of (Tick s) = None
-    of (Open tab url opener noopener method) =
-        opening rules world tab url method (opener_of opener world.rest.places) (here tab)
-    of (Go tab url by_page method) = going rules world tab url by_page method (here tab)
+    of (Open tab url opener noopener method head) =
+        opening rules world tab url method head (opener_of opener world.rest.places) (here tab)
+    of (Go tab url by_page method head) =
+        going rules world tab url by_page method head (here tab)
     of (Close tab) = option_map (occurs world (Closes tab)) (here tab)
     of (Evict site) = Some (occurs world Evicts site)
     of (Act at action) = option_map (occurs world (Acts at action)) (here at.tab)

@@ -14,10 +14,16 @@ use Rattle.local_area.specs.Area.{Pair}
 use Rattle.storage_events.specs.declared.event.AreaKind.{AreaKind}
 use Rattle.storage_events.specs.declared.event.AreaKind.TheVariants.{Local, Session}
 use Rattle.live_state.specs.Tabs.{PlainTab}
+use Rattle.agent_model.specs.PartitionedCells.{PartitionedCells, PartitionedKey}
+use Rattle.agent_model.specs.PartitionedCells.{no_partitioned_cells}
 
 -- a storage key has this top-level site
 abbrev pub is_under : PlainSite → PlainKey → Bool
 is_under site key = same_plain_site site key.top
+
+-- a partitioned cell has this top-level site
+abbrev pub is_cell_under : PlainSite → PartitionedKey → Bool
+is_cell_under site key = same_plain_site site key.top
 
 -- ---- areas
 
@@ -49,17 +55,25 @@ Tabs = map.FinMap nat_cmp PlainTab
 
 -- ---- what is held
 
--- open tabs, and storage: local areas with the modes of their buckets, and session areas
+-- open tabs, and storage: local areas with the modes of their buckets, session areas, and the
+-- partitioned cells of cookies
 pub record Holdings : Type 0 where
   pub tabs : Tabs
   pub areas : Areas
   pub persistent : Keys
   pub sessions : SessionAreas
+  pub cookies : PartitionedCells
 
 -- nothing at all
 unfoldable pub no_holdings : Holdings
 no_holdings =
-    record { tabs = map.empty; areas = map.empty; persistent = map.empty; sessions = map.empty }
+    record {
+      tabs = map.empty;
+      areas = map.empty;
+      persistent = map.empty;
+      sessions = map.empty;
+      cookies = no_partitioned_cells;
+    }
 
 -- the open tab of a number
 abbrev pub tab_named : ℕ → Holdings → Option PlainTab

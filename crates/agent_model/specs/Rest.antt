@@ -29,9 +29,10 @@ refusal world action = record { name = action_name action; body = of action }
   where
     of : PlainAction → PlainBody
     of (Tick s) = Now (pos (clock_after world.rest.now s))
-    of (Open tab url opener noopener method) = open_refusal (opener_of opener world.rest.places)
+    of (Open tab url opener noopener method head) =
+        open_refusal (opener_of opener world.rest.places)
     of (Close tab) = Plain (codes "no-tab")
-    of (Go tab url by_page method) = Plain (codes "no-tab")
+    of (Go tab url by_page method head) = Plain (codes "no-tab")
     of (Evict site) = Plain (codes "no-tab")
     of (Act at acted) = Plain (codes "no-tab")
 
@@ -52,9 +53,10 @@ rest_after rules world action = of action
 
     of : PlainAction → Rest
     of (Tick s) = record { now = clock_after world.rest.now s; places = places }
-    of (Open tab url opener noopener method) =
+    of (Open tab url opener noopener method head) =
         at (places_after (main_event rules world action) tab places)
-    of (Go tab url by_page method) = at (places_after (main_event rules world action) tab places)
+    of (Go tab url by_page method head) =
+        at (places_after (main_event rules world action) tab places)
     of (Close tab) = at (map.remove places tab)
     of (Evict site) = world.rest
     of (Act at acted) = world.rest

@@ -3,7 +3,7 @@
 -- session storage is copied to one that its page opens.
 -- Our own choice: a copy has the areas under the site that the opener is at, and no others. A tab
 -- keeps its session areas while it is at other sites.
-use Rattle.std.specs.Prelude.{ℕ, ◌==◌, ◌&&◌, Bool, not, List, [], ◌++◌, map, None}
+use Rattle.std.specs.Prelude.{ℕ, ◌==◌, ◌&&◌, Bool, not, List, ◌++◌, map, None}
 use Rattle.std.specs.List.{list_any}
 use Rattle.std.specs.FinMap as finite
 use Rattle.suffix_list.specs.Suffix.{Rule}
@@ -13,20 +13,22 @@ use Rattle.origin_site.specs.Site.{PlainSite}
 use Rattle.local_area.specs.Area.{Pair}
 use Rattle.frame_tree.specs.Calls.{opened}
 use Rattle.live_state.specs.Tabs.{made_tab}
-use Rattle.reply_lines.specs.Reply.{Load}
 use Rattle.script_lines.specs.declared.words.Method.{Method}
+use Rattle.script_lines.specs.Script.{HeadField}
 use Rattle.agent_model.specs.Partition.{SessionKey, Holdings, is_under, with_tab, without_tab}
-use Rattle.agent_model.specs.Done.{Effect, answers}
+use Rattle.agent_model.specs.Done.{Effect}
+use Rattle.agent_model.specs.CookieUse.{top_use}
+use Rattle.agent_model.specs.Cookies.{request}
 
 -- a tab shows this address alone, whatever it showed before
 abbrev pub show : List Rule → ℕ → PlainAddress → Holdings → Holdings
 show rules number url held = with_tab number (made_tab number (opened rules url) None None) held
 
--- a tab reaches an address at this moment, by this method. The load sends no cookie, and stores
--- none.
-abbrev pub arrive : List Rule → ℕ → ℕ → PlainAddress → Method → (same_site : Bool) → Effect
-arrive rules now number url method same_site cells held =
-    answers (Load None []) cells (show rules number url held)
+-- a tab reaches an address at a site at this moment, by this method, and the response has this head
+abbrev pub arrive : List Rule → ℕ → PlainSite → ℕ → PlainAddress → Method → (same_site : Bool)
+    → List HeadField → Effect
+arrive rules now site number url method same_site head cells held =
+    request rules now (top_use site url method same_site) head cells (show rules number url held)
 
 -- a session area belongs to a tab
 abbrev pub is_of_tab : ℕ → SessionKey → Bool

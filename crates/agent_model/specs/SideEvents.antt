@@ -52,8 +52,9 @@ side_event rules world action site = of action
     here tab = site_at tab world.rest.places
 
     of : PlainAction → Option TimedEvent
-    of (Open tab url opener noopener method) = copies world tab opener noopener (here tab) site
-    of (Go tab url by_page method) = leaves world tab (here tab) (site_of_address rules url) site
+    of (Open tab url opener noopener method head) = copies world tab opener noopener (here tab) site
+    of (Go tab url by_page method head) =
+        leaves world tab (here tab) (site_of_address rules url) site
     of (Close tab) = closes world tab (here tab) site
     of (Tick s) = None
     of (Evict named) = None

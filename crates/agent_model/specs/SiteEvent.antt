@@ -7,7 +7,7 @@ use Rattle.agent_base.specs.declared.refusals.Label.{Label}
 use Rattle.unwinding.specs.Machine.{Outcome}
 use Rattle.origin_site.specs.Address.{PlainAddress}
 use Rattle.script_lines.specs.declared.words.Method.{Method}
-use Rattle.script_lines.specs.Script.{DocumentAction}
+use Rattle.script_lines.specs.Script.{DocumentAction, HeadField}
 use Rattle.reply_lines.specs.Reply.{PlainBody}
 use Rattle.agent_model.specs.Partition.{Holdings, Partition}
 use Rattle.agent_model.specs.Done.{SharedCells, Change, Done}
@@ -22,7 +22,7 @@ pub data TopLoad : Type 0 where
 pub data SiteEvent : Type 0 where
   Acts : (at : Label) (action : DocumentAction) → SiteEvent
   Arrives : (load : TopLoad) (tab : ℕ) (url : PlainAddress) (method : Method) (same_site : Bool)
-      → SiteEvent
+      (head : List HeadField) → SiteEvent
   Leaves : (tab : ℕ) → SiteEvent
   Copies : (from to : ℕ) → SiteEvent
   Closes : (tab : ℕ) → SiteEvent

@@ -1,9 +1,8 @@
--- A run whose events consult no shared cell: the events of each site, its machine over them, and
--- the replies.
+-- A run whose script stores no cookie: the events of each site, its machine over them, and the
+-- replies.
 -- Source: none; these are the words of the promise.
--- Our own choice: it says of today's machine, in few words, what the general law says of machines
--- whose events consult cells. No event consults one today, so this is of every run. Each site steps
--- by its own events, and by nothing else.
+-- Our own choice: it says of such runs, in few words, what the general law says of all. No cookie
+-- is ever there, so that each site steps by its own events, and by nothing else.
 use Rattle.std.specs.Prelude.{◌≡◌, ℕ, List, [], ◌∷◌, ◌++◌, filter, map, Option, Some, None}
 use Rattle.std.specs.Prelude.{option_to_list, if◌then◌else◌}
 use Rattle.unwinding.specs.World.{SiteReply}
@@ -20,10 +19,11 @@ use Rattle.agent_model.specs.SideEvents.{side_event}
 use Rattle.agent_model.specs.Rest.{refusal, rest_after}
 use Rattle.agent_model.specs.TheMachine.{beginning}
 use Rattle.agent_model.specs.Isolation.{replies_to}
+use Rattle.agent_model.specs.StoresNone.{StoreNone}
 
 -- ---- one site
 
--- what an event gives at a site: it sees no shared cell
+-- what an event gives at a site, where no domain has a cookie
 abbrev pub step_of : List Rule → Partition → TimedEvent → SiteOutcome
 step_of rules partition event = site_step rules partition no_shared_cells event
 
@@ -98,13 +98,14 @@ abbrev pub own_answers : PlainSite → List (SiteReply PlainSite Answer) → Lis
 own_answers site replies =
     map (λ reply. reply.reply) (filter (λ reply. is_of site reply.site) replies)
 
--- the replies of a run are these
+-- the replies of a run whose script stores no cookie are these
 abbrev pub AreRunReplies : Type 0
-AreRunReplies = (rules : List Rule) (start : ℕ) (lines : List PlainAction)
+AreRunReplies = (rules : List Rule) (start : ℕ) (lines : List PlainAction) → StoreNone lines
     → replies_to rules start lines ≡ run_replies rules (beginning start) lines
 
 -- those that belong to a site are what its own machine answers, given the site's events alone
 abbrev pub AreSiteAnswers : Type 0
 AreSiteAnswers = (rules : List Rule) (site : PlainSite) (start : ℕ) (lines : List PlainAction)
+    → StoreNone lines
     → own_answers site (run_replies rules (beginning start) lines)
     ≡ answers_to rules (empty_partition site) (run_events rules site (beginning start) lines)

@@ -5,12 +5,15 @@
 use Rattle.std.specs.Prelude.{ℕ, List, Option, Some, None, codes}
 use Rattle.agent_base.specs.declared.refusals.Label.{Label}
 use Rattle.suffix_list.specs.Suffix.{Rule}
+use Rattle.origin_site.specs.Site.{PlainSite}
 use Rattle.live_state.specs.Tabs.{PlainTab}
-use Rattle.script_lines.specs.Script.{DocumentAction, Frame, Nav, Drop, Click, Set, Get, Del}
-use Rattle.script_lines.specs.Script.{Clear, Len, Key, Events, Persisted, Estimate, Persist}
+use Rattle.script_lines.specs.Script.{DocumentAction, Frame, Nav, Drop, Click, Fetch, Set, Get, Del}
+use Rattle.script_lines.specs.Script.{Clear, Len, Key, Events, Cookie, SetCookie}
+use Rattle.script_lines.specs.Script.{Persisted, Estimate, Persist}
 use Rattle.agent_model.specs.Partition.{Partition, tab_named, without_tab}
 use Rattle.agent_model.specs.Done.{SharedCells, Effect, answers, ok}
 use Rattle.agent_model.specs.Documents.{with_key}
+use Rattle.agent_model.specs.Cookies.{fetch, read_cookies, set_cookie}
 use Rattle.agent_model.specs.Frames.{add_frame, navigate_frame, remove_frame, click}
 use Rattle.agent_model.specs.AreaActions.{set_item, remove_item, clear_area}
 use Rattle.agent_model.specs.AreaActions.{get_item, get_name, get_length}
@@ -21,23 +24,28 @@ use Rattle.agent_model.specs.SiteEvent.{SiteEvent, Acts, Arrives, Leaves, Copies
 use Rattle.agent_model.specs.SiteEvent.{TimedEvent, SiteOutcome, replied, silent}
 use Rattle.agent_model.specs.ActionNames.{document_action_name, load_name}
 
--- an action of a document in an open tab
-abbrev pub act_in : List Rule → ℕ → Label → DocumentAction → PlainTab → Effect
-act_in rules now at (Frame parent url sandbox deny) tab =
-    add_frame rules now at parent url sandbox deny tab
-act_in rules now at (Nav url by_self method) tab = navigate_frame rules now at url method tab
-act_in rules now at Drop tab = remove_frame at tab
-act_in rules now at Click tab = click now at tab
-act_in rules now at (Set area key value) tab = with_key at tab (set_item area key value)
-act_in rules now at (Get area key) tab = with_key at tab (get_item area key)
-act_in rules now at (Del area key) tab = with_key at tab (remove_item area key)
-act_in rules now at (Clear area) tab = with_key at tab (clear_area area)
-act_in rules now at (Len area) tab = with_key at tab (get_length area)
-act_in rules now at (Key area n) tab = with_key at tab (get_name area n)
-act_in rules now at Events tab = take_events at tab
-act_in rules now at Persisted tab = with_key at tab get_mode
-act_in rules now at Estimate tab = with_key at tab get_usage
-act_in rules now at (Persist answer) tab = with_key at tab (persist tab answer)
+-- an action of a document in an open tab at this site
+abbrev pub act_in : List Rule → ℕ → PlainSite → Label → DocumentAction → PlainTab → Effect
+act_in rules now site at (Frame parent url sandbox deny head) tab =
+    add_frame rules now site at parent url sandbox deny head tab
+act_in rules now site at (Nav url by_self method head) tab =
+    navigate_frame rules now site at url by_self method head tab
+act_in rules now site at Drop tab = remove_frame at tab
+act_in rules now site at Click tab = click now at tab
+act_in rules now site at (Fetch url method head) tab =
+    fetch rules now site at url method head tab
+act_in rules now site at (Set area key value) tab = with_key at tab (set_item area key value)
+act_in rules now site at (Get area key) tab = with_key at tab (get_item area key)
+act_in rules now site at (Del area key) tab = with_key at tab (remove_item area key)
+act_in rules now site at (Clear area) tab = with_key at tab (clear_area area)
+act_in rules now site at (Len area) tab = with_key at tab (get_length area)
+act_in rules now site at (Key area n) tab = with_key at tab (get_name area n)
+act_in rules now site at Events tab = take_events at tab
+act_in rules now site at Cookie tab = with_key at tab (read_cookies rules now site)
+act_in rules now site at (SetCookie text) tab = with_key at tab (set_cookie rules now site text)
+act_in rules now site at Persisted tab = with_key at tab get_mode
+act_in rules now site at Estimate tab = with_key at tab get_usage
+act_in rules now site at (Persist answer) tab = with_key at tab (persist tab answer)
 
 -- ---- every event
 
@@ -47,7 +55,7 @@ abbrev pub act : List Rule → ℕ → Label → DocumentAction → Option Plain
 act rules now at action None cells partition = silent partition cells partition.held
 act rules now at action (Some tab) cells partition =
     replied partition (document_action_name action)
-    (act_in rules now at action tab cells partition.held)
+    (act_in rules now partition.site at action tab cells partition.held)
 
 -- a tab is closed. The site that it is at replies.
 abbrev pub close_at : ℕ → Option PlainTab → SharedCells → Partition → SiteOutcome
@@ -62,9 +70,10 @@ site_step rules partition cells timed = step timed.event
     step : SiteEvent → SiteOutcome
     step (Acts at action) =
         act rules timed.moment at action (tab_named at.tab partition.held) cells partition
-    step (Arrives load tab url method same_site) =
+    step (Arrives load tab url method same_site head) =
         replied partition (load_name load)
-        (arrive rules timed.moment tab url method same_site cells partition.held)
+        (arrive rules timed.moment partition.site tab url method same_site head cells
+        partition.held)
     step (Leaves tab) = silent partition cells (without_tab tab partition.held)
     step (Copies from to) =
         silent partition cells (copy_sessions partition.site from to partition.held)

@@ -1,7 +1,7 @@
 -- The machine of one site as the general law takes it, and the world in which a run begins.
 -- Source: none; it fills in the general machine.
--- Our own choice: no event consults a shared cell.
-use Rattle.std.specs.Prelude.{ℕ, false, List, [], bytes_eq}
+-- Our own choice: no event consults cells besides those that it names.
+use Rattle.std.specs.Prelude.{◌≡◌, ℕ, false, List, [], bytes_eq}
 use Rattle.unwinding.specs.Machine.{Machine}
 use Rattle.unwinding.specs.FiniteCells.{get_cell, set_cell, restrict_cells, merge_cells}
 use Rattle.suffix_list.specs.Suffix.{Rule}
@@ -13,6 +13,7 @@ use Rattle.agent_model.specs.Partition.{Partition, empty_partition}
 use Rattle.agent_model.specs.Done.{SharedCells, Change, no_shared_cells}
 use Rattle.agent_model.specs.SiteEvent.{TimedEvent, Answer}
 use Rattle.agent_model.specs.SiteStep.{site_step}
+use Rattle.agent_model.specs.Consults.{event_names}
 use Rattle.agent_model.specs.Lines.{Rest, AgentWorld, no_places, main_event}
 use Rattle.agent_model.specs.SideEvents.{side_event}
 use Rattle.agent_model.specs.Rest.{refusal, rest_after}
@@ -34,7 +35,7 @@ machine rules =
       restrict = restrict_cells domain_order;
       merge = merge_cells domain_order;
       listed = λ domains. domains;
-      names = λ partition event. [];
+      names = λ partition timed. event_names rules partition timed.event;
       sweeps = λ partition event. false;
       step = site_step rules;
       side = side_event rules;
@@ -52,3 +53,7 @@ beginning start =
       cells = no_shared_cells;
       rest = record { now = start; places = no_places };
     }
+
+-- the partition of each site is its own, as it is from the beginning of a run on
+abbrev pub IsSound : AgentWorld → Type 0
+IsSound world = (site : PlainSite) → (world.partition site).site ≡ site

@@ -2,14 +2,14 @@
 //!
 //! This crate is definitions: `specs/` says what a run replies. Its functions have no body. By
 //! [`isolation`] the replies to a site are those of its own machine, given its local script; by
-//! [`local_scripts`] that script holds nothing of what documents do in tabs at other sites.
+//! [`local_scripts`] that script holds nothing of what documents do in tabs at other domains.
 #![tactic(auto)]
 
 ghost use Rattle.agent_model.specs.Isolation.{IsIsolated, HasIsolatedLines};
 ghost use Rattle.agent_model.specs.SiteRuns.{AreRunReplies, AreSiteAnswers};
 ghost use Rattle.agent_model.specs.LocalScripts.{GivesExactly, GivesByOwn, RefusedGivesNone};
 ghost use Rattle.agent_model.specs.LocalScripts.{OthersGiveNone, OthersLeftOut};
-ghost use Rattle.agent_model.specs.LocalScripts.{LinesWithoutOthers};
+ghost use Rattle.agent_model.specs.LocalScripts.{LinesWithoutOthers, HoldsOnlyChanged};
 
 /// The replies to a site are those of its own machine, given its local script alone.
 pub fn isolation()
@@ -17,13 +17,14 @@ pub fn isolation()
     ensures lines { HasIsolatedLines }
 {}
 
-/// The same of today's machine, which shares no cell: a site steps by its own events alone.
+/// The same in few words of a run whose script stores no cookie: a site steps by its own events.
 pub fn site_runs()
     ensures replies { AreRunReplies }
     ensures answers { AreSiteAnswers }
 {}
 
-/// A site is given its own events alone. What documents do in tabs at other sites can be left out.
+/// A site is given its own events alone. What documents do in tabs at other domains can be left
+/// out, and a cookie is held only where another site has left it different.
 pub fn local_scripts()
     ensures exact { GivesExactly }
     ensures own { GivesByOwn }
@@ -31,4 +32,5 @@ pub fn local_scripts()
     ensures others { OthersGiveNone }
     ensures left_out { OthersLeftOut }
     ensures lines { LinesWithoutOthers }
+    ensures held { HoldsOnlyChanged }
 {}

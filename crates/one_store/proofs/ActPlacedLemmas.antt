@@ -3,6 +3,7 @@ use Rattle.std.proofs.Common.{◌≡◌, ℕ, Bool, true, false, cond, List, [],
 use Rattle.std.specs.Prelude.{Result, IfOk, nat_lt, codes}
 use Rattle.agent_base.specs.declared.refusals.Label.{Label}
 use Rattle.suffix_list.specs.Suffix.{Rule}
+use Rattle.origin_site.specs.Site.{PlainSite}
 use Rattle.storage_key.specs.Key.{PlainKey}
 use Rattle.frame_tree.specs.Calls.{is_https_chain}
 use Rattle.frame_tree.specs.declared.tab.TreeFault.{TreeFault}
@@ -14,14 +15,15 @@ use Rattle.local_area.specs.Area.{Pair, quota, area_get, area_put, area_remove, 
 use Rattle.local_area.specs.Put.{PlainPut, same, added, changed, put_answer}
 use Rattle.frame_tree.specs.Keys.{key_of_document}
 use Rattle.live_state.specs.Tabs.{PlainTab, made_tab, queue_of}
-use Rattle.script_lines.specs.declared.words.Method.TheVariants as method
 use Rattle.script_lines.specs.declared.words.Prompt.{Prompt}
 use Rattle.reply_lines.specs.Reply.{Plain}
 use Rattle.script_lines.specs.Script as script
-use Rattle.script_lines.specs.Script.{DocumentAction, Frame, Nav, Drop, Click, Set, Get, Del, Clear, Len, Key, Persisted, Estimate, Persist}
+use Rattle.script_lines.specs.Script.{DocumentAction, Frame, Nav, Drop, Click, Fetch, SetCookie, Set, Get, Del, Clear, Len, Key, Persisted, Estimate, Persist}
 use Rattle.agent_model.specs.Partition.{Holdings, tab_named, with_area}
 use Rattle.agent_model.specs.Done.{SharedCells, Done, Effect, answers, ok}
-use Rattle.agent_model.specs.Frames.{on_frames, load, frames_added, frames_navigated, frames_removed, frames_clicked}
+use Rattle.agent_model.specs.CookieUse.{fetch_use, frame_use, nav_use}
+use Rattle.agent_model.specs.Cookies.{read_cookies, request, set_cookie}
+use Rattle.agent_model.specs.Frames.{on_frames, frames_added, frames_navigated, frames_removed, frames_clicked}
 use Rattle.agent_model.specs.Documents.{Keyed, by_document, with_document, by_key, with_key, told_tab}
 use Rattle.agent_model.specs.AreaActions.{pairs_of, change_event, write, set_by, set_item, remove_by, remove_item, clear_area, get_item, get_name, get_length}
 use Rattle.agent_model.specs.Buckets.{is_persistent, is_grant, get_mode, get_usage, persist_by, persist}
@@ -114,24 +116,29 @@ module _ (places : Places) (cells : SharedCells) (held : Holdings) (placed_all :
 
       -- ---- every action
 
-      pub act_placed : (rules : List Rule) (now : ℕ) (action : DocumentAction) → StaysPlaced places (act_in rules now at action tab cells held)
-      act_placed rules now (Frame parent url sandbox deny) =
-          frames_placed None (load rules now at url method.Get) (frames_added rules at parent url sandbox deny tab.frames) (added_top tab.frames grown rules at parent url sandbox deny) (λ frames all is. is)
-      act_placed rules now (Nav url by_self method) =
-          frames_placed (Some at.frame) (load rules now at url method) (frames_navigated rules at url tab.frames) (navigated_top tab.frames grown rules at url) (λ frames all is. is)
-      act_placed rules now Drop =
+      pub act_placed : (rules : List Rule) (now : ℕ) (site : PlainSite) (action : DocumentAction) → StaysPlaced places (act_in rules now site at action tab cells held)
+      act_placed rules now site (Frame parent url sandbox deny head) =
+          frames_placed None (λ frames. request rules now (frame_use rules site parent tab.frames url) head) (frames_added rules at parent url sandbox deny tab.frames) (added_top tab.frames grown rules at parent url sandbox deny)
+          (λ frames all is. is)
+      act_placed rules now site (Nav url by_self method head) =
+          frames_placed (Some at.frame) (λ frames. request rules now (nav_use rules site at.frame tab.frames url by_self method) head) (frames_navigated rules at url tab.frames) (navigated_top tab.frames grown rules at url)
+          (λ frames all is. is)
+      act_placed rules now site (Fetch url method head) = with_document_placed (λ document. request rules now (fetch_use rules site at.frame tab.frames url method) head) (λ document. placed_all)
+      act_placed rules now site script.Cookie = with_key_placed (read_cookies rules now site) (λ reader. placed_all)
+      act_placed rules now site (SetCookie text) = with_key_placed (set_cookie rules now site text) (λ writer. placed_all)
+      act_placed rules now site Drop =
           frames_placed None (λ frames. answers ok) (frames_removed at tab.frames) (removed_top tab.frames grown at) (λ frames all is. is)
-      act_placed rules now Click =
+      act_placed rules now site Click =
           frames_placed None (λ frames. answers ok) (frames_clicked now at tab.frames) (clicked_top tab.frames grown now at) (λ frames all is. is)
-      act_placed rules now (Set area key value) =
+      act_placed rules now site (Set area key value) =
           with_key_placed (set_item area key value)
           (λ writer. set_by_placed (put_answer key value (pairs_of area writer held)) area writer key value (area_put key value (pairs_of area writer held)))
-      act_placed rules now (Get area key) = with_key_placed (get_item area key) (λ reader. placed_all)
-      act_placed rules now (Del area key) = with_key_placed (remove_item area key) (λ writer. remove_placed (area_get key (pairs_of area writer held)) area writer key)
-      act_placed rules now (Clear area) = with_key_placed (clear_area area) (λ writer. write_placed area writer [] (change_event area writer None None None))
-      act_placed rules now (Len area) = with_key_placed (get_length area) (λ reader. placed_all)
-      act_placed rules now (Key area n) = with_key_placed (get_name area n) (λ reader. placed_all)
-      act_placed rules now script.Events = events_placed
-      act_placed rules now Persisted = with_key_placed get_mode (λ reader. placed_all)
-      act_placed rules now Estimate = with_key_placed get_usage (λ reader. placed_all)
-      act_placed rules now (Persist answer) = with_key_placed (persist tab answer) (persist_placed tab answer)
+      act_placed rules now site (Get area key) = with_key_placed (get_item area key) (λ reader. placed_all)
+      act_placed rules now site (Del area key) = with_key_placed (remove_item area key) (λ writer. remove_placed (area_get key (pairs_of area writer held)) area writer key)
+      act_placed rules now site (Clear area) = with_key_placed (clear_area area) (λ writer. write_placed area writer [] (change_event area writer None None None))
+      act_placed rules now site (Len area) = with_key_placed (get_length area) (λ reader. placed_all)
+      act_placed rules now site (Key area n) = with_key_placed (get_name area n) (λ reader. placed_all)
+      act_placed rules now site script.Events = events_placed
+      act_placed rules now site Persisted = with_key_placed get_mode (λ reader. placed_all)
+      act_placed rules now site Estimate = with_key_placed get_usage (λ reader. placed_all)
+      act_placed rules now site (Persist answer) = with_key_placed (persist tab answer) (persist_placed tab answer)

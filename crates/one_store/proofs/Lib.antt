@@ -5,6 +5,7 @@ pub mod AreaLemmas
 pub mod TabLemmas
 pub mod BucketLemmas
 pub mod SessionLemmas
+pub mod CookieLemmas
 pub mod TopLemmas
 pub mod TopKeptLemmas
 -- What a line makes of the world.

@@ -4,12 +4,12 @@ use Rattle.unwinding.specs.World.{replies}
 use Rattle.agent_base.specs.declared.refusals.Label.{Label}
 use Rattle.suffix_list.specs.Suffix.{Rule}
 use Rattle.origin_site.specs.Address.{PlainAddress}
-use Rattle.origin_site.specs.Site.{PlainSite}
+use Rattle.origin_site.specs.Site.{PlainSite, site_of_address}
 use Rattle.live_state.specs.Tabs.{PlainTab}
 use Rattle.script_lines.specs.declared.words.Method.{Method}
-use Rattle.script_lines.specs.Script.{PlainAction, Tick, Open, Close, Go, Evict, Act, DocumentAction}
+use Rattle.script_lines.specs.Script.{PlainAction, Tick, Open, Close, Go, Evict, Act, DocumentAction, HeadField}
 use Rattle.agent_model.specs.Partition.{tab_named}
-use Rattle.agent_model.specs.Lines.{Starter, opener_of, site_at}
+use Rattle.agent_model.specs.Lines.{Starter, is_same_site, opener_of, site_at}
 use Rattle.agent_model.specs.TheMachine.{machine}
 use Rattle.agent_model.specs.Isolation.{replies_to}
 use Rattle.one_store.specs.WholeWorld.{IsPlaced}
@@ -29,30 +29,30 @@ module _ (rules : List Rule) (store : Store) (placed_all : IsPlaced store.places
   step_by : (line : PlainAction) (step : Step) → LineMakes rules (world_of store) line (world_of step.store) step.reply → IsPlaced step.store.places step.store.held → IsStep rules store line step
   step_by line step makes places = record { world = makes.world; reply = makes.reply; places = places }
 
-  open_is : (tab : ℕ) (url : PlainAddress) (opener : Option ℕ) (noopener : Bool) (method : Method) → IsStep rules store (Open tab url opener noopener method) (store_step rules store (Open tab url opener noopener method))
-  open_is tab url opener noopener method = by (opener_of opener store.places) refl (site_at tab store.places) refl
+  open_is : (tab : ℕ) (url : PlainAddress) (opener : Option ℕ) (noopener : Bool) (method : Method) (head : List HeadField) → IsStep rules store (Open tab url opener noopener method head) (store_step rules store (Open tab url opener noopener method head))
+  open_is tab url opener noopener method head = by (opener_of opener store.places) refl (site_at tab store.places) refl
     where
       line : PlainAction
-      line = Open tab url opener noopener method
+      line = Open tab url opener noopener method head
 
       by : (starter : Option Starter) → opener_of opener store.places ≡ starter → (taken : Option PlainSite) → site_at tab store.places ≡ taken
-          → IsStep rules store (Open tab url opener noopener method) (opened rules store (Open tab url opener noopener method) tab url method (with_copies store.places tab opener noopener store.held) starter taken)
+          → IsStep rules store (Open tab url opener noopener method head) (opened rules store (Open tab url opener noopener method head) tab url method head (with_copies store.places tab opener noopener store.held) starter taken)
       by None none taken at =
-          step_by _ _ (no_opener_makes rules store.now store.places store.cells store.held tab url opener noopener method none) placed_all
+          step_by _ _ (no_opener_makes rules store.now store.places store.cells store.held tab url opener noopener method head none) placed_all
       by (Some starter) is (Some here) at =
-          step_by _ _ (taken_makes rules store.now store.places store.cells store.held tab url opener noopener method starter here is at) placed_all
+          step_by _ _ (taken_makes rules store.now store.places store.cells store.held tab url opener noopener method head starter here is at) placed_all
       by (Some starter) is None free =
-          step_by _ _ (open_makes rules store.now store.places store.cells store.held tab url opener noopener method starter is free)
-          (open_placed rules store.now store.places store.cells store.held tab url opener noopener method placed_all)
+          step_by _ _ (open_makes rules store.now store.places store.cells store.held tab url opener noopener method head starter is free)
+          (open_placed rules store.now store.places store.cells store.held tab url opener noopener method head (is_same_site starter (site_of_address rules url)) placed_all)
 
-  go_is : (tab : ℕ) (url : PlainAddress) (by_page : Bool) (method : Method) → IsStep rules store (Go tab url by_page method) (store_step rules store (Go tab url by_page method))
-  go_is tab url by_page method = by (site_at tab store.places) refl
+  go_is : (tab : ℕ) (url : PlainAddress) (by_page : Bool) (method : Method) (head : List HeadField) → IsStep rules store (Go tab url by_page method head) (store_step rules store (Go tab url by_page method head))
+  go_is tab url by_page method head = by (site_at tab store.places) refl
     where
-      by : (here : Option PlainSite) → site_at tab store.places ≡ here → IsStep rules store (Go tab url by_page method) (gone rules store (Go tab url by_page method) tab url by_page method here)
-      by None none = step_by _ _ (no_tab_goes rules store.now store.places store.cells store.held tab url by_page method none) placed_all
+      by : (here : Option PlainSite) → site_at tab store.places ≡ here → IsStep rules store (Go tab url by_page method head) (gone rules store (Go tab url by_page method head) tab url by_page method head here)
+      by None none = step_by _ _ (no_tab_goes rules store.now store.places store.cells store.held tab url by_page method head none) placed_all
       by (Some here) place =
-          step_by _ _ (go_makes rules store.now store.places store.cells store.held tab url by_page method here place)
-          (go_placed rules store.now store.places store.cells store.held tab url by_page method here place placed_all)
+          step_by _ _ (go_makes rules store.now store.places store.cells store.held tab url by_page method head here place)
+          (go_placed rules store.now store.places store.cells store.held tab url by_page method head here place placed_all)
 
   close_is : (tab : ℕ) → IsStep rules store (Close tab) (store_step rules store (Close tab))
   close_is tab = by (site_at tab store.places) refl
@@ -71,13 +71,13 @@ module _ (rules : List Rule) (store : Store) (placed_all : IsPlaced store.places
       by (Some here) place None none = absurd (cc (sym none ∙ (open_tab store.places store.held placed_all at.tab here place).1))
       by (Some here) place (Some tab) found =
           step_by _ _ (act_makes rules store.now store.places store.cells store.held placed_all at action tab found here place)
-          (act_placed store.places store.cells store.held placed_all at tab found rules store.now action)
+          (act_placed store.places store.cells store.held placed_all at tab found rules store.now here action)
 
 pub are_steps : AreSteps
 are_steps rules store (Tick s) places = step_by rules store places _ _ (tick_makes rules store.now store.places store.cells store.held s) places
-are_steps rules store (Open tab url opener noopener method) places = open_is rules store places tab url opener noopener method
+are_steps rules store (Open tab url opener noopener method head) places = open_is rules store places tab url opener noopener method head
 are_steps rules store (Close tab) places = close_is rules store places tab
-are_steps rules store (Go tab url by_page method) places = go_is rules store places tab url by_page method
+are_steps rules store (Go tab url by_page method head) places = go_is rules store places tab url by_page method head
 are_steps rules store (Evict site) places =
     step_by rules store places _ _ (evict_makes rules store.now store.places store.cells store.held site) (evict_placed rules store.now store.places store.cells store.held places site)
 are_steps rules store (Act at action) places = act_is rules store places at action

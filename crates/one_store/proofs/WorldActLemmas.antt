@@ -1,7 +1,9 @@
 -- What an action of a document makes of the world of all sites, and what is refused because no tab
 -- of its number is open.
-use Rattle.std.proofs.Common.{◌≡◌, ℕ, Bool, true, false, List, Option, Some, None, refl, sym, ap, subst, ◌∙◌}
-use Rattle.std.specs.Prelude.{codes, option_map}
+use Rattle.std.proofs.Common.{◌≡◌, ℕ, Bool, true, false, ◌||◌, List, Option, Some, None, refl, sym, ap, subst, ◌∙◌}
+use Rattle.std.specs.Prelude.{bytes_eq, codes, option_map}
+use Rattle.unwinding.specs.FiniteCells.{restrict_cells, merge_cells}
+use Rattle.unwinding.specs.World.{consulted, is_in}
 use Rattle.std.specs.Cmp.{nat_cmp_total}
 use Rattle.std.specs.Ordering.{nat_cmp}
 use Rattle.std.specs.FinMap.{nat_cmp-IsAntisymmetric}
@@ -13,23 +15,28 @@ use Rattle.storage_key.specs.Context.{is_of}
 use Rattle.live_state.specs.Tabs.{PlainTab}
 use Rattle.script_lines.specs.declared.words.Method.{Method}
 use Rattle.reply_lines.specs.Reply.{Plain}
-use Rattle.script_lines.specs.Script.{Close, Go, Act, DocumentAction}
-use Rattle.agent_model.specs.Partition.{Holdings, tab_named}
-use Rattle.agent_model.specs.Done.{SharedCells, Done, no_shared_cells}
-use Rattle.agent_model.specs.SiteEvent.{Acts, Closes, replied}
+use Rattle.script_lines.specs.Script.{Close, Go, Act, DocumentAction, HeadField}
+use Rattle.agent_model.specs.Partition.{Holdings, Partition, tab_named}
+use Rattle.agent_model.specs.Done.{SharedCells, Done}
+use Rattle.agent_model.specs.SiteEvent.{Acts, Closes, TimedEvent, replied}
 use Rattle.agent_model.specs.ActionNames.{document_action_name}
 use Rattle.agent_model.specs.SiteStep.{act_in, act, site_step}
 use Rattle.agent_model.specs.Lines.{AgentWorld, Places, site_at, occurs, going, main_event}
 use Rattle.agent_model.specs.SideEvents.{leaves, closes, side_event}
 use Rattle.agent_model.specs.Rest.{refusal, rest_after, places_after}
 use Rattle.agent_model.proofs.KeptLemmas as kept
-use Rattle.agent_model.proofs.ApartLemmas.{with_cells, act_apart}
-use Rattle.one_store.specs.HeldAt.{held_at, done_at}
+use Rattle.agent_model.specs.CookieCells.{Domain, domain_order}
+use Rattle.agent_model.specs.Consults.{names_at, names_in}
+use Rattle.agent_model.specs.TheMachine.{machine}
+use Rattle.agent_model.proofs.ApartLemmas.{with_cells}
+use Rattle.agent_model.proofs.CookieLemmas.{among}
+use Rattle.agent_model.proofs.CookieActionLemmas.{act_local}
+use Rattle.one_store.specs.HeldAt.{held_at}
 use Rattle.one_store.specs.WholeWorld.{partition_at, whole_world, IsPlaced}
 use Rattle.one_store.proofs.HeldLemmas.{tab_seen}
 use Rattle.one_store.proofs.ActLemmas.{act_seen, act_unseen}
 use Rattle.one_store.proofs.PlacedLemmas.{is_there, keyed_at}
-use Rattle.one_store.proofs.WorldLemmas.{LineMakes, told_at, told_nowhere, after_event, line_happens, line_refused}
+use Rattle.one_store.proofs.WorldLemmas.{LineMakes, told_at, told_nowhere, after_event, line_consults, line_refused, outcome_of}
 
 -- ---- in an open tab
 
@@ -41,7 +48,20 @@ module _ (rules : List Rule) (now : ℕ) (places : Places) (cells : SharedCells)
   module _ (at : Label) (action : DocumentAction) (tab : PlainTab) (found : tab_named at.tab held ≡ Some tab) (site : PlainSite) (place : site_at at.tab places ≡ Some site) where
     -- what is done for all sites
     abbrev done : Done
-    done = act_in rules now at action tab cells held
+    done = act_in rules now site at action tab cells held
+
+    -- the shared cells that it consults, and what is done with them alone
+    abbrev asks : Domain → Bool
+    asks = among (names_in rules site at action tab)
+
+    abbrev seen : SharedCells
+    seen = restrict_cells domain_order asks cells
+
+    abbrev apart_done : Done
+    apart_done = act_in rules now site at action tab seen held
+
+    local : done ≡ with_cells (merge_cells domain_order asks apart_done.cells cells) apart_done
+    local = act_local rules now site at tab action cells held
 
     at_its_site : here site at.tab ≡ true
     at_its_site = ap (is_of site) place ∙ is_there site
@@ -51,24 +71,46 @@ module _ (rules : List Rule) (now : ℕ) (places : Places) (cells : SharedCells)
         sym (act_unseen rules now site (here site) cells held (keyed_at places held placed_all site) at tab at_its_site found other (here other) apart (keyed_at places held placed_all other)
         (ap (is_of other) place ∙ apart) action)
 
-    -- the site's own action sees no shared cell
-    seen : act_in rules now at action tab no_shared_cells (held_at site (here site) held) ≡ with_cells no_shared_cells (done_at site (here site) done)
-    seen =
-        act_seen rules now site (here site) no_shared_cells held (keyed_at places held placed_all site) at tab at_its_site found action
-        ∙ ap (done_at site (here site)) (act_apart rules now at action tab no_shared_cells held)
-        ∙ ap (λ d. with_cells no_shared_cells (done_at site (here site) d)) (sym (act_apart rules now at action tab cells held))
+    -- the site's partition, and what its event consults
+    abbrev own : Partition
+    own = partition_at places held site
+
+    abbrev event : TimedEvent
+    event = record { moment = now; event = Acts at action }
+
+    or_none : (b : Bool) → (b || false) ≡ b
+    or_none true = refl
+    or_none false = refl
+
+    there : tab_named at.tab own.held ≡ Some tab
+    there = tab_seen site (here site) held at.tab at_its_site ∙ found
+
+    asked : consulted (machine rules) site own event ≡ asks
+    unfolding machine
+    asked =
+        ap (λ t domain. is_in bytes_eq domain (names_at rules site at action t) || false) there
+        ∙ λ i domain. or_none (asks domain) i
+
+    -- the site's own action does the same
+    step : site_step rules own (restrict_cells domain_order (consulted (machine rules) site own event) cells) event
+        ≡ outcome_of (partition_at places done.held site) apart_done.cells apart_done.changes (record { name = document_action_name action; body = apart_done.body })
+    unfolding site_step
+    step =
+        ap (λ test. act rules now at action (tab_named at.tab own.held) (restrict_cells domain_order test cells) own) asked
+        ∙ ap (λ (t : Option PlainTab). act rules now at action t seen own) there
+        ∙ ap (replied own (document_action_name action)) (act_seen rules now site (here site) seen held (keyed_at places held placed_all site) at tab at_its_site found action)
+        ∙ ap (λ h. outcome_of (partition_at places h site) apart_done.cells apart_done.changes (record { name = document_action_name action; body = apart_done.body })) (sym (ap (λ (d : Done). d.held) local))
 
     -- a line acts in its tab
     pub act_makes : LineMakes rules (whole_world now places cells held) (Act at action) (whole_world now places done.cells done.held) (told_at site (Act at action) done.body)
-    unfolding whole_world main_event side_event rest_after site_step
+    unfolding whole_world main_event side_event rest_after
     act_makes =
-        subst (λ left. LineMakes rules w (Act at action) (whole_world now places left done.held) (told_at site (Act at action) done.body)) (sym (ap (λ (d : Done). d.cells) (act_apart rules now at action tab cells held)))
-        (line_happens rules w (Act at action) (partition_at places done.held) (record { now = now; places = places }) refl site (record { moment = now; event = Acts at action })
-        done.changes (record { name = document_action_name action; body = done.body })
+        subst (λ (d : Done). LineMakes rules w (Act at action) (whole_world now places d.cells done.held) (told_at site (Act at action) d.body)) (sym local)
+        (subst (λ test. LineMakes rules w (Act at action) (whole_world now places (merge_cells domain_order test apart_done.cells cells) done.held) (told_at site (Act at action) apart_done.body)) asked
+        (line_consults rules w (Act at action) (partition_at places done.held) (record { now = now; places = places }) refl site event
+        apart_done.changes (record { name = document_action_name action; body = apart_done.body })
         (ap (option_map (occurs w (Acts at action))) place)
-        (λ other apart. ap (λ h. record { site = other; held = h }) (unseen other apart))
-        (ap (λ (t : Option PlainTab). act rules now at action t no_shared_cells (partition_at places held site)) (tab_seen site (here site) held at.tab at_its_site ∙ found)
-        ∙ ap (replied (partition_at places held site) (document_action_name action)) seen))
+        (λ other apart. ap (λ h. record { site = other; held = h }) (unseen other apart)) apart_done.cells step))
       where
         w : AgentWorld
         w = whole_world now places cells held
@@ -93,11 +135,11 @@ module _ (rules : List Rule) (now : ℕ) (places : Places) (cells : SharedCells)
       (ap (option_map (occurs w (Closes tab))) none)
       (λ site. ap (λ place. after_event rules (closes w tab place site) (partition_at places held site)) none)
 
-  pub no_tab_goes : (tab : ℕ) (url : PlainAddress) (by_page : Bool) (method : Method) → site_at tab places ≡ None
-      → LineMakes rules w (Go tab url by_page method) w (told_nowhere (Go tab url by_page method) (Plain (codes "no-tab")))
+  pub no_tab_goes : (tab : ℕ) (url : PlainAddress) (by_page : Bool) (method : Method) (head : List HeadField) → site_at tab places ≡ None
+      → LineMakes rules w (Go tab url by_page method head) w (told_nowhere (Go tab url by_page method head) (Plain (codes "no-tab")))
   unfolding whole_world main_event side_event rest_after refusal
-  no_tab_goes tab url by_page method none =
-      line_refused rules w (Go tab url by_page method) (partition_at places held) w.rest
-      (ap (λ place. record { now = now; places = places_after (going rules w tab url by_page method place) tab places }) none)
-      (ap (going rules w tab url by_page method) none)
+  no_tab_goes tab url by_page method head none =
+      line_refused rules w (Go tab url by_page method head) (partition_at places held) w.rest
+      (ap (λ place. record { now = now; places = places_after (going rules w tab url by_page method head place) tab places }) none)
+      (ap (going rules w tab url by_page method head) none)
       (λ site. ap (λ place. after_event rules (leaves w tab place (site_of_address rules url) site) (partition_at places held site)) none)

@@ -7,17 +7,19 @@ use Rattle.origin_site.specs.Site.{PlainSite}
 use Rattle.storage_key.specs.Key.{key_order}
 use Rattle.storage_key.proofs.OrderLemmas.{key_order_total, key_order_same}
 use Rattle.storage_key.specs.Context.{is_of}
-use Rattle.agent_model.specs.Partition.{session_order, no_holdings, empty_partition, is_under}
+use Rattle.agent_model.specs.PartitionedCells.{partitioned_order, no_partitioned_cells}
+use Rattle.agent_model.specs.Partition.{session_order, no_holdings, empty_partition, is_cell_under, is_under}
 use Rattle.agent_model.specs.Done.{no_shared_cells}
 use Rattle.agent_model.specs.Lines.{site_at, no_places}
 use Rattle.agent_model.specs.TheMachine.{beginning}
 use Rattle.one_store.specs.WholeWorld.{partition_at, whole_world, IsPlacedAt, IsPlaced}
 use Rattle.agent_model.proofs.KeptLemmas as kept
 use Rattle.agent_model.proofs.HoldingsLemmas.{session_order_total, session_order_same}
+use Rattle.agent_model.proofs.PartitionedLemmas.{partitioned_order_total, partitioned_order_same}
 
 -- nothing is nothing at each site
 pub beginning_whole : (start : ℕ) → whole_world start no_places no_shared_cells no_holdings ≡ beginning start
-unfolding whole_world beginning no_holdings empty_partition
+unfolding whole_world beginning no_holdings no_partitioned_cells empty_partition
 beginning_whole start = λ i. record { partition = λ site. record { site = site; held = nothing site i }; cells = no_shared_cells; rest = record { now = start; places = no_places } }
   where
     nothing : (site : PlainSite) → (partition_at no_places no_holdings site).held ≡ no_holdings
@@ -27,6 +29,7 @@ beginning_whole start = λ i. record { partition = λ site. record { site = site
           areas = kept.kept_nothing key_order key_order_total key_order_same (is_under site) i;
           persistent = kept.kept_nothing key_order key_order_total key_order_same (is_under site) i;
           sessions = kept.kept_nothing session_order session_order_total session_order_same (λ key. is_under site key.1) i;
+          cookies = kept.kept_nothing partitioned_order partitioned_order_total partitioned_order_same (is_cell_under site) i;
         }
 
 -- and no tab is anywhere

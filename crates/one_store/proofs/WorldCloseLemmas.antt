@@ -45,7 +45,7 @@ module _ (rules : List Rule) (now : ℕ) (places : Places) (cells : SharedCells)
   unfolding whole_world main_event side_event rest_after site_step
   evict_makes site =
       line_happens rules w (Evict site) (partition_at places (evict site cells held).held) w.rest refl site (timed w Evicts) (evict site cells held).changes (record { name = _; body = (evict site cells held).body }) refl
-      (λ other apart. ap (λ h. record { site = other; held = h }) (sym (evict_unseen site other (λ tab. is_of other (site_at tab places)) cells held apart)))
+      (λ other apart. ap (λ h. record { site = other; held = h }) (sym (evict_unseen site other (λ tab. is_of other (site_at tab places)) cells held apart))) refl
       (ap (replied (partition_at places held site) _) (evict_seen site (λ tab. is_of site (site_at tab places)) held no_shared_cells))
     where
       w : AgentWorld
@@ -106,7 +106,7 @@ module _ (places : Places) (held : Holdings) (placed_all : IsPlaced places held)
     close_makes =
         line_happens rules w (Close tab) (partition_at (finite.remove places tab) (close tab held)) (record { now = now; places = finite.remove places tab }) refl
         here (timed w (Closes tab)) [] (record { name = _; body = ok }) (ap (option_map (occurs w (Closes tab))) place)
-        (λ site apart. beside_by site None (other_there site apart) ∙ other_closed site apart (has_session tab (before site).held) refl ∙ ap (λ h. record { site = site; held = h }) (closed_there site)) step
+        (λ site apart. beside_by site None (other_there site apart) ∙ other_closed site apart (has_session tab (before site).held) refl ∙ ap (λ h. record { site = site; held = h }) (closed_there site)) refl step
       where
         w : AgentWorld
         w = whole_world now places cells held

@@ -1,16 +1,18 @@
 -- What a line makes of a world and what it is answered, from what its events make of each site.
-use Rattle.std.proofs.Common.{◌≡◌, Bool, true, false, cond, List, Option, Some, None, refl, sym, ap, subst, ◌∙◌}
+use Rattle.std.proofs.Common.{◌≡◌, Bool, true, false, cond, ◌&&◌, ◌||◌, List, [], Option, Some, None, refl, sym, ap, subst, ◌∙◌}
 use Rattle.unwinding.specs.FiniteCells.{restrict_cells, merge_cells}
-use Rattle.unwinding.specs.World.{SiteReply, consulted, after_side, after_sides, after_main, world_step, main_reply, line_reply}
+use Rattle.std.specs.Prelude.{bytes_eq}
+use Rattle.unwinding.specs.World.{SiteReply, consulted, is_in, after_side, after_sides, after_main, world_step, main_reply, line_reply}
 use Rattle.suffix_list.specs.Suffix.{Rule}
 use Rattle.origin_site.specs.Site.{PlainSite, same_plain_site}
 use Rattle.origin_site.proofs.SameLemmas.{same_plain_site-Decides}
 use Rattle.script_lines.specs.Script.{PlainAction}
 use Rattle.reply_lines.specs.Reply.{PlainBody}
-use Rattle.agent_model.specs.CookieCells.{Domain, domain_order}
+use Rattle.agent_model.specs.CookieCells.{Domain, domain_order, is_own}
 use Rattle.agent_model.specs.Partition.{Partition}
 use Rattle.agent_model.specs.Done.{SharedCells, Change, no_shared_cells}
 use Rattle.agent_model.specs.SiteEvent.{TimedEvent, Answer, SiteOutcome}
+use Rattle.agent_model.specs.Consults.{event_names}
 use Rattle.agent_model.specs.SiteStep.{site_step}
 use Rattle.agent_model.specs.Lines.{AgentWorld, Rest, main_event}
 use Rattle.agent_model.specs.SideEvents.{side_event}
@@ -108,12 +110,15 @@ module _ (rules : List Rule) (w : AgentWorld) (action : PlainAction) where
               main_reply_of (Some r) = record { site = Some site; reply = r }
 
       -- a line whose event consults no cell leaves them all
-      pub line_happens : site_step rules (beside site) no_shared_cells event ≡ outcome_of (after site) no_shared_cells changes answer
+      pub line_happens : event_names rules (beside site) event.event ≡ [] → site_step rules (beside site) no_shared_cells event ≡ outcome_of (after site) no_shared_cells changes answer
           → LineMakes rules w action (world_then w.cells) (record { site = Some site; reply = answer })
       unfolding machine
-      line_happens step =
-          subst (λ cells. LineMakes rules w action (world_then cells) (record { site = Some site; reply = answer })) (none_left no_shared_cells w.cells)
-          (line_consults no_shared_cells (ap (λ cells. site_step rules (beside site) cells event) (none_seen w.cells) ∙ step))
+      line_happens names step =
+          subst (λ cells. LineMakes rules w action (world_then cells) (record { site = Some site; reply = answer })) (ap (λ test. merge_cells domain_order test no_shared_cells w.cells) none ∙ none_left no_shared_cells w.cells)
+          (line_consults no_shared_cells (ap (λ test. site_step rules (beside site) (restrict_cells domain_order test w.cells) event) none ∙ ap (λ cells. site_step rules (beside site) cells event) (none_seen w.cells) ∙ step))
+        where
+          none : asked ≡ (λ domain. false)
+          none = ap (λ domains domain. is_in bytes_eq domain domains || (false && is_own site domain)) names
 
     -- a line that has no such event
     pub line_refused : main_event rules w action ≡ None → ((site : PlainSite) → beside site ≡ after site) → LineMakes rules w action (world_then w.cells) (record { site = None; reply = refusal w action })

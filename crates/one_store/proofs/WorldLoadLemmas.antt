@@ -1,5 +1,8 @@
 -- What a load of a top document makes of the world of all sites, and what a `go` makes of it.
-use Rattle.std.proofs.Common.{◌≡◌, ℕ, Bool, true, false, cond, not, List, [], Some, None, refl, sym, ap, ◌∙◌}
+use Rattle.std.proofs.Common.{◌≡◌, ℕ, Bool, true, false, cond, not, ◌||◌, List, Some, refl, sym, ap, subst, ◌∙◌}
+use Rattle.std.specs.Prelude.{bytes_eq}
+use Rattle.unwinding.specs.FiniteCells.{restrict_cells, merge_cells}
+use Rattle.unwinding.specs.World.{consulted, is_in}
 use Rattle.std.specs.Cmp.{nat_cmp_total, eq_by_cmp_equiv}
 use Rattle.std.specs.Ordering.{nat_cmp}
 use Rattle.std.specs.FinMap.{nat_cmp-IsAntisymmetric}
@@ -8,24 +11,30 @@ use Rattle.origin_site.specs.Address.{PlainAddress}
 use Rattle.origin_site.specs.Site.{PlainSite, same_plain_site, site_of_address}
 use Rattle.storage_key.specs.Context.{is_of}
 use Rattle.script_lines.specs.declared.words.Method.{Method}
-use Rattle.reply_lines.specs.Reply.{Load}
-use Rattle.script_lines.specs.Script.{PlainAction, Go}
-use Rattle.agent_model.specs.Partition.{Holdings}
-use Rattle.agent_model.specs.Done.{SharedCells, no_shared_cells, answers}
-use Rattle.agent_model.specs.SiteEvent.{TopLoad, Goes, Arrives, Leaves, replied}
-use Rattle.agent_model.specs.Sessions.{show}
-use Rattle.agent_model.specs.ActionNames.{load_name}
+use Rattle.script_lines.specs.Script.{HeadField, PlainAction, Go}
+use Rattle.agent_model.specs.Partition.{Holdings, Partition}
+use Rattle.agent_model.specs.Done.{SharedCells, Done}
+use Rattle.agent_model.specs.SiteEvent.{TopLoad, Goes, Arrives, Leaves, TimedEvent, replied}
+use Rattle.agent_model.specs.Sessions.{arrive, show}
+use Rattle.agent_model.specs.ActionNames.{action_name, load_name}
 use Rattle.agent_model.specs.SiteStep.{site_step}
 use Rattle.agent_model.specs.Lines.{AgentWorld, Places, site_at, placed, goer_of, is_same_site, going, main_event}
 use Rattle.agent_model.specs.SideEvents.{where_so, leaves, side_event}
 use Rattle.agent_model.specs.Rest.{rest_after, places_after}
 use Rattle.one_store.specs.WholeWorld.{partition_at, whole_world, IsPlaced}
+use Rattle.agent_model.specs.CookieCells.{Domain, domain_order}
+use Rattle.agent_model.specs.CookieUse.{CookieUse, consulted_by, top_use}
+use Rattle.agent_model.specs.Cookies.{request}
+use Rattle.agent_model.specs.TheMachine.{machine}
+use Rattle.agent_model.proofs.ApartLemmas.{with_cells}
+use Rattle.agent_model.proofs.CookieLemmas.{among, request_local}
 use Rattle.agent_model.proofs.KeptLemmas as kept
 use Rattle.agent_model.proofs.KeptLemmas.{AgreesBut}
+use Rattle.one_store.proofs.CookieLemmas.{request_seen, request_unseen}
 use Rattle.one_store.proofs.PlacedLemmas.{is_there, placed_changed}
 use Rattle.one_store.proofs.TabLemmas.{show_seen, show_gone, show_unseen}
 use Rattle.one_store.proofs.TopKeptLemmas.{opened_top}
-use Rattle.one_store.proofs.WorldLemmas.{LineMakes, told_at, after_event, beside, line_happens}
+use Rattle.one_store.proofs.WorldLemmas.{LineMakes, told_at, after_event, beside, line_consults, outcome_of}
 
 -- ---- a tab arrives
 
@@ -57,34 +66,83 @@ module _ (rules : List Rule) (places : Places) (tab : ℕ) (url : PlainAddress) 
   pub show_placed : (held : Holdings) → IsPlaced places held → IsPlaced there (show rules tab url held)
   show_placed held placed_all = placed_changed places there held tab (Some target) (Some _) refl (opened_top rules url) placed_all
 
-  module _ (now : ℕ) (cells : SharedCells) (held before : Holdings) where
+  module _ (now : ℕ) (cells : SharedCells) (held before : Holdings) (method : Method) (same_site : Bool) (head : List HeadField) where
     abbrev world : AgentWorld
     world = whole_world now places cells held
 
-    -- a load, from what each site has once the events beside it are past
-    pub load_makes : (action : PlainAction) (load : TopLoad) (method : Method) (same_site : Bool)
-        → main_event rules world action ≡ Some (record { site = target; event = record { moment = now; event = Arrives load tab url method same_site } })
-        → rest_after rules world action ≡ record { now = now; places = there } → load_name load ≡ (told_at target action (Load None [])).reply.name
-        → beside rules world action target ≡ partition_at places before target
-        → ((other : PlainSite) → same_plain_site other target ≡ false → beside rules world action other ≡ partition_at there (show rules tab url before) other)
-        → LineMakes rules world action (whole_world now there cells (show rules tab url before)) (told_at target action (Load None []))
-    unfolding whole_world site_step
-    load_makes action load method same_site main later name here others =
-        line_happens rules world action (partition_at there (show rules tab url before)) (record { now = now; places = there }) later target
-        (record { moment = now; event = Arrives load tab url method same_site }) [] (record { name = _; body = Load None [] }) main others
-        (ap (λ p. site_step rules p no_shared_cells (record { moment = now; event = Arrives load tab url method same_site })) here
-        ∙ λ i. replied (partition_at places before target) (name i) (answers (Load None []) no_shared_cells (show_seen target (was_at target) before (comes_to target) tab (others_stay target) rules url (arrived target ∙ is_there target) i)))
+    -- what is done for all sites, once the events beside the load are past
+    abbrev done : Done
+    done = arrive rules now target tab url method same_site head cells before
+
+    abbrev how : CookieUse
+    how = top_use target url method same_site
+
+    -- the shared cells that it consults, and what is done with them alone
+    abbrev asks : Domain → Bool
+    asks = among (consulted_by how)
+
+    abbrev seen : SharedCells
+    seen = restrict_cells domain_order asks cells
+
+    abbrev apart_done : Done
+    apart_done = request rules now how head seen (show rules tab url before)
+
+    local : done ≡ with_cells (merge_cells domain_order asks apart_done.cells cells) apart_done
+    local = request_local rules now how head cells (show rules tab url before)
+
+    or_none : (b : Bool) → (b || false) ≡ b
+    or_none true = refl
+    or_none false = refl
+
+    module _ (action : PlainAction) (load : TopLoad) where
+      abbrev event : TimedEvent
+      event = record { moment = now; event = Arrives load tab url method same_site head }
+
+      asked : (p : Partition) → p ≡ partition_at places before target → consulted (machine rules) target p event ≡ asks
+      unfolding machine
+      asked p here =
+          ap {B = Domain → Bool} (λ (q : Partition) domain. is_in bytes_eq domain (consulted_by (top_use q.site url method same_site)) || false) here
+          ∙ λ i domain. or_none (asks domain) i
+
+      -- the site's own event does the same
+      step : (p : Partition) → p ≡ partition_at places before target
+          → site_step rules p (restrict_cells domain_order (consulted (machine rules) target p event) cells) event
+          ≡ outcome_of (partition_at there done.held target) apart_done.cells apart_done.changes (record { name = load_name load; body = apart_done.body })
+      unfolding site_step
+      step p here =
+          ap (λ test. site_step rules p (restrict_cells domain_order test cells) event) (asked p here)
+          ∙ ap (λ q. site_step rules q seen event) here
+          ∙ ap (λ h. replied (partition_at places before target) (load_name load) (request rules now how head seen h))
+          (show_seen target (was_at target) before (comes_to target) tab (others_stay target) rules url (arrived target ∙ is_there target))
+          ∙ ap (replied (partition_at places before target) (load_name load)) (request_seen target (comes_to target) (show rules tab url before) rules now seen how head (is_there target))
+          ∙ ap (λ h. outcome_of (partition_at there h target) apart_done.cells apart_done.changes (record { name = load_name load; body = apart_done.body })) (sym (ap (λ (d : Done). d.held) local))
+
+      -- a load, from what each site has once the events beside it are past
+      pub load_makes : main_event rules world action ≡ Some (record { site = target; event = record { moment = now; event = Arrives load tab url method same_site head } })
+          → rest_after rules world action ≡ record { now = now; places = there } → load_name load ≡ action_name action
+          → beside rules world action target ≡ partition_at places before target
+          → ((other : PlainSite) → same_plain_site other target ≡ false → beside rules world action other ≡ partition_at there (show rules tab url before) other)
+          → LineMakes rules world action (whole_world now there done.cells done.held) (told_at target action done.body)
+      unfolding whole_world
+      load_makes main later name here others =
+          subst (λ (d : Done). LineMakes rules world action (whole_world now there d.cells done.held) (told_at target action d.body)) (sym local)
+          (subst (λ called. LineMakes rules world action (whole_world now there (merge_cells domain_order asks apart_done.cells cells) done.held) (record { site = Some target; reply = record { name = called; body = apart_done.body } })) name
+          (subst (λ test. LineMakes rules world action (whole_world now there (merge_cells domain_order test apart_done.cells cells) done.held) (record { site = Some target; reply = record { name = load_name load; body = apart_done.body } })) (asked (beside rules world action target) here)
+          (line_consults rules world action (partition_at there done.held) (record { now = now; places = there }) later target event
+          apart_done.changes (record { name = load_name load; body = apart_done.body }) main
+          (λ other apart. others other apart ∙ ap (λ h. record { site = other; held = h }) (sym (request_unseen other (comes_to other) (show rules tab url before) rules now cells how head apart)))
+          apart_done.cells (step (beside rules world action target) here))))
 
 -- ---- go
 
-module _ (rules : List Rule) (now : ℕ) (places : Places) (cells : SharedCells) (held : Holdings) (tab : ℕ) (url : PlainAddress) (by_page : Bool) (method : Method) (here : PlainSite) (place : site_at tab places ≡ Some here) where
+module _ (rules : List Rule) (now : ℕ) (places : Places) (cells : SharedCells) (held : Holdings) (tab : ℕ) (url : PlainAddress) (by_page : Bool) (method : Method) (head : List HeadField) (here : PlainSite) (place : site_at tab places ≡ Some here) where
   -- the site that is reached
   abbrev to : PlainSite
   to = site_of_address rules url
 
   -- the site that a tab leaves for another one has it no more
   leaves_beside : (site : PlainSite)
-      → beside rules (whole_world now places cells held) (Go tab url by_page method) site
+      → beside rules (whole_world now places cells held) (Go tab url by_page method head) site
       ≡ after_event rules (where_so (cond (same_plain_site site here) (not (same_plain_site site to)) false) (record { moment = now; event = Leaves tab })) (partition_at places held site)
   unfolding whole_world side_event
   leaves_beside site = ap (λ place. after_event rules (leaves (whole_world now places cells held) tab place to site) (partition_at places held site)) place
@@ -105,12 +163,16 @@ module _ (rules : List Rule) (now : ℕ) (places : Places) (cells : SharedCells)
       (sym (show_unseen site (λ q. is_of site (site_at q places)) held (λ q. is_of site (site_at q (placed tab to places))) tab (others_stay rules places tab url site) rules url (arrived rules places tab url site ∙ apart)
       (ap (is_of site) place ∙ isnt)))
 
+  -- what is done for all sites
+  abbrev went : Done
+  went = arrive rules now to tab url method (is_same_site (goer_of by_page here) to) head cells held
+
   -- a tab goes to another address
-  pub go_makes : LineMakes rules (whole_world now places cells held) (Go tab url by_page method)
-      (whole_world now (placed tab (site_of_address rules url) places) cells (show rules tab url held)) (told_at (site_of_address rules url) (Go tab url by_page method) (Load None []))
+  pub go_makes : LineMakes rules (whole_world now places cells held) (Go tab url by_page method head)
+      (whole_world now (placed tab (site_of_address rules url) places) went.cells went.held) (told_at (site_of_address rules url) (Go tab url by_page method head) went.body)
   unfolding whole_world main_event rest_after
   go_makes =
-      load_makes rules places tab url now cells held held (Go tab url by_page method) Goes method (is_same_site (goer_of by_page here) to) main
+      load_makes rules places tab url now cells held held method (is_same_site (goer_of by_page here) to) head (Go tab url by_page method head) Goes main
       (ap (λ arrival. record { now = now; places = places_after arrival tab places }) main) refl
       (leaves_beside to
       ∙ ap (λ b. after_event rules (where_so (cond (same_plain_site to here) (not b) false) (record { moment = now; event = Leaves tab })) (partition_at places held to)) (is_there to)
@@ -119,8 +181,8 @@ module _ (rules : List Rule) (now : ℕ) (places : Places) (cells : SharedCells)
       ∙ ap (λ b. after_event rules (where_so (cond (same_plain_site other here) (not b) false) (record { moment = now; event = Leaves tab })) (partition_at places held other)) apart
       ∙ left_there other apart (same_plain_site other here) refl)
     where
-      main : main_event rules (whole_world now places cells held) (Go tab url by_page method) ≡ going rules (whole_world now places cells held) tab url by_page method (Some here)
-      main = ap (going rules (whole_world now places cells held) tab url by_page method) place
+      main : main_event rules (whole_world now places cells held) (Go tab url by_page method head) ≡ going rules (whole_world now places cells held) tab url by_page method head (Some here)
+      main = ap (going rules (whole_world now places cells held) tab url by_page method head) place
 
-  pub go_placed : IsPlaced places held → IsPlaced (placed tab (site_of_address rules url) places) (show rules tab url held)
+  pub go_placed : IsPlaced places held → IsPlaced (placed tab (site_of_address rules url) places) went.held
   go_placed placed_all = show_placed rules places tab url held placed_all

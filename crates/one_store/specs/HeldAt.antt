@@ -9,7 +9,7 @@ use Rattle.origin_site.specs.Site.{PlainSite}
 use Rattle.storage_key.specs.Key.{PlainKey}
 use Rattle.live_state.specs.Tabs.{PlainTab}
 use Rattle.frame_tree.specs.Keys.{key_of_frame}
-use Rattle.agent_model.specs.Partition.{Holdings, is_under, tab_named}
+use Rattle.agent_model.specs.Partition.{Holdings, is_cell_under, is_under, tab_named}
 use Rattle.agent_model.specs.Done.{Done}
 
 -- what one site has of what is held for all: the tabs that are at it, and the storage whose key has
@@ -21,6 +21,7 @@ held_at site here held =
       areas = finite.retain_keys held.areas (is_under site);
       persistent = finite.retain_keys held.persistent (is_under site);
       sessions = finite.retain_keys held.sessions (λ key. is_under site key.1);
+      cookies = finite.retain_keys held.cookies (is_cell_under site);
     }
 
 -- what an action did at a site, from what it did for all: what is held is the site's. The shared

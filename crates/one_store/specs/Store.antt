@@ -13,7 +13,8 @@ use Rattle.origin_site.specs.Site.{PlainSite, site_of_address}
 use Rattle.live_state.specs.Tabs.{PlainTab}
 use Rattle.script_lines.specs.declared.words.Method.{Method}
 use Rattle.reply_lines.specs.Reply.{PlainBody, Plain, Now}
-use Rattle.script_lines.specs.Script.{PlainAction, Tick, Open, Close, Go, Evict, Act, DocumentAction}
+use Rattle.script_lines.specs.Script.{PlainAction, Tick, Open, Close, Go, Evict, Act}
+use Rattle.script_lines.specs.Script.{DocumentAction, HeadField}
 use Rattle.agent_model.specs.Partition.{Holdings, no_holdings, tab_named}
 use Rattle.agent_model.specs.Done.{SharedCells, Done, no_shared_cells, answers, ok}
 use Rattle.agent_model.specs.Buckets.{evict}
@@ -78,26 +79,28 @@ with_copies places tab (Some opener) noopener held =
     if noopener then held else copied_at (site_at opener places) opener tab held
 
 -- a tab is opened, where its opener is open and its number is free
-abbrev pub opened : List Rule → Store → PlainAction → ℕ → PlainAddress → Method
+abbrev pub opened : List Rule → Store → PlainAction → ℕ → PlainAddress → Method → List HeadField
     → (copied : Holdings) → Option Starter → (taken : Option PlainSite) → Step
-opened rules store line tab url method copied None taken =
+opened rules store line tab url method head copied None taken =
     refuses store line (Plain (codes "no-tab"))
-opened rules store line tab url method copied (Some starter) (Some here) =
+opened rules store line tab url method head copied (Some starter) (Some here) =
     refuses store line (Plain (codes "tab-exists"))
-opened rules store line tab url method copied (Some starter) None =
+opened rules store line tab url method head copied (Some starter) None =
     let target = site_of_address rules url in
+    let same_site = is_same_site starter target in
     done_with store line target (placed tab target store.places)
-    (arrive rules store.now tab url method (is_same_site starter target) store.cells copied)
+    (arrive rules store.now target tab url method same_site head store.cells copied)
 
 -- a tab that is open goes to an address
 abbrev pub gone : List Rule → Store → PlainAction → ℕ → PlainAddress → Bool → Method
-    → Option PlainSite → Step
-gone rules store line tab url by_page method None = refuses store line (Plain (codes "no-tab"))
-gone rules store line tab url by_page method (Some here) =
+    → List HeadField → Option PlainSite → Step
+gone rules store line tab url by_page method head None =
+    refuses store line (Plain (codes "no-tab"))
+gone rules store line tab url by_page method head (Some here) =
     let target = site_of_address rules url in
     let same_site = is_same_site (goer_of by_page here) target in
     done_with store line target (placed tab target store.places)
-    (arrive rules store.now tab url method same_site store.cells store.held)
+    (arrive rules store.now target tab url method same_site head store.cells store.held)
 
 -- a tab that is open is closed
 abbrev pub closed : Store → PlainAction → ℕ → Option PlainSite → Step
@@ -113,7 +116,7 @@ acted rules store line at action None found = refuses store line (Plain (codes "
 acted rules store line at action (Some here) None = refuses store line (Plain (codes "no-tab"))
 acted rules store line at action (Some here) (Some tab) =
     done_with store line here store.places
-    (act_in rules store.now at action tab store.cells store.held)
+    (act_in rules store.now here at action tab store.cells store.held)
 
 -- ---- every line
 
@@ -122,13 +125,14 @@ abbrev pub store_step : List Rule → Store → PlainAction → Step
 store_step rules store (Tick s) =
     let now = clock_after store.now s in
     record { store = record store { now = now }; reply = null_reply (Tick s) (Now (pos now)) }
-store_step rules store (Open tab url opener noopener method) =
-    opened rules store (Open tab url opener noopener method) tab url method
+store_step rules store (Open tab url opener noopener method head) =
+    opened rules store (Open tab url opener noopener method head) tab url method head
     (with_copies store.places tab opener noopener store.held)
     (opener_of opener store.places) (site_at tab store.places)
 store_step rules store (Close tab) = closed store (Close tab) tab (site_at tab store.places)
-store_step rules store (Go tab url by_page method) =
-    gone rules store (Go tab url by_page method) tab url by_page method (site_at tab store.places)
+store_step rules store (Go tab url by_page method head) =
+    gone rules store (Go tab url by_page method head) tab url by_page method head
+    (site_at tab store.places)
 store_step rules store (Evict site) =
     done_with store (Evict site) site store.places (evict site store.cells store.held)
 store_step rules store (Act at action) =

@@ -14,50 +14,50 @@ use Rattle.buckets.specs.declared.shed.Bucket.{Bucket}
 use Rattle.buckets.specs.Shed.{fresh_bucket}
 use Rattle.storage_events.specs.declared.event.AreaKind.{AreaKind}
 use Rattle.storage_events.specs.declared.event.AreaKind.TheVariants.{Local, Session}
-use Rattle.agent_model.specs.Partition.{Tabs, area_of, with_area, session_order}
+use Rattle.agent_model.specs.Partition.{Holdings, area_of, with_area, session_order}
 use Rattle.web_storage.specs.Stored.{Entries, areas_in, keys_in, sessions_in, held_with}
 
-module _ (tabs : Tabs) (kind : AreaKind) (tab : ℕ) (key : PlainKey) where
+module _ (beside : Holdings) (kind : AreaKind) (tab : ℕ) (key : PlainKey) where
   -- a local area is one of the shed
-  pub local_of : kind ≡ Local → (entries : Entries) → area_of kind tab key (held_with tabs entries) ≡ get_cell key_order (areas_in entries.local) key
+  pub local_of : kind ≡ Local → (entries : Entries) → area_of kind tab key (held_with beside entries) ≡ get_cell key_order (areas_in entries.local) key
   unfolding held_with
-  local_of is entries = ap (λ k. area_of k tab key (held_with tabs entries)) is
+  local_of is entries = ap (λ k. area_of k tab key (held_with beside entries)) is
 
   -- a session area is one of a tab
-  pub session_of : kind ≡ Session → (entries : Entries) → area_of kind tab key (held_with tabs entries) ≡ get_cell session_order (sessions_in entries.session) (tab, key)
+  pub session_of : kind ≡ Session → (entries : Entries) → area_of kind tab key (held_with beside entries) ≡ get_cell session_order (sessions_in entries.session) (tab, key)
   unfolding held_with
-  session_of is entries = ap (λ k. area_of k tab key (held_with tabs entries)) is
+  session_of is entries = ap (λ k. area_of k tab key (held_with beside entries)) is
 
   -- another shed, whose areas differ at one key
   pub local_held : kind ≡ Local → (pairs : List Pair) (old : Entries) (shed : List (StorageKey × Bucket))
       → areas_in shed ≡ set_cell key_order key pairs (areas_in old.local) → keys_in shed ≡ keys_in old.local
-      → held_with tabs (record { local = shed; session = old.session }) ≡ with_area kind tab key pairs (held_with tabs old)
+      → held_with beside (record { local = shed; session = old.session }) ≡ with_area kind tab key pairs (held_with beside old)
   unfolding held_with
   local_held is pairs old shed areas modes =
-      (λ i. record { tabs = tabs; areas = areas i; persistent = modes i; sessions = sessions_in old.session })
-      ∙ ap (λ k. with_area k tab key pairs (held_with tabs old)) (sym is)
+      (λ i. record beside { areas = areas i; persistent = modes i; sessions = sessions_in old.session })
+      ∙ ap (λ k. with_area k tab key pairs (held_with beside old)) (sym is)
 
   -- other session areas, which differ at one tab and key
   pub session_held_with : kind ≡ Session → (pairs : List Pair) (old : Entries) (sessions : List (ℕ × List (StorageKey × List Pair)))
       → sessions_in sessions ≡ set_cell session_order (tab, key) pairs (sessions_in old.session)
-      → held_with tabs (record { local = old.local; session = sessions }) ≡ with_area kind tab key pairs (held_with tabs old)
+      → held_with beside (record { local = old.local; session = sessions }) ≡ with_area kind tab key pairs (held_with beside old)
   unfolding held_with
   session_held_with is pairs old sessions changed =
-      (λ i. record { tabs = tabs; areas = areas_in old.local; persistent = keys_in old.local; sessions = changed i })
-      ∙ ap (λ k. with_area k tab key pairs (held_with tabs old)) (sym is)
+      (λ i. record beside { areas = areas_in old.local; persistent = keys_in old.local; sessions = changed i })
+      ∙ ap (λ k. with_area k tab key pairs (held_with beside old)) (sym is)
 
-module _ (tabs : Tabs) (old : Entries) where
+module _ (beside : Holdings) (old : Entries) where
   -- another shed with the same areas and modes
   pub local_kept : (shed : List (StorageKey × Bucket)) → areas_in shed ≡ areas_in old.local → keys_in shed ≡ keys_in old.local
-      → held_with tabs (record { local = shed; session = old.session }) ≡ held_with tabs old
+      → held_with beside (record { local = shed; session = old.session }) ≡ held_with beside old
   unfolding held_with
-  local_kept shed areas modes = λ i. record { tabs = tabs; areas = areas i; persistent = modes i; sessions = sessions_in old.session }
+  local_kept shed areas modes = λ i. record beside { areas = areas i; persistent = modes i; sessions = sessions_in old.session }
 
   -- other session areas that are the same
   pub session_kept : (sessions : List (ℕ × List (StorageKey × List Pair))) → sessions_in sessions ≡ sessions_in old.session
-      → held_with tabs (record { local = old.local; session = sessions }) ≡ held_with tabs old
+      → held_with beside (record { local = old.local; session = sessions }) ≡ held_with beside old
   unfolding held_with
-  session_kept sessions same = λ i. record { tabs = tabs; areas = areas_in old.local; persistent = keys_in old.local; sessions = same i }
+  session_kept sessions same = λ i. record beside { areas = areas_in old.local; persistent = keys_in old.local; sessions = same i }
 
 -- a bucket's area, where it may not be there
 pub area_or : (bucket : Option Bucket) → unwrap_or (option_map (λ b. b.area) bucket) [] ≡ (unwrap_or bucket fresh_bucket).area
@@ -87,17 +87,15 @@ some_area None is = is
 some_area (Some bucket) is = refl
 
 -- an area that is given the pairs that it has
-pub area_itself : (tabs : Tabs) (kind : AreaKind) (tab : ℕ) (key : PlainKey) (pairs : List Pair) (entries : Entries) → pairs ≡ area_of kind tab key (held_with tabs entries)
-    → with_area kind tab key pairs (held_with tabs entries) ≡ held_with tabs entries
+pub area_itself : (beside : Holdings) (kind : AreaKind) (tab : ℕ) (key : PlainKey) (pairs : List Pair) (entries : Entries) → pairs ≡ area_of kind tab key (held_with beside entries)
+    → with_area kind tab key pairs (held_with beside entries) ≡ held_with beside entries
 unfolding held_with
-area_itself tabs Local tab key pairs entries is = λ i. record {
-  tabs = tabs;
+area_itself beside Local tab key pairs entries is = λ i. record beside {
   areas = (ap (λ p. set_cell key_order key p (areas_in entries.local)) is ∙ cell_itself key_order key_order_total key_order_same key (areas_in entries.local)) i;
   persistent = keys_in entries.local;
   sessions = sessions_in entries.session;
 }
-area_itself tabs Session tab key pairs entries is = λ i. record {
-  tabs = tabs;
+area_itself beside Session tab key pairs entries is = λ i. record beside {
   areas = areas_in entries.local;
   persistent = keys_in entries.local;
   sessions = (ap (λ p. set_cell session_order (tab, key) p (sessions_in entries.session)) is ∙ cell_itself session_order session_order_total session_order_same (tab, key) (sessions_in entries.session)) i;

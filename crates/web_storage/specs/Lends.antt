@@ -5,18 +5,18 @@ use Rattle.storage_key.specs.Key.{PlainKey}
 use Rattle.local_area.specs.Area.{Pair}
 use Rattle.local_area.specs.contracts.area.Area as area
 use Rattle.storage_events.specs.declared.event.AreaKind.{AreaKind}
-use Rattle.agent_model.specs.Partition.{Tabs, with_area}
+use Rattle.agent_model.specs.Partition.{Holdings, with_area}
 use Rattle.web_storage.specs.Stored.{Entries, held_with}
 use Rattle.web_storage.specs.contracts.storage.Storage as storage
 
--- the storage holds what it held, beside any open tabs
+-- the storage holds what it held, beside all else
 abbrev pub HoldsSame : (old new : Entries) → Type 0
-HoldsSame old new = (tabs : Tabs) → held_with tabs new ≡ held_with tabs old
+HoldsSame old new = (beside : Holdings) → held_with beside new ≡ held_with beside old
 
--- the storage holds what it held, with these pairs in one area, beside any open tabs
+-- the storage holds what it held, with these pairs in one area, beside all else
 abbrev pub HoldsPairs : AreaKind → ℕ → PlainKey → List Pair → (old new : Entries) → Type 0
 HoldsPairs kind tab key pairs old new =
-    (tabs : Tabs) → held_with tabs new ≡ with_area kind tab key pairs (held_with tabs old)
+    (beside : Holdings) → held_with beside new ≡ with_area kind tab key pairs (held_with beside old)
 
 -- the storage ends with the last pairs behind r in the area, and holds what it held where memory
 -- is wanting

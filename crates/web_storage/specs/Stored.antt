@@ -11,7 +11,7 @@ use Rattle.storage_key.specs.declared.key.StorageKey.{StorageKey}
 use Rattle.local_area.specs.Area.{Pair}
 use Rattle.buckets.specs.Shed.{is_best_effort}
 use Rattle.buckets.specs.declared.shed.Bucket.{Bucket}
-use Rattle.agent_model.specs.Partition.{Areas, Keys, SessionAreas, Tabs, Holdings, session_order}
+use Rattle.agent_model.specs.Partition.{Areas, Keys, SessionAreas, Holdings, session_order}
 
 -- the local areas of a shed
 abbrev pub areas_in : List (StorageKey × Bucket) → Areas
@@ -49,11 +49,10 @@ pub record Entries : Type 0 where
   pub local : List (StorageKey × Bucket)
   pub session : List (ℕ × List (StorageKey × List Pair))
 
--- what the storage holds, beside open tabs
-unfoldable pub held_with : Tabs → Entries → Holdings
-held_with tabs entries =
-    record {
-      tabs = tabs;
+-- what is held beside the storage, and what the storage holds
+unfoldable pub held_with : (beside : Holdings) → Entries → Holdings
+held_with beside entries =
+    record beside {
       areas = areas_in entries.local;
       persistent = keys_in entries.local;
       sessions = sessions_in entries.session;

@@ -6,7 +6,7 @@ ghost use Rattle.storage_key.specs.Plain.{plain_key};
 ghost use Rattle.local_area.specs.Area.{area_get, area_put, area_remove, area_weight, quota};
 ghost use Rattle.local_area.specs.Put.{plain_put, put_answer};
 ghost use Rattle.storage_events.specs.declared.event.AreaKind.TheVariants.{Local};
-ghost use Rattle.agent_model.specs.Partition.{Tabs, area_of, no_holdings, with_area};
+ghost use Rattle.agent_model.specs.Partition.{Holdings, area_of, no_holdings, with_area};
 ghost use Rattle.agent_model.specs.Buckets.{evicted_count, is_persistent, made_persistent};
 ghost use Rattle.agent_model.specs.Buckets.{without_evicted};
 ghost use Rattle.std.specs.FinMap as finite;
@@ -49,7 +49,11 @@ impl Model for Storage {
 impl Storage {
     /// No areas, and no bucket that is persistent.
     pub fn new(alloc: Global) -> Storage
-        ensures empty { (tabs : Tabs) → held_with tabs result ≡ record no_holdings { tabs = tabs } }
+        ensures empty { (beside : Holdings) → held_with beside result ≡ record beside {
+          areas = finite.empty;
+          persistent = finite.empty;
+          sessions = finite.empty;
+        } }
     {
         Storage {
             local: Shed::new(alloc),
@@ -73,8 +77,8 @@ impl Storage {
 
     /// The area of a document, by its tab and storage key. None is an empty one.
     pub fn area(&self, kind: AreaKind, tab: u16, key: &StorageKey) -> Option<&Area>
-        ensures area { (tabs : Tabs)
-            → let pairs = area_of kind tab (plain_key key.now) (held_with tabs self.now) in
+        ensures area { (beside : Holdings)
+            → let pairs = area_of kind tab (plain_key key.now) (held_with beside self.now) in
             MatchOption result (pairs ≡ []) (λ area. area.now ≡ pairs) }
     {
         match kind {
@@ -94,11 +98,11 @@ impl Storage {
         key: &StorageKey,
     ) -> Result<&mut Area, NoMemory>
         ensures* writes_back { sem 𝓛 (LendsArea self.entry kind tab (plain_key key.now) result) }
-        ensures area { (tabs : Tabs)
-            → let pairs = area_of kind tab (plain_key key.now) (held_with tabs self.old) in
+        ensures area { (beside : Holdings)
+            → let pairs = area_of kind tab (plain_key key.now) (held_with beside self.old) in
             IfOk result (λ area. area.now ≡ pairs) }
-        ensures memory { (tabs : Tabs)
-            → let pairs = area_of kind tab (plain_key key.now) (held_with tabs self.old) in
+        ensures memory { (beside : Holdings)
+            → let pairs = area_of kind tab (plain_key key.now) (held_with beside self.old) in
             OnErr result (pairs ≡ []) }
     {
         self.reserve(kind, tab, key)?;
@@ -117,31 +121,31 @@ impl Storage {
         name: String,
         value: String,
     ) -> Result<Put, AreaFault>
-        ensures stored { (tabs : Tabs) → let before = held_with tabs self.old in
+        ensures stored { (beside : Holdings) → let before = held_with beside self.old in
             let here = area_of kind tab (plain_key key.now) before in
             let pairs = area_put (string_bytes name) (string_bytes value) here in
-            OnOk result (held_with tabs self.new
+            OnOk result (held_with beside self.new
             ≡ with_area kind tab (plain_key key.now) pairs before) }
-        ensures answer { (tabs : Tabs)
-            → let pairs = area_of kind tab (plain_key key.now) (held_with tabs self.old) in
+        ensures answer { (beside : Holdings)
+            → let pairs = area_of kind tab (plain_key key.now) (held_with beside self.old) in
             IfOk result (λ p. plain_put p
             ≡ put_answer (string_bytes name) (string_bytes value) pairs) }
-        ensures quota { (tabs : Tabs)
-            → let pairs = area_of kind tab (plain_key key.now) (held_with tabs self.old) in
+        ensures quota { (beside : Holdings)
+            → let pairs = area_of kind tab (plain_key key.now) (held_with beside self.old) in
             let after = area_weight (area_put (string_bytes name) (string_bytes value) pairs) in
             (result ≡ Err (AreaFault.Quota after)) ↔ (quota < after) }
-        ensures causes { (tabs : Tabs)
-            → let pairs = area_of kind tab (plain_key key.now) (held_with tabs self.old) in
+        ensures causes { (beside : Holdings)
+            → let pairs = area_of kind tab (plain_key key.now) (held_with beside self.old) in
             let after = area_weight (area_put (string_bytes name) (string_bytes value) pairs) in
             IfErr result (λ e. (e ≡ AreaFault.Quota after) ⊎ (e ≡ AreaFault.NoMemory)) }
-        ensures memory { (tabs : Tabs)
-            → let pairs = area_of kind tab (plain_key key.now) (held_with tabs self.old) in
+        ensures memory { (beside : Holdings)
+            → let pairs = area_of kind tab (plain_key key.now) (held_with beside self.old) in
             result ≡ Err AreaFault.NoMemory → area_get (string_bytes name) pairs ≡ None }
         ensures unchanged { OnErr result (HoldsSame self.old self.new) }
     {
-        match self.area_mut(kind, tab, key) {
-            Ok(area) => area.put(name, value),
-            Err(NoMemory) => Err(AreaFault::without_area(&name, &value)),
+        match self.present_mut(kind, tab, key) {
+            Some(area) => area.put(name, value),
+            None => self.put_first(kind, tab, key, name, value),
         }
     }
 
@@ -153,12 +157,12 @@ impl Storage {
         key: &StorageKey,
         name: &str,
     ) -> Option<String>
-        ensures value { (tabs : Tabs)
-            → let pairs = area_of kind tab (plain_key key.now) (held_with tabs self.old) in
+        ensures value { (beside : Holdings)
+            → let pairs = area_of kind tab (plain_key key.now) (held_with beside self.old) in
             option_map string_bytes result ≡ area_get name.now pairs }
-        ensures removed { (tabs : Tabs) → let before = held_with tabs self.old in
+        ensures removed { (beside : Holdings) → let before = held_with beside self.old in
             let pairs = area_remove name.now (area_of kind tab (plain_key key.now) before) in
-            held_with tabs self.new ≡ with_area kind tab (plain_key key.now) pairs before }
+            held_with beside self.new ≡ with_area kind tab (plain_key key.now) pairs before }
     {
         let value = self.take(kind, tab, key, name);
         self.drop_empty(kind, tab, key);
@@ -178,8 +182,8 @@ impl Storage {
 
     /// Whether the bucket of a key is persistent.
     pub fn is_persistent(&self, key: &StorageKey) -> bool
-        ensures mode { (tabs : Tabs) → result
-            ≡ is_persistent (plain_key key.now) (held_with tabs self.now) }
+        ensures mode { (beside : Holdings) → result
+            ≡ is_persistent (plain_key key.now) (held_with beside self.now) }
     {
         match self.local.mode(key) {
             Mode::Persistent => true,
@@ -189,14 +193,14 @@ impl Storage {
 
     /// Makes the bucket of a key persistent. The key is copied only where it is new.
     pub fn persist(&mut self, key: &StorageKey) -> Result<(), NoMemory>
-        ensures stored { (tabs : Tabs) → let before = held_with tabs self.old in
-            OnOk result (held_with tabs self.new ≡ made_persistent (plain_key key.now) before) }
+        ensures stored { (beside : Holdings) → let before = held_with beside self.old in
+            OnOk result (held_with beside self.new ≡ made_persistent (plain_key key.now) before) }
         ensures unchanged { OnErr result (HoldsSame self.old self.new) }
-        ensures area { (tabs : Tabs)
-            → let pairs = area_of Local 0 (plain_key key.now) (held_with tabs self.old) in
+        ensures area { (beside : Holdings)
+            → let pairs = area_of Local 0 (plain_key key.now) (held_with beside self.old) in
             OnErr result (pairs ≡ []) }
-        ensures mode { (tabs : Tabs) → OnErr result
-            (is_persistent (plain_key key.now) (held_with tabs self.old) ≡ false) }
+        ensures mode { (beside : Holdings) → OnErr result
+            (is_persistent (plain_key key.now) (held_with beside self.old) ≡ false) }
     {
         reserve_local(self.alloc, &mut self.local, key)?;
         let _ = self.local.persist(key);
@@ -205,8 +209,8 @@ impl Storage {
 
     /// The bytes of the names and values of a key's local area.
     pub fn usage(&self, key: &StorageKey) -> usize
-        ensures usage { (tabs : Tabs) → result
-            ≡ area_weight (area_of Local 0 (plain_key key.now) (held_with tabs self.now)) }
+        ensures usage { (beside : Holdings) → result
+            ≡ area_weight (area_of Local 0 (plain_key key.now) (held_with beside self.now)) }
     {
         self.local.usage(key)
     }
@@ -214,32 +218,32 @@ impl Storage {
     /// Empties the local areas of the best-effort buckets under a site, and counts those that were
     /// not empty. Their documents are not told.
     pub fn evict(&mut self, site: &Site) -> Result<u32, NoMemory>
-        ensures evicted { (tabs : Tabs) → let before = held_with tabs self.old in
-            OnOk result (held_with tabs self.new ≡ without_evicted (plain_site site.now) before) }
-        ensures count { (tabs : Tabs) → let before = held_with tabs self.old in
+        ensures evicted { (beside : Holdings) → let before = held_with beside self.old in
+            OnOk result (held_with beside self.new ≡ without_evicted (plain_site site.now) before) }
+        ensures count { (beside : Holdings) → let before = held_with beside self.old in
             IfOk result (λ count. count ≡ evicted_count (plain_site site.now) before) }
-        ensures unchanged { (tabs : Tabs) → OnErr result
-            (held_with tabs self.new ≡ held_with tabs self.old) }
+        ensures unchanged { (beside : Holdings) → OnErr result
+            (held_with beside self.new ≡ held_with beside self.old) }
     {
         evict_local(self.alloc, &mut self.local, site)
     }
 
     /// Copies the session areas that one tab has under a site to another tab, which has none.
     pub fn copy_tab(&mut self, site: &Site, from: u16, to: u16) -> Result<(), NoMemory>
-        requires { has_session to (held_with finite.empty self.old) ≡ false }
-        ensures copied { (tabs : Tabs) → let before = held_with tabs self.old in
-            OnOk result (held_with tabs self.new
+        requires { has_session to (held_with no_holdings self.old) ≡ false }
+        ensures copied { (beside : Holdings) → let before = held_with beside self.old in
+            OnOk result (held_with beside self.new
             ≡ copy_sessions (plain_site site.now) from to before) }
-        ensures unchanged { (tabs : Tabs) → OnErr result
-            (held_with tabs self.new ≡ held_with tabs self.old) }
+        ensures unchanged { (beside : Holdings) → OnErr result
+            (held_with beside self.new ≡ held_with beside self.old) }
     {
         copy_areas(self.alloc, &mut self.session, site, from, to)
     }
 
     /// Drops the session areas of a tab.
     pub fn close(&mut self, tab: u16)
-        ensures closed { (tabs : Tabs) → let before = held_with tabs self.old in
-            held_with tabs self.new
+        ensures closed { (beside : Holdings) → let before = held_with beside self.old in
+            held_with beside self.new
             ≡ record before { sessions = without_areas tab before.sessions } }
     {
         self.session.close(tab);
@@ -247,11 +251,48 @@ impl Storage {
 }
 
 impl Storage {
+    // The same as `put`, with room made where the area is not there.
+    fn put_first(
+        &mut self,
+        kind: AreaKind,
+        tab: u16,
+        key: &StorageKey,
+        name: String,
+        value: String,
+    ) -> Result<Put, AreaFault>
+        ensures stored { (beside : Holdings) → let before = held_with beside self.old in
+            let here = area_of kind tab (plain_key key.now) before in
+            let pairs = area_put (string_bytes name) (string_bytes value) here in
+            OnOk result (held_with beside self.new
+            ≡ with_area kind tab (plain_key key.now) pairs before) }
+        ensures answer { (beside : Holdings)
+            → let pairs = area_of kind tab (plain_key key.now) (held_with beside self.old) in
+            IfOk result (λ p. plain_put p
+            ≡ put_answer (string_bytes name) (string_bytes value) pairs) }
+        ensures quota { (beside : Holdings)
+            → let pairs = area_of kind tab (plain_key key.now) (held_with beside self.old) in
+            let after = area_weight (area_put (string_bytes name) (string_bytes value) pairs) in
+            (result ≡ Err (AreaFault.Quota after)) ↔ (quota < after) }
+        ensures causes { (beside : Holdings)
+            → let pairs = area_of kind tab (plain_key key.now) (held_with beside self.old) in
+            let after = area_weight (area_put (string_bytes name) (string_bytes value) pairs) in
+            IfErr result (λ e. (e ≡ AreaFault.Quota after) ⊎ (e ≡ AreaFault.NoMemory)) }
+        ensures memory { (beside : Holdings)
+            → let pairs = area_of kind tab (plain_key key.now) (held_with beside self.old) in
+            result ≡ Err AreaFault.NoMemory → area_get (string_bytes name) pairs ≡ None }
+        ensures unchanged { OnErr result (HoldsSame self.old self.new) }
+    {
+        match self.area_mut(kind, tab, key) {
+            Ok(area) => area.put(name, value),
+            Err(NoMemory) => Err(AreaFault::without_area(&name, &value)),
+        }
+    }
+
     // Makes room for an area.
     fn reserve(&mut self, kind: AreaKind, tab: u16, key: &StorageKey) -> Result<(), NoMemory>
         ensures same { HoldsSame self.old self.new }
-        ensures memory { (tabs : Tabs)
-            → let pairs = area_of kind tab (plain_key key.now) (held_with tabs self.old) in
+        ensures memory { (beside : Holdings)
+            → let pairs = area_of kind tab (plain_key key.now) (held_with beside self.old) in
             OnErr result (pairs ≡ []) }
     {
         match kind {
@@ -263,8 +304,8 @@ impl Storage {
     // An area that is there, to be changed.
     fn present_mut(&mut self, kind: AreaKind, tab: u16, key: &StorageKey) -> Option<&mut Area>
         ensures* writes_back { sem 𝓛 (LendsPresent self.entry kind tab (plain_key key.now) result) }
-        ensures area { (tabs : Tabs)
-            → let pairs = area_of kind tab (plain_key key.now) (held_with tabs self.old) in
+        ensures area { (beside : Holdings)
+            → let pairs = area_of kind tab (plain_key key.now) (held_with beside self.old) in
             MatchOption result (pairs ≡ []) (λ area. area.now ≡ pairs) }
     {
         match kind {
@@ -275,12 +316,12 @@ impl Storage {
 
     // Takes a name out of an area that is there.
     fn take(&mut self, kind: AreaKind, tab: u16, key: &StorageKey, name: &str) -> Option<String>
-        ensures value { (tabs : Tabs)
-            → let pairs = area_of kind tab (plain_key key.now) (held_with tabs self.old) in
+        ensures value { (beside : Holdings)
+            → let pairs = area_of kind tab (plain_key key.now) (held_with beside self.old) in
             option_map string_bytes result ≡ area_get name.now pairs }
-        ensures removed { (tabs : Tabs) → let before = held_with tabs self.old in
+        ensures removed { (beside : Holdings) → let before = held_with beside self.old in
             let pairs = area_remove name.now (area_of kind tab (plain_key key.now) before) in
-            held_with tabs self.new ≡ with_area kind tab (plain_key key.now) pairs before }
+            held_with beside self.new ≡ with_area kind tab (plain_key key.now) pairs before }
     {
         match self.present_mut(kind, tab, key) {
             Some(area) => area.remove(name),

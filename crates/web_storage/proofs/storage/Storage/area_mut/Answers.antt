@@ -9,15 +9,15 @@ pub returns-in-Some : goal.returns-in-Some
 returns-in-Some c = (
   (
     refl,
-    (λ w _ tabs.
+    (λ w _ beside.
         let held : HoldsPairs c.args.kind c.args.tab (plain_key c.args.key.now) w c.reserve.new.self (c.present_mut.follows.lender w) =
         rw c.in-Some.is at (c.present_mut.follows.holds w) in
-        held tabs ∙ ap (with_area c.args.kind c.args.tab (plain_key c.args.key.now) w) (c.reserve.ensures.same tabs)),
+        held beside ∙ ap (with_area c.args.kind c.args.tab (plain_key c.args.key.now) w) (c.reserve.ensures.same beside)),
     tt,
   ),
   record {
     writes_back = tt;
-    area = λ tabs. c.in-Some.ensures.area tabs ∙ ap (area_of c.args.kind c.args.tab (plain_key c.args.key.now)) (c.reserve.ensures.same tabs);
-    memory = λ tabs. tt;
+    area = λ beside. c.in-Some.ensures.area beside ∙ ap (area_of c.args.kind c.args.tab (plain_key c.args.key.now)) (c.reserve.ensures.same beside);
+    memory = λ beside. tt;
   },
 )

@@ -1,5 +1,5 @@
 use Rattle.std.proofs.Common.{◌≡◌, refl, sym, subst, false}
-use Rattle.std.specs.FinMap as finite
+use Rattle.agent_model.specs.Partition.{no_holdings}
 use Rattle.std.proofs.lemmas.Result.{on_ok_weaker, on_err_weaker}
 use Rattle.agent_model.specs.Sessions.{has_session}
 use Rattle.web_storage.specs.Stored.{held_with, areas_in, keys_in}
@@ -10,16 +10,16 @@ use Rattle.web_storage.proofs.storage.Storage.copy_tab.Goals as goal
 pub copy_areas-requires : goal.copy_areas-requires
 unfolding held_with
 copy_areas-requires c =
-    none_of_tab c.args.to (held_with finite.empty (record { local = c.self.inside.local; session = c.self.inside.session }))
-    (subst (λ entries. has_session c.args.to (held_with finite.empty entries) ≡ false) (sym c.self.view_is) c.requires)
+    none_of_tab c.args.to (held_with no_holdings (record { local = c.self.inside.local; session = c.self.inside.session }))
+    (subst (λ entries. has_session c.args.to (held_with no_holdings entries) ≡ false) (sym c.self.view_is) c.requires)
 
 pub returns-clause-copied : goal.returns-clause-copied
 unfolding held_with
-returns-clause-copied c = rw (← c.self.view_is) (λ tabs. on_ok_weaker c.copy_areas.result
-    (λ is i. record { tabs = tabs; areas = areas_in c.self.inside.local; persistent = keys_in c.self.inside.local; sessions = is i })
-    (c.copy_areas.ensures.copied (held_with tabs (record { local = c.self.inside.local; session = c.self.inside.session })) refl))
+returns-clause-copied c = rw (← c.self.view_is) (λ beside. on_ok_weaker c.copy_areas.result
+    (λ is i. record beside { areas = areas_in c.self.inside.local; persistent = keys_in c.self.inside.local; sessions = is i })
+    (c.copy_areas.ensures.copied (held_with beside (record { local = c.self.inside.local; session = c.self.inside.session })) refl))
 
 pub returns-clause-unchanged : goal.returns-clause-unchanged
-returns-clause-unchanged c = rw (← c.self.view_is) (λ tabs. on_err_weaker c.copy_areas.result
-    (λ is. session_kept tabs (record { local = c.self.inside.local; session = c.self.inside.session }) c.copy_areas.new.sessions is)
+returns-clause-unchanged c = rw (← c.self.view_is) (λ beside. on_err_weaker c.copy_areas.result
+    (λ is. session_kept beside (record { local = c.self.inside.local; session = c.self.inside.session }) c.copy_areas.new.sessions is)
     c.copy_areas.ensures.unchanged)

@@ -5,8 +5,7 @@ use Rattle.web_storage.proofs.storage.Storage.new.Goals as goal
 pub returns : goal.returns
 unfolding held_with no_holdings
 returns c = record {
-  empty = λ tabs i. record {
-    tabs = tabs;
+  empty = λ beside i. record beside {
     areas = areas_in (c.new.ensures.empty i);
     persistent = keys_in (c.new.ensures.empty i);
     sessions = sessions_in (c.new-2.ensures.empty i);

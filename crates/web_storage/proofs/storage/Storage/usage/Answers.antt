@@ -9,8 +9,8 @@ use Rattle.web_storage.proofs.storage.Storage.usage.Goals as goal
 
 pub returns : goal.returns
 returns c = rw (← c.self.view_is) (record {
-  usage = λ tabs.
+  usage = λ beside.
       c.usage.ensures.usage
       ∙ ap area_weight (held_found order alike c.args.key.now c.self.inside.local
-      ∙ sym (local_of tabs Local 0 (plain_key c.args.key.now) refl (record { local = c.self.inside.local; session = c.self.inside.session })));
+      ∙ sym (local_of beside Local 0 (plain_key c.args.key.now) refl (record { local = c.self.inside.local; session = c.self.inside.session })));
 })

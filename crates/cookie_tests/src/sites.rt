@@ -1,0 +1,215 @@
+//! Requests and scripts over the cookies of all sites.
+ghost use Rattle.std.specs.Prelude.{◌≤◌};
+
+use agent_base::MemSource;
+use origin_site::{Address, Site};
+use reply_lines::ReplyBody;
+use script_lines::HeadField;
+use std::alloc::Global;
+use std::process::Abort;
+use std::test::Fail;
+use storage_key::Context;
+use suffix_list::SuffixList;
+use web_cookies::{CookieUse, Cookies};
+
+fn list_of(alloc: Global) -> Result<SuffixList, Fail> {
+    let bytes = Vec::from_slice(alloc, b"test")?;
+    let mut source = MemSource::new(bytes, Vec::new(alloc));
+    Ok(SuffixList::read(alloc, &mut source)?)
+}
+
+// Who uses cookies: an address, the top-level site, whether it is first party, and whether a script.
+type Who = (&'static str, &'static str, bool, bool);
+
+const A: Who = ("https://www.a.test/", "https://a.test", true, false);
+
+const A_HTTP: Who = ("http://a.test/", "http://a.test", true, false);
+
+const A_SCRIPT: Who = ("https://a.test/", "https://a.test", true, true);
+
+const B: Who = ("https://b.test/", "https://b.test", true, false);
+
+const W: Who = ("https://w.test/", "https://w.test", true, false);
+
+const W_IN_A: Who = ("https://w.test/", "https://a.test", false, false);
+
+const W_IN_B: Who = ("https://w.test/", "https://b.test", false, false);
+
+// A response with these texts, which stand between bars, in fields of this name.
+fn head_of(alloc: Global, name: &str, texts: &str) -> Result<Vec<HeadField>, Fail> {
+    let mut head = Vec::new(alloc);
+    for text in texts.split('|') {
+        head.push(HeadField {
+            name: String::from_str(alloc, name)?,
+            value: String::from_str(alloc, text)?,
+        })?;
+    }
+    Ok(head)
+}
+
+// What is answered to a request with these texts, or to a script that sets one or reads.
+fn answer(
+    alloc: Global,
+    cookies: &mut Cookies,
+    list: &SuffixList,
+    now: u64,
+    who: Who,
+    name: &str,
+    texts: &str,
+) -> Result<ReplyBody, Fail>
+    requires now { now ≤ 253402300799 }
+{
+    let (address, site, first, script) = who;
+    let url = Address::read(alloc, address)?;
+    let top = Site::read(alloc, site)?;
+    let how = CookieUse {
+        url: &url,
+        top: &top,
+        context: Context { first, bit: !first },
+        same_site: first,
+        top_load: false,
+        safe: true,
+        script,
+    };
+    if !script {
+        let head = head_of(alloc, name, texts)?;
+        let prepared = cookies.prepare(alloc, list, now, &how, &head)?;
+        return Ok(cookies.perform(prepared));
+    }
+    if texts.is_empty() {
+        Ok(cookies.read(alloc, list, now, &how)?)
+    } else {
+        Ok(cookies.set(alloc, list, now, &how, texts)?)
+    }
+}
+
+// Whether this goes out or is read, and these words answer.
+fn is_answer(body: &ReplyBody, want: &str, words: &[&'static str]) -> bool {
+    match body {
+        ReplyBody::Load { cookie, set } => {
+            cookie.as_deref().unwrap_or("") == want && set.as_slice() == words
+        }
+        ReplyBody::Cookie { cookie } => cookie.as_str() == want,
+        ReplyBody::SetOne { set } => words.first() == Some(set),
+        _ => false,
+    }
+}
+
+// The steps of one run: who, the name of the field, the texts, what goes out, and the words.
+type Step = (
+    Who,
+    &'static str,
+    &'static str,
+    &'static str,
+    &'static [&'static str],
+);
+
+const STEPS: &[Step] = &[
+    (A, "Set-Cookie", "s=1; Domain=a.test", "", &["added"]),
+    (
+        A_HTTP,
+        "set-COOKIE",
+        "t=1; HttpOnly|=|u=1; Secure",
+        "s=1",
+        &["added", "empty", "not-secure-url"],
+    ),
+    (A_SCRIPT, "", "", "s=1", &[]),
+    (A_SCRIPT, "", "t=2", "", &["overwrites-http-only"]),
+    (A_SCRIPT, "", "s=2; Domain=a.test", "", &["replaced"]),
+    (A_HTTP, "Cookie", "t=3", "s=2; t=1", &[]),
+    (B, "Cookie", "s=3", "", &[]),
+    (
+        W_IN_A,
+        "Set-Cookie",
+        "p=1; Secure; SameSite=None; Partitioned|q=1; Secure; SameSite=None",
+        "",
+        &["added", "third-party"],
+    ),
+    (
+        W_IN_B,
+        "Set-Cookie",
+        "p=2; Secure; SameSite=None; Partitioned",
+        "",
+        &["added"],
+    ),
+    (W, "Set-Cookie", "p=3", "", &["added"]),
+    (W_IN_A, "Cookie", "", "p=1", &[]),
+    (W_IN_B, "Cookie", "", "p=2", &[]),
+    (
+        W,
+        "Set-Cookie",
+        "p=3; Max-Age=0|p=4|p=5",
+        "p=3",
+        &["removed", "added", "replaced"],
+    ),
+    (W, "Cookie", "", "p=5", &[]),
+];
+
+#[test]
+fn sites_and_partitions_stand_apart(rt: HostRuntime) -> Result<(), Fail> {
+    let alloc = rt.alloc();
+    let list = list_of(alloc)?;
+    let mut cookies = Cookies::new(alloc);
+    for (who, name, texts, want, words) in STEPS {
+        let body = answer(alloc, &mut cookies, &list, 7, *who, name, texts)?;
+        assert!(rt; is_answer(&body, want, words), "{texts} at {}", who.0);
+    }
+    Ok(())
+}
+
+// Sets cookies with these numbers and this path in one second.
+fn fill(
+    alloc: Global,
+    cookies: &mut Cookies,
+    list: &SuffixList,
+    now: u64,
+    count: u32,
+) -> Result<(), Fail>
+    requires now { now ≤ 253402300799 }
+{
+    for number in 0..count {
+        let text = format!(in alloc; "n{number}=1; Path=/y")?;
+        let _ = answer(alloc, cookies, list, now, A, "Set-Cookie", text.as_str())?;
+    }
+    Ok(())
+}
+
+const AT_X: Who = ("https://www.a.test/x", "https://a.test", true, false);
+
+const SCRIPT_AT_X: Who = ("https://www.a.test/x", "https://a.test", true, true);
+
+// What goes out to `/x`, where a full cell had its first cookie used by this one before one more.
+fn left_by(rt: &impl Abort, alloc: Global, user: Who, want: &str) -> Result<(), Fail> {
+    let list = list_of(alloc)?;
+    let mut cookies = Cookies::new(alloc);
+    let _ = answer(
+        alloc,
+        &mut cookies,
+        &list,
+        1,
+        A,
+        "Set-Cookie",
+        "k=1; Path=/x",
+    )?;
+    fill(alloc, &mut cookies, &list, 1, 179)?;
+    let _ = answer(alloc, &mut cookies, &list, 2, user, "Cookie", "")?;
+    let _ = answer(
+        alloc,
+        &mut cookies,
+        &list,
+        3,
+        A,
+        "Set-Cookie",
+        "l=1; Path=/z",
+    )?;
+    let body = answer(alloc, &mut cookies, &list, 4, AT_X, "Cookie", "")?;
+    assert!(rt; is_answer(&body, want, &[]), "used by {}", user.3);
+    Ok(())
+}
+
+#[test]
+fn a_sending_marks_and_a_script_does_not(rt: HostRuntime) -> Result<(), Fail> {
+    let alloc = rt.alloc();
+    left_by(&rt, alloc, AT_X, "k=1")?;
+    left_by(&rt, alloc, SCRIPT_AT_X, "")
+}

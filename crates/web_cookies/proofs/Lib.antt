@@ -1,0 +1,11 @@
+-- The order of keys, and what entries hold by plain keys.
+pub mod OrderOfCells
+pub mod PlainKeyLemmas
+pub mod CellLemmas
+pub mod ChangeLemmas
+-- What changes leave, and what was prepared for an effect.
+pub mod LeftLemmas
+pub mod HeaderLemmas
+pub mod PreparedLemmas
+-- Texts that are stored.
+pub mod TextLemmas

@@ -1,0 +1,280 @@
+-- What is prepared does to the cookies what the effect does.
+use Rattle.std.proofs.Common.{◌≡◌, ℕ, Bool, true, false, cond, List, Option, Some, None, pos, refl, sym, ap, subst, ◌∙◌}
+use Rattle.std.specs.Prelude.{Result, Ok, Err, IfOk, IfSome, is_some, ◌==◌, ◌&&◌, length, []}
+use Rattle.std.specs.Ordering.{eq_by_cmp}
+use Rattle.key_map.specs.Entries.{map_get, map_put, map_set}
+use Rattle.suffix_list.specs.Suffix.{Rule}
+use Rattle.cookie_jar.specs.declared.key.CellKey.{CellKey}
+use Rattle.cookie_jar.specs.Cookie.{PlainJar}
+use Rattle.cookie_jar.specs.Key.{PlainKey, OwnCell, plain_key}
+use Rattle.cookie_jar.specs.Sending.{joined, marked}
+use Rattle.reply_lines.specs.Plain.{body_of}
+use Rattle.reply_lines.specs.Reply.{Cookie, Load, PlainBody, SetOne}
+use Rattle.script_lines.specs.Script.{HeadField}
+use Rattle.agent_model.specs.CookieCells.{Cookies}
+use Rattle.agent_model.specs.Partition.{Holdings}
+use Rattle.agent_model.specs.Done.{Effect, answers}
+use Rattle.agent_model.specs.CookieUse.{CookieUse, own_domain}
+use Rattle.agent_model.specs.CookieStore.{BothCells, both_marked, cookie_texts, header_text, own_places, partition_places, sent, store_text, store_texts}
+use Rattle.agent_model.specs.Cookies.{leaves, read_cookies_by, request, set_cookie_by}
+use Rattle.web_cookies.specs.Stored.{Entries, IsDoneBy, held_with, shared_in}
+use Rattle.web_cookies.specs.Cells.{HaveKinds, cell_order, cookies_at, jar_at, kind_of}
+use Rattle.web_cookies.specs.Prepared.{HasPlace, IsReady, IsReadyIf, Prepares, changed, changed_if, cookies_after}
+use Rattle.web_cookies.specs.declared.change.Becomes.{Becomes}
+use Rattle.web_cookies.specs.declared.change.Becomes.TheVariants.{Marked, Stored}
+use Rattle.web_cookies.specs.Found.{CanBeDone, HasKey, HasPlaceIf, HoldSame, IsChange, KeepKeys, LeavesBoth, cookies_if, found, is_key, left_at, own_key, partition_key}
+use Rattle.web_cookies.specs.declared.prepared.Prepared.{Prepared}
+use Rattle.web_cookies.proofs.OrderOfCells.{alike, cell_order_total, equal_keys, order, own_tie}
+use Rattle.web_cookies.proofs.PlainKeyLemmas as plain
+use Rattle.web_cookies.proofs.LeftLemmas.{done_leaves, found_is, found_same, partitioned_same, shared_same}
+use Rattle.web_cookies.proofs.HeaderLemmas.{header_is}
+
+-- ---- effects, by what a use finds
+
+module _ (rules : List Rule) (now : ℕ) (how : CookieUse) (entries : Entries) (held : Holdings) where
+  pub request_is : (head : List HeadField)
+      → request rules now how head (shared_in entries) (held_with entries held)
+      ≡ leaves rules how (store_texts rules now how (both_marked now how (found rules how entries)) (cookie_texts head)).both
+      (Load (header_text (sent now how (found rules how entries))) (store_texts rules now how (both_marked now how (found rules how entries)) (cookie_texts head)).words)
+      (shared_in entries) (held_with entries held)
+  request_is head =
+      ap (λ both. leaves rules how (store_texts rules now how (both_marked now how both) (cookie_texts head)).both
+      (Load (header_text (sent now how both)) (store_texts rules now how (both_marked now how both) (cookie_texts head)).words)
+      (shared_in entries) (held_with entries held)) (found_is rules how entries held)
+
+  pub set_is : (text : List ℕ)
+      → set_cookie_by rules now how text (shared_in entries) (held_with entries held)
+      ≡ leaves rules how (store_text rules now how (found rules how entries) text).both
+      (SetOne (store_text rules now how (found rules how entries) text).word)
+      (shared_in entries) (held_with entries held)
+  set_is text =
+      ap (λ both. leaves rules how (store_text rules now how both text).both (SetOne (store_text rules now how both text).word)
+      (shared_in entries) (held_with entries held)) (found_is rules how entries held)
+
+  pub read_is : read_cookies_by rules now how (shared_in entries) (held_with entries held)
+      ≡ answers (Cookie (joined (sent now how (found rules how entries)))) (shared_in entries) (held_with entries held)
+  read_is = ap (λ both. answers (Cookie (joined (sent now how both))) (shared_in entries) (held_with entries held)) (found_is rules how entries held)
+
+-- ---- what is prepared
+
+module _ (rules : List Rule) (how : CookieUse) (entries : Entries) (prepared : Prepared) where
+  -- an effect that leaves what was prepared
+  pub prepares_left : (both : BothCells) (does : Effect) → CanBeDone prepared entries → LeavesBoth rules how both entries prepared
+      → ((held : Holdings) → does (shared_in entries) (held_with entries held) ≡ leaves rules how both (body_of prepared.body) (shared_in entries) (held_with entries held))
+      → Prepares does entries prepared
+  prepares_left both does can left is = record {
+    own = can.own;
+    partition = can.partition;
+    done = λ new after. done_leaves rules how both entries new (λ key. after key ∙ left key) does (body_of prepared.body) is;
+  }
+
+  not_own : is_key (partition_key rules how) (own_key how) ≡ false
+  not_own = at how.context.first
+    where
+      at : (first : Bool) → is_key (partition_key rules how) (cond first (Some (OwnCell (own_domain how))) None) ≡ false
+      at true = refl
+      at false = refl
+
+  -- both cells become those of jars
+  pub stored_left : (both : BothCells)
+      → IsChange (own_key how) (λ cookies. both.own) prepared.own
+      → IsChange (Some (partition_key rules how)) (λ cookies. both.partition) (Some prepared.partition)
+      → LeavesBoth rules how both entries prepared
+  stored_left both own partition = λ key.
+      partition key (changed_if prepared.own key (cookies_at key entries))
+      ∙ ap (λ r. cond (eq_by_cmp cell_order key (partition_key rules how)) both.partition r) (own key (cookies_at key entries))
+
+  -- cookies are marked in both cells
+  module _ (now : ℕ) (own_at partition_at : List ℕ)
+      (own : IsChange (own_key how) (marked own_at (pos now)) prepared.own)
+      (partition : IsChange (Some (partition_key rules how)) (marked partition_at (pos now)) (Some prepared.partition))
+      (are_own : own_at ≡ own_places now how (found rules how entries))
+      (are_partition : partition_at ≡ partition_places now how (found rules how entries)) where
+    abbrev after : PlainKey → Cookies
+    after key = cookies_after prepared key (cookies_at key entries)
+
+    abbrev wanted : PlainKey → Cookies
+    wanted key = left_at rules how (both_marked now how (found rules how entries)) key (cookies_at key entries)
+
+    at_partition : after (partition_key rules how) ≡ wanted (partition_key rules how)
+    at_partition =
+        let key = partition_key rules how in
+        let cookies = cookies_at key entries in
+        partition key (changed_if prepared.own key cookies)
+        ∙ ap (λ b. cond b (marked partition_at (pos now) (changed_if prepared.own key cookies)) (changed_if prepared.own key cookies)) (own_tie key)
+        ∙ ap (marked partition_at (pos now)) (own key cookies ∙ ap (λ b. cond b (marked own_at (pos now) cookies) cookies) not_own)
+        ∙ ap (λ places. marked places (pos now) cookies) are_partition
+        ∙ sym (ap (λ b. cond b (both_marked now how (found rules how entries)).partition (cond (is_key key (own_key how)) (both_marked now how (found rules how entries)).own cookies)) (own_tie key))
+
+    own_cookies : (key : PlainKey) (own : Option PlainKey) (b : Bool) → is_key key own ≡ b
+        → cond b (marked own_at (pos now) (cookies_at key entries)) (cookies_at key entries)
+        ≡ cond b (marked own_at (pos now) (cookies_if own entries)) (cookies_at key entries)
+    own_cookies key own false is = refl
+    own_cookies key None true is = cc
+    own_cookies key (Some other) true is = ap (λ k. marked own_at (pos now) (cookies_at k entries)) (equal_keys key other is)
+
+    elsewhere : (key : PlainKey) → eq_by_cmp cell_order key (partition_key rules how) ≡ false → after key ≡ wanted key
+    elsewhere key apart =
+        let cookies = cookies_at key entries in
+        partition key (changed_if prepared.own key cookies)
+        ∙ ap (λ b. cond b (marked partition_at (pos now) (changed_if prepared.own key cookies)) (changed_if prepared.own key cookies)) apart
+        ∙ own key cookies
+        ∙ own_cookies key (own_key how) (is_key key (own_key how)) refl
+        ∙ ap (λ places. cond (is_key key (own_key how)) (marked places (pos now) (cookies_if (own_key how) entries)) cookies) are_own
+        ∙ sym (ap (λ b. cond b (both_marked now how (found rules how entries)).partition (cond (is_key key (own_key how)) (both_marked now how (found rules how entries)).own cookies)) apart)
+
+    pub marked_left : LeavesBoth rules how (both_marked now how (found rules how entries)) entries prepared
+    marked_left = λ key. at key (eq_by_cmp cell_order key (partition_key rules how)) refl
+      where
+        at : (key : PlainKey) (b : Bool) → eq_by_cmp cell_order key (partition_key rules how) ≡ b → after key ≡ wanted key
+        at key true tie = subst (λ k. after k ≡ wanted k) (sym (equal_keys key (partition_key rules how) tie)) at_partition
+        at key false apart = elsewhere key apart
+
+-- ---- what was prepared is done
+
+place_kept : (key : PlainKey) (becomes : Becomes) (old mid : Entries) → KeepKeys old mid → HasPlace key old becomes → HasPlace key mid becomes
+place_kept key (Marked places now) old mid kept place = tt
+place_kept key (Stored jar) old mid kept place = kept key place
+
+-- both changes, one after the other
+pub both_done : (prepared : Prepared) (old mid new : Entries)
+    → (IsReadyIf prepared.own old → (key : PlainKey) → cookies_at key mid ≡ changed_if prepared.own key (cookies_at key old))
+    → KeepKeys old mid
+    → (IsReady prepared.partition mid → (key : PlainKey) → cookies_at key new ≡ changed prepared.partition key (cookies_at key mid))
+    → (does : Effect) → Prepares does old prepared → IsDoneBy does old new (body_of prepared.body)
+both_done prepared old mid new first kept second does is = is.done new (λ key.
+    second (place_kept (plain_key prepared.partition.key) prepared.partition.becomes old mid kept is.partition) key
+    ∙ ap (changed prepared.partition key) (first is.own key))
+
+-- ---- a request
+
+module _ (rules : List Rule) (now : ℕ) (how : CookieUse) where
+  -- the cells that are marked
+  pub marked_is : (at : BothCells) (own_at partition_at : List ℕ) (before after : BothCells) → before ≡ at
+      → after.own ≡ marked own_at (pos now) before.own → after.partition ≡ marked partition_at (pos now) before.partition
+      → own_at ≡ own_places now how at → partition_at ≡ partition_places now how at
+      → after ≡ both_marked now how at
+  marked_is at own_at partition_at before after is own partition are_own are_partition = λ i. record {
+    own = (own ∙ ap (λ b. marked own_at (pos now) b.own) is ∙ ap (λ places. marked places (pos now) at.own) are_own) i;
+    partition = (partition ∙ ap (λ b. marked partition_at (pos now) b.partition) is ∙ ap (λ places. marked places (pos now) at.partition) are_partition) i;
+  }
+
+  -- the header that is told
+  pub header_told : (at : BothCells) (own_at partition_at text : List ℕ) (header : Option (List ℕ))
+      → header ≡ cond ((length own_at == 0) && (length partition_at == 0)) None (Some text)
+      → own_at ≡ own_places now how at → partition_at ≡ partition_places now how at → text ≡ joined (sent now how at)
+      → header ≡ header_text (sent now how at)
+  header_told at own_at partition_at text header is are_own are_partition is_text =
+      is
+      ∙ ap (λ places. cond ((length places == 0) && (length partition_at == 0)) None (Some text)) are_own
+      ∙ ap (λ places. cond ((length (own_places now how at) == 0) && (length places == 0)) None (Some text)) are_partition
+      ∙ ap (λ t. cond ((length (own_places now how at) == 0) && (length (partition_places now how at) == 0)) None (Some t)) is_text
+      ∙ sym (header_is now how at)
+
+  pub request_prepared : (old new : Entries) (head : List HeadField) (prepared : Prepared)
+      (before after : BothCells) (header : Option (List ℕ)) (words : List (List ℕ))
+      → HoldSame old new
+      → before ≡ both_marked now how (found rules how old)
+      → store_texts rules now how before (cookie_texts head) ≡ record { both = after; words = words }
+      → header ≡ header_text (sent now how (found rules how old))
+      → body_of prepared.body ≡ Load header words
+      → LeavesBoth rules how after new prepared → CanBeDone prepared new
+      → Prepares (request rules now how head) new prepared
+  request_prepared old new head prepared before after header words same marks stores tells is_body left can =
+      prepares_left rules how new prepared after (request rules now how head) can left (λ held.
+      request_is rules now how new held head
+      ∙ ap (λ f. leaves rules how (store_texts rules now how (both_marked now how f) (cookie_texts head)).both
+      (Load (header_text (sent now how f)) (store_texts rules now how (both_marked now how f) (cookie_texts head)).words)
+      (shared_in new) (held_with new held)) (found_same rules how old new same)
+      ∙ ap (λ t. leaves rules how t.both (Load (header_text (sent now how (found rules how old))) t.words) (shared_in new) (held_with new held))
+      (ap (λ b. store_texts rules now how b (cookie_texts head)) (sym marks) ∙ stores)
+      ∙ ap (λ h. leaves rules how after (Load h words) (shared_in new) (held_with new held)) (sym tells)
+      ∙ ap (λ b. leaves rules how after b (shared_in new) (held_with new held)) (sym is_body))
+
+  -- a request whose response stores nothing
+  pub marking_prepared : (entries : Entries) (head : List HeadField) (prepared : Prepared) (own : Option PlainKey) (partition : PlainKey)
+      (own_at partition_at : List ℕ) (header : Option (List ℕ))
+      → own ≡ own_key how → partition ≡ partition_key rules how
+      → IsChange own (marked own_at (pos now)) prepared.own
+      → IsChange (Some partition) (marked partition_at (pos now)) (Some prepared.partition)
+      → own_at ≡ own_places now how (found rules how entries) → partition_at ≡ partition_places now how (found rules how entries)
+      → CanBeDone prepared entries
+      → header ≡ header_text (sent now how (found rules how entries))
+      → body_of prepared.body ≡ Load header []
+      → cookie_texts head ≡ []
+      → Prepares (request rules now how head) entries prepared
+  marking_prepared entries head prepared own partition own_at partition_at header is_own is_partition owns partitions are_own are_partition can tells is_body none =
+      request_prepared entries entries head prepared (both_marked now how (found rules how entries)) (both_marked now how (found rules how entries)) header []
+      (λ key. refl) refl (ap (store_texts rules now how (both_marked now how (found rules how entries))) none) tells is_body
+      (marked_left rules how entries prepared now own_at partition_at
+      (subst (λ key. IsChange key (marked own_at (pos now)) prepared.own) is_own owns)
+      (subst (λ key. IsChange (Some key) (marked partition_at (pos now)) (Some prepared.partition)) is_partition partitions)
+      are_own are_partition)
+      can
+
+  -- a script that sets a cookie
+  pub set_prepared : (old new : Entries) (text : List ℕ) (prepared : Prepared) (after : BothCells) (word : List ℕ)
+      → HoldSame old new
+      → store_text rules now how (found rules how old) text ≡ record { both = after; word = word }
+      → body_of prepared.body ≡ SetOne word
+      → LeavesBoth rules how after new prepared → CanBeDone prepared new
+      → Prepares (set_cookie_by rules now how text) new prepared
+  set_prepared old new text prepared after word same stores is_body left can =
+      prepares_left rules how new prepared after (set_cookie_by rules now how text) can left (λ held.
+      set_is rules now how new held text
+      ∙ ap (λ t. leaves rules how t.both (SetOne t.word) (shared_in new) (held_with new held))
+      (ap (λ f. store_text rules now how f text) (found_same rules how old new same) ∙ stores)
+      ∙ ap (λ b. leaves rules how after b (shared_in new) (held_with new held)) (sym is_body))
+
+  pub read_done : (entries : Entries) (text : List ℕ) → text ≡ joined (sent now how (found rules how entries)) → IsDoneBy (read_cookies_by rules now how) entries entries (Cookie text)
+  read_done entries text is = λ held. record {
+    cells = sym (ap (λ done. done.cells) (read_is rules now how entries held));
+    held = sym (ap (λ done. done.held) (read_is rules now how entries held));
+    body = ap Cookie is ∙ sym (ap (λ done. done.body) (read_is rules now how entries held));
+  }
+
+-- marks have a place wherever their key is
+pub marks_place : (key : Option PlainKey) (entries : Entries) (becomes : Becomes) → ((k : PlainKey) → HasPlace k entries becomes) → HasPlaceIf key entries becomes
+marks_place None entries becomes place = tt
+marks_place (Some key) entries becomes place = place key
+
+-- a key that has a jar keeps one
+pub key_kept : (key : Option PlainKey) (old new : Entries) → KeepKeys old new → HasKey key old → HasKey key new
+key_kept None old new kept has = tt
+key_kept (Some key) old new kept has = kept key has
+
+-- what is done to cookies that are the same
+pub done_same : (does : Effect) (old mid new : Entries) (body : PlainBody) → HoldSame old mid → IsDoneBy does mid new body → IsDoneBy does old new body
+done_same does old mid new body same done = λ held.
+    let is : does (shared_in mid) (held_with mid held) ≡ does (shared_in old) (held_with old held) =
+    (λ i. does (shared_same old mid same i) (record held { cookies = partitioned_same old mid same i })) in
+    record {
+      cells = (done held).cells ∙ ap (λ d. d.cells) is;
+      held = (done held).held ∙ ap (λ d. d.held) is;
+      body = (done held).body ∙ ap (λ d. d.body) is;
+    }
+
+-- what three clauses say of one value
+pub three_of : {T E : Type 0} (r : Result T E) (P Q R S : T → Type 0) → ((x : T) → P x → Q x → R x → S x) → IfOk r P → IfOk r Q → IfOk r R → IfOk r S
+three_of (Ok x) P Q R S f p q s = f x p q s
+three_of (Err e) P Q R S f p q s = tt
+
+-- ---- kinds
+
+kind_by : (q key : PlainKey) (jar : PlainJar) (old : Option PlainJar) (b : Bool) → eq_by_cmp cell_order q key ≡ b → jar.kind ≡ kind_of key
+    → IfSome old (λ j. j.kind ≡ kind_of q) → IfSome (cond b (Some jar) old) (λ j. j.kind ≡ kind_of q)
+kind_by q key jar old true tie is before = is ∙ ap kind_of (sym (equal_keys q key tie))
+kind_by q key jar old false apart is before = before
+
+-- jars stay of the kind of their key
+pub kinds_set : (key : CellKey) (jar : PlainJar) (entries : Entries) → HaveKinds entries → jar.kind ≡ kind_of (plain_key key)
+    → is_some (map_get order key entries) ≡ true → HaveKinds (map_set order key jar entries)
+kinds_set key jar entries kinds is there = λ q.
+    subst (λ o. IfSome o (λ j. j.kind ≡ kind_of q)) (sym (plain.found-set plain_key cell_order cell_order_total order alike q key jar entries there))
+    (kind_by q (plain_key key) jar (jar_at q entries) (eq_by_cmp cell_order q (plain_key key)) refl is (kinds q))
+
+pub kinds_put : (key : CellKey) (jar : PlainJar) (entries : Entries) → HaveKinds entries → jar.kind ≡ kind_of (plain_key key)
+    → HaveKinds (map_put order key jar entries)
+kinds_put key jar entries kinds is = λ q.
+    subst (λ o. IfSome o (λ j. j.kind ≡ kind_of q)) (sym (plain.found-put plain_key cell_order cell_order_total order alike q key jar entries))
+    (kind_by q (plain_key key) jar (jar_at q entries) (eq_by_cmp cell_order q (plain_key key)) refl is (kinds q))

@@ -1,0 +1,11 @@
+-- The texts of the fields so far are stored, and their words are there.
+use Rattle.std.proofs.Common.{◌≡◌, map, take}
+use Rattle.script_lines.specs.Plain.{head_field_of}
+use Rattle.agent_model.specs.CookieStore.{cookie_texts, store_texts}
+use Rattle.web_cookies.specs.Uses.{plain_use}
+use Rattle.web_cookies.proofs.both.BothJars.store_all.Given as goal
+
+abbrev pub invariant-loop-field : goal.invariant-loop-field
+invariant-loop-field l =
+    let done = store_texts l.list.rules l.now (plain_use l.how) l.fn.self (cookie_texts (map head_field_of (take l.field-index l.head))) in
+    (done.both ≡ l.self) × (map (λ word. word.now) l.words.items ≡ done.words)

@@ -1,0 +1,105 @@
+-- What a use finds among the cookies of all sites, and what is prepared to be left in its cells.
+use Rattle.std.specs.Prelude.{◌≡◌, ⊤, ℕ, Bool, true, false, List, [], Option, Some, None}
+use Rattle.std.specs.Prelude.{if◌then◌else◌, is_some, option_map, string_bytes}
+use Rattle.std.specs.Ordering.{eq_by_cmp}
+use Rattle.suffix_list.specs.Suffix.{Rule}
+use Rattle.cookie_jar.specs.Cookie.{PlainJar}
+use Rattle.cookie_jar.specs.Key.{PlainKey, OwnCell, plain_key}
+use Rattle.agent_model.specs.CookieCells.{Cookies}
+use Rattle.agent_model.specs.CookieUse.{CookieUse, key_of, own_domain}
+use Rattle.cookie_jar.specs.Sending.{joined}
+use Rattle.agent_model.specs.CookieStore.{BothCells, own_places, partition_places, sent}
+use Rattle.web_cookies.specs.Stored.{Entries}
+use Rattle.web_cookies.specs.Cells.{cell_key, cell_order, cookies_at, jar_at}
+use Rattle.web_cookies.specs.Prepared.{HasPlace, IsReady, IsReadyIf, changed_if, cookies_after}
+use Rattle.web_cookies.specs.declared.change.Becomes.{Becomes}
+use Rattle.web_cookies.specs.declared.change.CellChange.{CellChange}
+use Rattle.web_cookies.specs.declared.keys.UseKeys.{UseKeys}
+use Rattle.web_cookies.specs.declared.prepared.Prepared.{Prepared}
+use Rattle.web_cookies.specs.declared.sending.Sending.{Sending}
+
+-- the key of the unpartitioned cell, where the context is first party
+abbrev pub own_key : CookieUse → Option PlainKey
+own_key how = if how.context.first then Some (OwnCell (own_domain how)) else None
+
+-- the key of the partitioned cell
+abbrev pub partition_key : List Rule → CookieUse → PlainKey
+partition_key rules how = cell_key (key_of rules how)
+
+-- the keys of a use
+pub record AreKeysOf (rules : List Rule) (how : CookieUse) (keys : UseKeys) : Type 0 where
+  pub own : option_map plain_key keys.own ≡ own_key how
+  pub partition : plain_key keys.partition ≡ partition_key rules how
+
+-- the cookies of a key that there may be
+abbrev pub cookies_if : Option PlainKey → Entries → Cookies
+cookies_if None entries = []
+cookies_if (Some key) entries = cookies_at key entries
+
+-- both cells that a use finds
+abbrev pub found : List Rule → CookieUse → Entries → BothCells
+found rules how entries =
+    record {
+      own = cookies_if (own_key how) entries;
+      partition = cookies_at (partition_key rules how) entries;
+    }
+
+-- the cookies of two jars
+abbrev pub both_of : PlainJar → PlainJar → BothCells
+both_of own partition = record { own = own.cookies; partition = partition.cookies }
+
+-- a key is this one, where there is one
+abbrev pub is_key : PlainKey → Option PlainKey → Bool
+is_key key None = false
+is_key key (Some other) = eq_by_cmp cell_order key other
+
+-- the cookies of a key, once both cells of a use are left so
+abbrev pub left_at : List Rule → CookieUse → BothCells → PlainKey → Cookies → Cookies
+left_at rules how both key cookies =
+    if eq_by_cmp cell_order key (partition_key rules how) then both.partition
+    else (if is_key key (own_key how) then both.own else cookies)
+
+-- what was prepared leaves both cells of a use so
+abbrev pub LeavesBoth : List Rule → CookieUse → BothCells → Entries → Prepared → Type 0
+LeavesBoth rules how both entries prepared =
+    (key : PlainKey)
+    → cookies_after prepared key (cookies_at key entries)
+    ≡ left_at rules how both key (cookies_at key entries)
+
+-- a change makes this of the cookies of a key, where there is a key
+abbrev pub IsChange : Option PlainKey → (Cookies → Cookies) → Option CellChange → Type 0
+IsChange key becomes change =
+    (q : PlainKey) (cookies : Cookies)
+    → changed_if change q cookies
+    ≡ (if is_key q key then becomes cookies else cookies)
+
+-- it can be done where the key has a place
+abbrev pub HasPlaceIf : Option PlainKey → Entries → Becomes → Type 0
+HasPlaceIf None entries becomes = ⊤
+HasPlaceIf (Some key) entries becomes = HasPlace key entries becomes
+
+-- what was prepared can be done to these cookies
+pub record CanBeDone (prepared : Prepared) (entries : Entries) : Type 0 where
+  pub own : IsReadyIf prepared.own entries
+  pub partition : IsReady prepared.partition entries
+
+-- each key has the cookies that it had
+abbrev pub HoldSame : (old new : Entries) → Type 0
+HoldSame old new = (key : PlainKey) → cookies_at key new ≡ cookies_at key old
+
+-- each key that had a jar has one
+abbrev pub KeepKeys : (old new : Entries) → Type 0
+KeepKeys old new =
+    (key : PlainKey) → is_some (jar_at key old) ≡ true → is_some (jar_at key new) ≡ true
+
+-- a key that there may be has a jar
+abbrev pub HasKey : Option PlainKey → Entries → Type 0
+HasKey None entries = ⊤
+HasKey (Some key) entries = is_some (jar_at key entries) ≡ true
+
+-- what goes out of both cells of a use, as it stands among all cookies
+pub record IsSending (rules : List Rule) (now : ℕ) (how : CookieUse) (entries : Entries)
+    (s : Sending) : Type 0 where
+  pub own : s.own_places.items ≡ own_places now how (found rules how entries)
+  pub partition : s.partition_places.items ≡ partition_places now how (found rules how entries)
+  pub text : string_bytes s.text ≡ joined (sent now how (found rules how entries))

@@ -1,0 +1,9 @@
+-- What contracts cite.
+pub mod Stored
+pub mod Uses
+pub mod Cells
+pub mod Becoming
+pub mod Prepared
+-- What private functions compute. No public clause rests on it.
+pub mod Found
+pub mod Words

@@ -1,0 +1,200 @@
+//! Copies of both cells of a use, in which texts are stored.
+ghost use Rattle.std.specs.Prelude.{◌≡◌, ◌≤◌, ◌+◌, ◌++◌, ◌∷◌, [], IfOk, OnOk, codes, pos, length, map};
+ghost use Rattle.std.specs.List.{list_any};
+ghost use Rattle.cookie_jar.specs.Sending.{marked};
+ghost use Rattle.script_lines.specs.Plain.{head_field_of};
+ghost use Rattle.setcookie_parse.specs.SetCookie.{Kept};
+ghost use Rattle.setcookie_parse.specs.Views.{cookie_view};
+ghost use Rattle.agent_model.specs.CookieStore as spec;
+ghost use Rattle.agent_model.specs.Rest.{last_moment};
+ghost use Rattle.case_tables.specs.Rows.{same_in_any_case};
+ghost use Rattle.web_cookies.specs.Words.{IsWordOf, jar_left, word_by};
+ghost use Rattle.cookie_jar.specs.Planned.{planned};
+ghost use Rattle.cookie_jar.specs.Views.{plain_access};
+ghost use Rattle.web_cookies.specs.Uses.{plain_use};
+
+use crate::cookie_use::{CookieUse, access_of};
+use crate::words::{drop_word, parse_word, stored_word};
+use agent_base::NoMemory;
+use cookie_jar::{Access, CookieDrop, Destination, Jar, Stored, destination};
+use partition_limits::CellKind;
+use script_lines::HeadField;
+use setcookie_parse::{CookieText, Parsed, parse};
+use std::alloc::Global;
+use std::marker::Model;
+use suffix_list::SuffixList;
+
+/// The jars of both cells of a use.
+#[derive(Debug, Drop)]
+pub struct BothJars {
+    pub own: Jar,
+    pub partition: Jar,
+}
+
+impl Model for BothJars {
+    ghost use Rattle.std.specs.Prelude.{◌≡◌};
+    ghost use Rattle.partition_limits.specs.declared.tally.CellKind.TheVariants as kind;
+    ghost use Rattle.agent_model.specs.CookieStore.{BothCells};
+
+    ghost Value = { BothCells };
+
+    ghost view = { λ b. record { own = b.own.cookies; partition = b.partition.cookies } };
+
+    ghost invariant = { λ b. (b.own.kind ≡ kind.Own) × (b.partition.kind ≡ kind.Partition) };
+}
+
+impl BothJars {
+    /// Sets the last use of the cookies at these places. Takes no memory.
+    pub fn mark(&mut self, own_places: &[usize], partition_places: &[usize], now: u64)
+        requires now { now ≤ last_moment }
+        ensures own { self.new.own ≡ marked own_places.now (pos now) self.old.own }
+        ensures partition { self.new.partition
+            ≡ marked partition_places.now (pos now) self.old.partition }
+    {
+        self.own.mark(own_places, now as i64);
+        self.partition.mark(partition_places, now as i64);
+    }
+
+    /// Stores the Set-Cookie texts of a response in their order, and answers their words.
+    pub fn store_all(
+        &mut self,
+        alloc: Global,
+        list: &SuffixList,
+        now: u64,
+        how: &CookieUse<'_>,
+        head: &[HeadField],
+    ) -> Result<Vec<&'static str>, NoMemory>
+        requires now { now ≤ last_moment }
+        ensures stored { IfOk result (λ words. spec.store_texts list.now.rules now
+            (plain_use how.now) self.old (spec.cookie_texts (map head_field_of head.now))
+            ≡ record { both = self.new; words = map (λ word. word.now) words.items }) }
+    {
+        let mut words = Vec::new(alloc);
+        for field in head {
+            self.store_field(alloc, list, now, how, field, &mut words)?;
+        }
+        Ok(words)
+    }
+
+    // Stores the text of a field, if it is a Set-Cookie field, and adds its word.
+    fn store_field(
+        &mut self,
+        alloc: Global,
+        list: &SuffixList,
+        now: u64,
+        how: &CookieUse<'_>,
+        field: &HeadField,
+        words: &mut Vec<&'static str>,
+    ) -> Result<(), NoMemory>
+        requires now { now ≤ last_moment }
+        ensures stored { OnOk result ((spec.store_texts list.now.rules now (plain_use how.now)
+            self.old (spec.cookie_texts (head_field_of field.now ∷ []))).both ≡ self.new) }
+        ensures words { OnOk result (map (λ word. word.now) words.new.items
+            ≡ map (λ word. word.now) words.old.items
+            ++ (spec.store_texts list.now.rules now (plain_use how.now) self.old
+            (spec.cookie_texts (head_field_of field.now ∷ []))).words) }
+    {
+        if !is_set_cookie(field) {
+            return Ok(());
+        }
+        let word = self.store(alloc, list, now, how, field.value.as_str())?;
+        match words.push(word) {
+            Ok(()) => Ok(()),
+            Err(_) => Err(NoMemory),
+        }
+    }
+
+    /// Stores a Set-Cookie text, and answers its word.
+    pub fn store(
+        &mut self,
+        alloc: Global,
+        list: &SuffixList,
+        now: u64,
+        how: &CookieUse<'_>,
+        text: &str,
+    ) -> Result<&'static str, NoMemory>
+        requires now { now ≤ last_moment }
+        ensures stored { IfOk result (λ word. spec.store_text list.now.rules now
+            (plain_use how.now) self.old text.now
+            ≡ record { both = self.new; word = word.now }) }
+    {
+        match parse(text, now as i64) {
+            Parsed::Dropped(why) => Ok(parse_word(why)),
+            Parsed::Kept(cookie) => self.store_kept(alloc, list, now, how, &cookie),
+        }
+    }
+
+    // Stores a cookie in the cell that it goes to.
+    fn store_kept(
+        &mut self,
+        alloc: Global,
+        list: &SuffixList,
+        now: u64,
+        how: &CookieUse<'_>,
+        cookie: &CookieText<'_>,
+    ) -> Result<&'static str, NoMemory>
+        requires now { now ≤ last_moment }
+        requires pair { length cookie.now.name.now + length cookie.now.value.now ≤ 4096 }
+        ensures stored { IfOk result (λ word. spec.store_parsed list.now.rules now
+            (plain_use how.now) self.old (Kept (cookie_view cookie.now))
+            ≡ record { both = self.new; word = word.now }) }
+    {
+        let access = access_of(how);
+        match destination(cookie, &access) {
+            Destination::Own => store_in(&mut self.own, alloc, list, now, &access, cookie),
+            Destination::Partition => {
+                store_in(&mut self.partition, alloc, list, now, &access, cookie)
+            }
+            Destination::Nowhere => {
+                let mut none = Jar::new(alloc, CellKind::Own);
+                store_in(&mut none, alloc, list, now, &access, cookie)
+            }
+        }
+    }
+}
+
+// Stores a cookie in a jar, and answers its word.
+fn store_in(
+    jar: &mut Jar,
+    alloc: Global,
+    list: &SuffixList,
+    now: u64,
+    access: &Access<'_>,
+    cookie: &CookieText<'_>,
+) -> Result<&'static str, NoMemory>
+    requires now { now ≤ last_moment }
+    requires pair { length cookie.now.name.now + length cookie.now.value.now ≤ 4096 }
+    ensures stored { let plan = planned list.now.rules (cookie_view cookie.now)
+        (plain_access access.now) jar.old.kind (pos now) jar.old.cookies in
+        IfOk result (λ word. (jar.new.cookies ≡ jar_left jar.old.cookies plan)
+        × (word.now ≡ word_by plan)) }
+    ensures kind { jar.new.kind ≡ jar.old.kind }
+{
+    let stored = jar.store(alloc, cookie, access, list, now as i64);
+    word_of(stored)
+}
+
+// The word for what a store answered.
+fn word_of(stored: Result<Stored, CookieDrop>) -> Result<&'static str, NoMemory>
+    ensures { IfOk result (λ word. IsWordOf stored word.now) }
+{
+    match stored {
+        Ok(stored) => Ok(stored_word(stored.kind)),
+        Err(CookieDrop::NoMemory) => Err(NoMemory),
+        Err(why) => Ok(drop_word(why)),
+    }
+}
+
+/// Whether a response has a Set-Cookie text.
+pub fn has_cookies(head: &[HeadField]) -> bool
+    ensures value { result ≡ list_any (λ field. same_in_any_case (head_field_of field).name
+        (codes "Set-Cookie")) head.now }
+{
+    head.iter().any(|field| is_set_cookie(field))
+}
+
+fn is_set_cookie(field: &HeadField) -> bool
+    ensures { result ≡ same_in_any_case (head_field_of field.now).name (codes "Set-Cookie") }
+{
+    field.name.as_str().eq_ignore_ascii_case("Set-Cookie")
+}

@@ -1,0 +1,344 @@
+//! The cookies of all sites, by cell.
+ghost use Rattle.std.specs.Prelude.{◌≡◌, ◌≤◌, [], IfOk, IfSome, OnErr, OnOk, is_some, map, option_map, true};
+ghost use Rattle.cookie_jar.specs.Key.{PlainKey, plain_key};
+ghost use Rattle.partition_limits.specs.declared.tally.CellKind.TheVariants as kind;
+ghost use Rattle.reply_lines.specs.Plain.{body_of};
+ghost use Rattle.script_lines.specs.Plain.{head_field_of};
+ghost use Rattle.agent_model.specs.CookieCells.{no_cookies};
+ghost use Rattle.agent_model.specs.PartitionedCells.{no_partitioned_cells};
+ghost use Rattle.agent_model.specs.Cookies.{read_cookies_by, request, set_cookie_by};
+ghost use Rattle.agent_model.specs.Done.{Effect};
+ghost use Rattle.agent_model.specs.Rest.{last_moment};
+ghost use Rattle.web_cookies.specs.Stored.{IsDoneBy, shared_in, partitioned_in};
+ghost use Rattle.web_cookies.specs.Uses.{plain_use};
+ghost use Rattle.web_cookies.specs.Cells.{cookies_at, jar_at, kind_of};
+ghost use Rattle.web_cookies.specs.Prepared.{Prepares, IsReady, IsReadyIf, changed, changed_if};
+ghost use Rattle.web_cookies.specs.Found.{AreKeysOf, CanBeDone, HasKey, HoldSame, IsSending, KeepKeys, LeavesBoth, cookies_if, found};
+
+use crate::both::{BothJars, has_cookies};
+use crate::change::{CellChange, write};
+use crate::cookie_use::CookieUse;
+use crate::keys::{UseKeys, keys_of};
+use crate::prepared::{Prepared, marking, storing};
+use crate::sending::{Sending, chosen, header_value};
+use agent_base::NoMemory;
+use cookie_jar::{CellKey, Jar};
+use key_map::KeyMap;
+use partition_limits::CellKind;
+use reply_lines::ReplyBody;
+use script_lines::HeadField;
+use std::alloc::Global;
+use std::marker::Model;
+use suffix_list::SuffixList;
+
+/// The cookies of all sites: a jar for each cell.
+///
+/// A cell that is empty and one that is absent are the same.
+#[derive(Debug, Drop)]
+pub struct Cookies {
+    cells: KeyMap<CellKey, Jar>,
+}
+
+impl Model for Cookies {
+    ghost use Rattle.web_cookies.specs.Stored.{Entries};
+    ghost use Rattle.web_cookies.specs.Cells.{HaveKinds};
+
+    ghost Value = { Entries };
+
+    ghost view = { λ c. c.cells };
+
+    ghost invariant = { λ c. HaveKinds c.cells };
+}
+
+impl Cookies {
+    /// No cookies.
+    pub fn new(alloc: Global) -> Cookies
+        ensures shared { shared_in result ≡ no_cookies }
+        ensures partitioned { partitioned_in result ≡ no_partitioned_cells }
+    {
+        Cookies {
+            cells: KeyMap::new(alloc),
+        }
+    }
+
+    /// What a request makes of the cookies: its own are chosen and marked as used, and then the
+    /// texts of its response are stored. Changes no cookie.
+    ///
+    /// Where the response has no Set-Cookie text, no jar is copied. Each call takes the memory of
+    /// the keys of both cells.
+    pub fn prepare(
+        &mut self,
+        alloc: Global,
+        list: &SuffixList,
+        now: u64,
+        how: &CookieUse<'_>,
+        head: &[HeadField],
+    ) -> Result<Prepared, NoMemory>
+        requires now { now ≤ last_moment }
+        ensures shared { shared_in self.new ≡ shared_in self.old }
+        ensures partitioned { partitioned_in self.new ≡ partitioned_in self.old }
+        ensures prepared { IfOk result (λ prepared. Prepares
+            (request list.now.rules now (plain_use how.now) (map head_field_of head.now)) self.new
+            prepared) }
+    {
+        let keys = keys_of(alloc, list, how)?;
+        let sending = self.sending(alloc, list, now, how, &keys)?;
+        if has_cookies(head) {
+            self.prepare_storing(alloc, list, now, how, head, keys, sending)
+        } else {
+            Ok(marking(alloc, now, keys, sending))
+        }
+    }
+
+    /// Does what was prepared for these cookies as they stand. Takes no memory.
+    pub fn perform(&mut self, prepared: Prepared) -> ReplyBody
+        ensures done { (does : Effect) → Prepares does self.old prepared
+            → IsDoneBy does self.old self.new (body_of result) }
+    {
+        let Prepared {
+            own,
+            partition,
+            body,
+        } = prepared;
+        self.change_if(own);
+        self.change(partition);
+        body
+    }
+
+    /// A script sets a cookie.
+    pub fn set(
+        &mut self,
+        alloc: Global,
+        list: &SuffixList,
+        now: u64,
+        how: &CookieUse<'_>,
+        text: &str,
+    ) -> Result<ReplyBody, NoMemory>
+        requires now { now ≤ last_moment }
+        ensures done { IfOk result (λ body. IsDoneBy
+            (set_cookie_by list.now.rules now (plain_use how.now) text.now) self.old self.new
+            (body_of body)) }
+        ensures shared { OnErr result (shared_in self.new ≡ shared_in self.old) }
+        ensures partitioned { OnErr result (partitioned_in self.new ≡ partitioned_in self.old) }
+    {
+        let prepared = self.prepare_set(alloc, list, now, how, text)?;
+        Ok(self.perform(prepared))
+    }
+
+    /// A script reads cookies. It marks none.
+    pub fn read(
+        &self,
+        alloc: Global,
+        list: &SuffixList,
+        now: u64,
+        how: &CookieUse<'_>,
+    ) -> Result<ReplyBody, NoMemory>
+        requires now { now ≤ last_moment }
+        ensures done { IfOk result (λ body. IsDoneBy
+            (read_cookies_by list.now.rules now (plain_use how.now)) self.now self.now
+            (body_of body)) }
+    {
+        let keys = keys_of(alloc, list, how)?;
+        let Sending { text, .. } = self.sending(alloc, list, now, how, &keys)?;
+        Ok(ReplyBody::Cookie { cookie: text })
+    }
+}
+
+impl Cookies {
+    // What goes out of both cells of a use.
+    fn sending(
+        &self,
+        alloc: Global,
+        list: &SuffixList,
+        now: u64,
+        how: &CookieUse<'_>,
+        keys: &UseKeys,
+    ) -> Result<Sending, NoMemory>
+        requires now { now ≤ last_moment }
+        requires keys { AreKeysOf list.now.rules (plain_use how.now) keys.now }
+        ensures sending { IfOk result (λ s. IsSending list.now.rules now (plain_use how.now)
+            self.now s) }
+    {
+        let no_own = Jar::new(alloc, CellKind::Own);
+        let no_partition = Jar::new(alloc, CellKind::Partition);
+        let own = self.own_or(&keys.own, &no_own);
+        let partition = self.jar_or(&keys.partition, &no_partition);
+        chosen(alloc, now, how, own, partition)
+    }
+
+    // The jar of the unpartitioned cell, if there is one, or another.
+    fn own_or<'a>(&'a self, key: &Option<CellKey>, other: &'a Jar) -> &'a Jar
+        requires own { IfSome (option_map plain_key key.now) (λ key. kind_of key ≡ kind.Own) }
+        requires kind { other.now.kind ≡ kind.Own }
+        requires empty { other.now.cookies ≡ [] }
+        ensures kind { result.now.kind ≡ kind.Own }
+        ensures cookies { result.now.cookies
+            ≡ cookies_if (option_map plain_key key.now) self.now }
+    {
+        match key {
+            Some(key) => self.jar_or(key, other),
+            None => other,
+        }
+    }
+
+    // The jar of a cell, if there is one, or another.
+    fn jar_or<'a>(&'a self, key: &CellKey, other: &'a Jar) -> &'a Jar
+        requires kind { other.now.kind ≡ kind_of (plain_key key.now) }
+        requires empty { other.now.cookies ≡ [] }
+        ensures kind { result.now.kind ≡ kind_of (plain_key key.now) }
+        ensures cookies { result.now.cookies ≡ cookies_at (plain_key key.now) self.now }
+    {
+        self.cells.get(key).unwrap_or(other)
+    }
+
+    // Copies of the jars of both cells of a use.
+    fn copies(
+        &self,
+        alloc: Global,
+        list: &SuffixList,
+        how: &CookieUse<'_>,
+        keys: &UseKeys,
+    ) -> Result<BothJars, NoMemory>
+        requires keys { AreKeysOf list.now.rules (plain_use how.now) keys.now }
+        ensures found { IfOk result (λ both. both
+            ≡ found list.now.rules (plain_use how.now) self.now) }
+    {
+        let no_own = Jar::new(alloc, CellKind::Own);
+        let no_partition = Jar::new(alloc, CellKind::Partition);
+        Ok(BothJars {
+            own: self.own_or(&keys.own, &no_own).copy(alloc)?,
+            partition: self.jar_or(&keys.partition, &no_partition).copy(alloc)?,
+        })
+    }
+
+    fn prepare_storing(
+        &mut self,
+        alloc: Global,
+        list: &SuffixList,
+        now: u64,
+        how: &CookieUse<'_>,
+        head: &[HeadField],
+        keys: UseKeys,
+        sending: Sending,
+    ) -> Result<Prepared, NoMemory>
+        requires now { now ≤ last_moment }
+        requires keys { AreKeysOf list.now.rules (plain_use how.now) keys }
+        requires sending { IsSending list.now.rules now (plain_use how.now) self.old sending }
+        ensures same { HoldSame self.old self.new }
+        ensures prepared { IfOk result (λ prepared. Prepares
+            (request list.now.rules now (plain_use how.now) (map head_field_of head.now)) self.new
+            prepared) }
+    {
+        let Sending {
+            own_places,
+            partition_places,
+            text,
+        } = sending;
+        let mut both = self.copies(alloc, list, how, &keys)?;
+        both.mark(&own_places, &partition_places, now);
+        let words = both.store_all(alloc, list, now, how, head)?;
+        let body = ReplyBody::Load {
+            cookie: header_value(&own_places, &partition_places, text),
+            set: words,
+        };
+        self.prepare_both(alloc, list, how, keys, both, body)
+    }
+
+    fn prepare_set(
+        &mut self,
+        alloc: Global,
+        list: &SuffixList,
+        now: u64,
+        how: &CookieUse<'_>,
+        text: &str,
+    ) -> Result<Prepared, NoMemory>
+        requires now { now ≤ last_moment }
+        ensures same { HoldSame self.old self.new }
+        ensures prepared { IfOk result (λ prepared. Prepares
+            (set_cookie_by list.now.rules now (plain_use how.now) text.now) self.new prepared) }
+    {
+        let keys = keys_of(alloc, list, how)?;
+        let mut both = self.copies(alloc, list, how, &keys)?;
+        let word = both.store(alloc, list, now, how, text)?;
+        self.prepare_both(
+            alloc,
+            list,
+            how,
+            keys,
+            both,
+            ReplyBody::SetOne { set: word },
+        )
+    }
+
+    // Makes room for both cells of a use, which become those of the jars.
+    fn prepare_both(
+        &mut self,
+        alloc: Global,
+        list: &SuffixList,
+        how: &CookieUse<'_>,
+        keys: UseKeys,
+        both: BothJars,
+        body: ReplyBody,
+    ) -> Result<Prepared, NoMemory>
+        requires keys { AreKeysOf list.now.rules (plain_use how.now) keys }
+        ensures same { HoldSame self.old self.new }
+        ensures left { IfOk result (λ prepared. LeavesBoth list.now.rules (plain_use how.now) both
+            self.new prepared) }
+        ensures ready { IfOk result (λ prepared. CanBeDone prepared self.new) }
+        ensures body { IfOk result (λ prepared. prepared.body ≡ body) }
+    {
+        self.make_own_room(alloc, &keys.own)?;
+        self.make_room(alloc, &keys.partition, CellKind::Partition)?;
+        Ok(storing(keys, both, body))
+    }
+
+    // Makes a place for the jar of the unpartitioned cell, if there is one.
+    fn make_own_room(&mut self, alloc: Global, key: &Option<CellKey>) -> Result<(), NoMemory>
+        requires own { IfSome (option_map plain_key key.now) (λ key. kind_of key ≡ kind.Own) }
+        ensures same { HoldSame self.old self.new }
+        ensures there { OnOk result (HasKey (option_map plain_key key.now) self.new) }
+    {
+        match key {
+            Some(key) => self.make_room(alloc, key, CellKind::Own),
+            None => Ok(()),
+        }
+    }
+
+    // Makes a place for the jar of a key. One that is made is empty.
+    fn make_room(&mut self, alloc: Global, key: &CellKey, kind: CellKind) -> Result<(), NoMemory>
+        requires kind { kind ≡ kind_of (plain_key key.now) }
+        ensures same { HoldSame self.old self.new }
+        ensures kept { KeepKeys self.old self.new }
+        ensures there { OnOk result (is_some (jar_at (plain_key key.now) self.new) ≡ true) }
+    {
+        if self.cells.contains(key) {
+            return Ok(());
+        }
+        self.cells.insert(key.copy(alloc)?, Jar::new(alloc, kind))
+    }
+
+    // Does a change of a cell, if there is one.
+    fn change_if(&mut self, change: Option<CellChange>)
+        ensures changed { IsReadyIf change self.old → (key : PlainKey)
+            → cookies_at key self.new ≡ changed_if change key (cookies_at key self.old) }
+        ensures kept { KeepKeys self.old self.new }
+    {
+        match change {
+            Some(change) => self.change(change),
+            None => {}
+        }
+    }
+
+    // Does a change of a cell.
+    fn change(&mut self, change: CellChange)
+        ensures changed { IsReady change self.old → (key : PlainKey)
+            → cookies_at key self.new ≡ changed change key (cookies_at key self.old) }
+        ensures kept { KeepKeys self.old self.new }
+    {
+        let CellChange { key, becomes } = change;
+        let Some(jar) = self.cells.get_mut(&key) else {
+            return;
+        };
+        write(jar, becomes);
+    }
+}

@@ -1,0 +1,45 @@
+//! The keys of the cells that a use has.
+ghost use Rattle.std.specs.Prelude.{◌≡◌, IfOk, option_map};
+ghost use Rattle.cookie_jar.specs.Key.{plain_key};
+ghost use Rattle.web_cookies.specs.Found as spec;
+ghost use Rattle.web_cookies.specs.Uses.{plain_use};
+
+use crate::cookie_use::CookieUse;
+use agent_base::NoMemory;
+use cookie_jar::CellKey;
+use origin_site::domain_of;
+use std::alloc::Global;
+use suffix_list::SuffixList;
+
+/// The keys of the cells of a use. Only a first party has an unpartitioned one.
+#[derive(Debug, Drop)]
+pub struct UseKeys {
+    pub own: Option<CellKey>,
+    pub partition: CellKey,
+}
+
+/// The keys of a use, over memory of their own.
+pub fn keys_of(alloc: Global, list: &SuffixList, how: &CookieUse<'_>) -> Result<UseKeys, NoMemory>
+    ensures keys { IfOk result (λ keys. spec.AreKeysOf list.now.rules (plain_use how.now) keys) }
+{
+    let domain = domain_of(how.url.host.as_str(), how.url.ip, list);
+    Ok(UseKeys {
+        own: own_key(alloc, how)?,
+        partition: CellKey::Partition {
+            top: how.top.copy(alloc)?,
+            bit: how.context.bit,
+            domain: String::from_str(alloc, domain)?,
+        },
+    })
+}
+
+fn own_key(alloc: Global, how: &CookieUse<'_>) -> Result<Option<CellKey>, NoMemory>
+    ensures { IfOk result (λ key. option_map plain_key key ≡ spec.own_key (plain_use how.now)) }
+{
+    if !how.context.first {
+        return Ok(None);
+    }
+    Ok(Some(CellKey::Own {
+        domain: String::from_str(alloc, how.top.host.as_str())?,
+    }))
+}

@@ -1,10 +1,11 @@
-//! Measures three libraries by commands from standard input, one a line.
+//! Measures four libraries by commands from standard input, one a line.
 //!
 //! What a command counted comes on standard output, and the time that it took on standard error.
 #![tactic(auto)]
 
 mod commits;
 mod cookies;
+mod jars;
 mod suffixes;
 mod watch;
 
@@ -18,6 +19,7 @@ fn run_line(rt: &HostRuntime, line: &str) -> io::Result<()> {
     let third = words.next().unwrap_or("");
     match command {
         "cookies" => cookies::run(rt, count_of(first)),
+        "jars" => jars::run(rt, count_of(first), count_of(second)),
         "suffixes" => suffixes::run(rt, first, count_of(second)),
         "commits" => commits::run(rt, first, count_of(second), count_of(third)),
         "writes" => commits::run_writes(rt, first, count_of(second), count_of(third)),

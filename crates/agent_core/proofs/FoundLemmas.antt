@@ -3,6 +3,7 @@ use Rattle.std.proofs.Common.{◌≡◌, ◌==◌, ℕ, true, List, reverse, Opt
 use Rattle.std.specs.Prelude.{Result, find, is_some, option_and_then, option_map}
 use Rattle.agent_base.specs.declared.refusals.NoMemory.{NoMemory}
 use Rattle.agent_base.specs.declared.refusals.Label.{Label}
+use Rattle.origin_site.specs.Site.{PlainSite}
 use Rattle.storage_key.specs.Key.{PlainKey}
 use Rattle.storage_key.specs.Plain.{plain_key}
 use Rattle.storage_key.specs.declared.key.StorageKey.{StorageKey}
@@ -11,11 +12,11 @@ use Rattle.frame_tree.specs.Tree.{PlainFrame, IsTree, document_of, has_frame, to
 use Rattle.frame_tree.proofs.ShapeLemmas.{has-reversed}
 use Rattle.frame_tree.proofs.TopLemmas.{has_zero, top-document}
 use Rattle.frame_tree.specs.Keys.{key_of_document, key_of_frame}
-use Rattle.live_state.specs.Queues.{frames_by}
+use Rattle.live_state.specs.Queues.{frames_by, has_document}
 use Rattle.live_state.specs.Tabs.{PlainTab, tab_at}
 use Rattle.reply_lines.specs.declared.reply.ReplyBody.{ReplyBody}
 use Rattle.agent_core.specs.HoldingsView.{HoldingsView}
-use Rattle.agent_core.specs.Actions.{Acts, ActsBy, ActsIn}
+use Rattle.agent_core.specs.Actions.{Acts, ActsAt, ActsIn}
 use Rattle.live_state.proofs.ListLemmas.{is_some-find, is_some-map}
 use Rattle.agent_model.specs.Done.{Effect}
 use Rattle.agent_model.specs.Documents as keyed
@@ -59,7 +60,13 @@ found_key frame frames own is = by (document_of frame frames) refl is
     by None there is = absurd is
     by (Some document) there is = (document, there, by_own (key_of_document frame frames document) is)
 
--- so it is the one that an action is done with
+-- so the document is there
+pub keyed_there : (at : Label) (tabs : List PlainTab) (frames : List PlainFrame) (own : Bor StorageKey) → Some frames ≡ option_map (λ t. t.frames) (tab_at at.tab tabs)
+    → IsFound (key_wanted at.frame frames) (Keyed own) → has_document tabs at ≡ true
+keyed_there at tabs frames own shown is =
+    ap (has_frame at.frame) (frames_found (tab_at at.tab tabs) frames shown) ∙ sym (document_there at.frame frames) ∙ ap is_some (found_key at.frame frames own is).1
+
+-- and it is the one that an action is done with
 pub with_found : (at : Label) (tab : PlainTab) (does : keyed.Keyed → Effect) (document : PlainDocument) (key : PlainKey)
     → document_of at.frame tab.frames ≡ Some document → key_of_document at.frame tab.frames document ≡ Some key
     → with_key at tab does ≡ does (record { at = at; document = document; key = key })
@@ -70,15 +77,15 @@ with_found at tab does document key there own =
 -- what was done under that key, in the tab whose frames were found, is done with the key of the document
 pub acts_found : (at : Label) (old new : HoldingsView) (result : Result ReplyBody NoMemory) (frames : List PlainFrame) (found : Bor StorageKey) (own : PlainKey)
     → Some frames ≡ option_map (λ t. t.frames) (tab_at at.tab old.live.tabs) → IsFound (key_wanted at.frame frames) (Keyed found) → own ≡ plain_key found.now
-    → (does : PlainTab → keyed.Keyed → Effect) → ((tab : PlainTab) → tab_at at.tab old.live.tabs ≡ Some tab → ActsBy at own (does tab) old new result)
-    → ActsIn at.tab (λ tab. with_key at tab (does tab)) old new result
-acts_found at old new result frames found own shown is same does done tab there =
+    → (does : PlainSite → PlainTab → keyed.Keyed → Effect) → ActsAt at own does old new result
+    → ActsIn at.tab (λ site tab. with_key at tab (does site tab)) old new result
+acts_found at old new result frames found own shown is same does done tab site there top =
     let frames_same = frames_are (tab_at at.tab old.live.tabs) frames tab shown there in
     let it = found_key at.frame tab.frames found (subst (λ (frames : List PlainFrame). IsFound (key_wanted at.frame frames) (Keyed found)) (sym frames_same) is) in
     subst (λ (d : Effect). Acts d old new result)
-    (sym (with_found at tab (does tab) it.0 (plain_key found.now) it.1 it.2))
-    (subst (λ (k : PlainKey). Acts (does tab (record { at = at; document = it.0; key = k })) old new result) same
-    (done tab there it.0 (ap (λ tab. document_of at.frame (frames_by tab)) there ∙ it.1)))
+    (sym (with_found at tab (does site tab) it.0 (plain_key found.now) it.1 it.2))
+    (subst (λ (k : PlainKey). Acts (does site tab (record { at = at; document = it.0; key = k })) old new result) same
+    (done tab site there top it.0 (ap (λ tab. document_of at.frame (frames_by tab)) there ∙ it.1)))
 
 -- a tree has a document in frame 0
 pub top_there : (frames : List PlainFrame) → IsTree frames → is_some (document_of 0 frames) ≡ true

@@ -6,6 +6,7 @@ pub mod FoundLemmas
 -- What an action makes of what is held.
 pub mod DoneLemmas
 pub mod ActLemmas
+pub mod RequestLemmas
 -- Who hears of a change, and what is sent to them.
 pub mod MemberLemmas
 pub mod AudienceLemmas

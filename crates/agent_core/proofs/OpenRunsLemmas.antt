@@ -1,5 +1,5 @@
 -- What an `open` makes of the agent, and what it is refused for.
-use Rattle.std.proofs.Common.{◌≡◌, ℕ, Bool, true, false, cond, List, [], Option, Some, None, Ok, refl, sym, ap, ◌∙◌}
+use Rattle.std.proofs.Common.{◌≡◌, ℕ, Bool, true, false, cond, List, Option, Some, None, Ok, refl, sym, ap, subst, ◌∙◌}
 use Rattle.std.specs.Prelude.{codes, option_map}
 use Rattle.origin_site.specs.Address.{PlainAddress}
 use Rattle.origin_site.specs.Site.{PlainSite, site_of_address}
@@ -7,29 +7,27 @@ use Rattle.frame_tree.specs.Tree.{top_site}
 use Rattle.live_state.specs.Queues.{frames_by}
 use Rattle.live_state.specs.Tabs.{PlainTab, is_open, tab_at}
 use Rattle.web_storage.specs.Stored.{Entries}
+use Rattle.web_cookies.specs.Stored.{Entries as CookieEntries}
 use Rattle.reply_lines.specs.declared.reply.Reply.{Reply}
 use Rattle.script_lines.specs.declared.words.Method.{Method}
 use Rattle.reply_lines.specs.Plain.{reply_of}
-use Rattle.reply_lines.specs.Reply.{Plain, Load}
-use Rattle.script_lines.specs.Script.{PlainAction, Open}
+use Rattle.reply_lines.specs.Reply.{Plain}
+use Rattle.script_lines.specs.Script.{HeadField, PlainAction, Open}
+use Rattle.agent_model.specs.ActionNames.{action_name}
+use Rattle.agent_model.specs.Done.{Done}
 use Rattle.agent_model.specs.Partition.{Holdings}
-use Rattle.agent_model.specs.Sessions.{has_session, show}
+use Rattle.agent_model.specs.Sessions.{arrive, has_session}
 use Rattle.agent_model.specs.Isolation.{printed}
-use Rattle.agent_model.specs.Lines.{Places, Starter, User, Page, opener_of, placed}
-use Rattle.one_store.specs.WholeWorld.{whole_world}
-use Rattle.one_store.proofs.PlacedLemmas.{placed_by_tabs}
-use Rattle.one_store.proofs.WorldLoadLemmas.{show_placed}
-use Rattle.one_store.proofs.WorldLemmas.{told_at, told_nowhere}
+use Rattle.agent_model.specs.Lines.{Places, Starter, Page, is_same_site, opener_of, placed, site_at}
 use Rattle.one_store.specs.Store as model
-use Rattle.one_store.specs.Store.{copied_at}
-use Rattle.one_store.proofs.WorldOpenLemmas.{no_opener_makes, open_makes, taken_makes}
-use Rattle.agent_core.specs.AgentState.{AgentState, IsStanding, held_in, places_in, world_of}
+use Rattle.one_store.specs.Store.{Step, copied_at, done_with, refuses, store_step}
+use Rattle.agent_core.specs.AgentState.{AgentState, IsStanding, cells_in, held_in, places_in}
 use Rattle.agent_core.specs.Lines.{Runs, copied_under, is_there, with_copies}
+use Rattle.agent_core.specs.Requests.{starter_in}
 use Rattle.agent_core.proofs.LiveLemmas.{site_found, site_of}
-use Rattle.agent_model.specs.Done.{no_shared_cells}
 use Rattle.agent_core.proofs.OwnedLemmas.{AreCopies, copies_by, owned_shown}
-use Rattle.agent_core.proofs.RunsLemmas.{replaced}
-use Rattle.agent_core.proofs.StandingLemmas.{closed_is, nowhere_is, place_is, runs_done, runs_refused, stands, tab_absent, tab_there, world_is}
+use Rattle.agent_core.proofs.RunsLemmas.{page_is, replaced}
+use Rattle.agent_core.proofs.StandingLemmas.{closed_is, nowhere_is, place_is, runs_done, runs_refused, stands_after, store_is, store_of, tab_absent, tab_there}
 
 -- the opener whose session areas are copied
 abbrev pub copied_from : Bool → Option ℕ → Option ℕ
@@ -53,12 +51,12 @@ same_copies (Some from) false number tabs held = under (top_site (frames_by (tab
 
 module _ (old : AgentState) (standing : IsStanding old) where
   -- the opener is there, and so who starts the load
-  pub starter_is : (opener : Option ℕ) → is_there opener old.tabs ≡ true → (starter : Starter) × (opener_of opener (places_in old.tabs) ≡ Some starter)
-  starter_is None there = (User, refl)
+  pub starter_is : (opener : Option ℕ) → is_there opener old.tabs ≡ true → opener_of opener (places_in old.tabs) ≡ Some (starter_in opener old.tabs)
+  starter_is None there = refl
   starter_is (Some opener) there =
       let tab = tab_there opener old.tabs there in
       let place = place_is old opener standing tab.0 tab.1 in
-      (Page place.0, ap (option_map Page) place.1)
+      ap (option_map Page) place.1 ∙ ap Some (sym (page_is old standing opener tab.0 tab.1 place.0 place.1))
 
   no_starter : (opener : Option ℕ) → is_there opener old.tabs ≡ false → opener_of opener (places_in old.tabs) ≡ None
   no_starter None there = cc
@@ -68,57 +66,71 @@ module _ (old : AgentState) (standing : IsStanding old) where
   pub fresh_is : (number : ℕ) → is_open number old.tabs ≡ false → has_session number (held_in old) ≡ false
   fresh_is number free = standing.owned number (closed_is old number (tab_absent number old.tabs free))
 
-  module _ (number : ℕ) (url : PlainAddress) (opener : Option ℕ) (noopener : Bool) where
-    abbrev line : Method → PlainAction
-    line method = Open number url opener noopener method
+  module _ (number : ℕ) (url : PlainAddress) (opener : Option ℕ) (noopener : Bool) (method : Method) (head : List HeadField) where
+    abbrev line : PlainAction
+    line = Open number url opener noopener method head
+
+    abbrev places : Places
+    places = places_in old.tabs
+
+    -- what is held when the tab arrives
+    abbrev copied : Holdings
+    copied = model.with_copies places number opener noopener (held_in old)
+
+    -- the line, by who starts it and where the tab is
+    abbrev opens : Option Starter → Option PlainSite → Step
+    opens starter taken = model.opened old.rules (store_of old) line number url method head copied starter taken
 
     -- ---- refused
 
-    pub runs_unopened : (method : Method) → is_there opener old.tabs ≡ false → (reply : Reply) → reply_of reply ≡ printed (told_nowhere (line method) (Plain (codes "no-tab"))) → Runs (line method) old old (Ok reply)
-    unfolding world_of
-    runs_unopened method missing reply replies =
-        runs_refused (line method) old reply (told_nowhere (line method) (Plain (codes "no-tab")))
-        (no_opener_makes old.rules old.now (places_in old.tabs) no_shared_cells (held_in old) number url opener noopener method (no_starter opener missing)) replies
+    pub runs_unopened : is_there opener old.tabs ≡ false → (reply : Reply) → reply_of reply ≡ record { name = action_name line; site = None; body = Plain (codes "no-tab") } → Runs line old old (Ok reply)
+    runs_unopened missing reply replies =
+        runs_refused line old standing (Plain (codes "no-tab")) (ap (λ starter. opens starter (site_at number places)) (no_starter opener missing)) reply replies
 
-    pub runs_taken : (method : Method) → is_there opener old.tabs ≡ true → is_open number old.tabs ≡ true
-        → (reply : Reply) → reply_of reply ≡ printed (told_nowhere (line method) (Plain (codes "tab-exists"))) → Runs (line method) old old (Ok reply)
-    unfolding world_of
-    runs_taken method there taken reply replies =
-        let starter = starter_is opener there in
+    pub runs_taken : is_there opener old.tabs ≡ true → is_open number old.tabs ≡ true
+        → (reply : Reply) → reply_of reply ≡ record { name = action_name line; site = None; body = Plain (codes "tab-exists") } → Runs line old old (Ok reply)
+    runs_taken there taken reply replies =
         let tab = tab_there number old.tabs taken in
         let place = place_is old number standing tab.0 tab.1 in
-        runs_refused (line method) old reply (told_nowhere (line method) (Plain (codes "tab-exists")))
-        (taken_makes old.rules old.now (places_in old.tabs) no_shared_cells (held_in old) number url opener noopener method starter.0 place.0 starter.1 place.1) replies
+        runs_refused line old standing (Plain (codes "tab-exists")) (λ i. opens (starter_is opener there i) (place.1 i)) reply replies
 
     -- ---- a tab is opened
 
-    module _ (tabs : List PlainTab) (entries : Entries) (there : places_in tabs ≡ placed number (site_of_address old.rules url) (places_in old.tabs))
-        (has : held_in (replaced old tabs entries) ≡ (show old.rules number url (with_copies (copied_from noopener opener) number old.tabs (held_in old)))) where
-      -- what is held when the tab arrives
-      abbrev copied : Holdings
-      copied = model.with_copies (places_in old.tabs) number opener noopener (held_in old)
+    module _ (opener_there : is_there opener old.tabs ≡ true) (free : is_open number old.tabs ≡ false) where
+      abbrev target : PlainSite
+      target = site_of_address old.rules url
 
-      abbrev to : Places
-      to = placed number (site_of_address old.rules url) (places_in old.tabs)
+      -- what the load does with what is held
+      abbrev arrived : Holdings → Done
+      arrived held = arrive old.rules old.now target number url method (is_same_site (starter_in opener old.tabs) target) head (cells_in old) held
 
-      arrived : held_in (replaced old tabs entries) ≡ (show old.rules number url copied)
-      arrived = has ∙ ap (λ held. (show old.rules number url held)) (same_copies opener noopener number old.tabs (held_in old))
+      -- what is held then, as the agent finds it
+      abbrev own_copied : Holdings
+      own_copied = with_copies (copied_from noopener opener) number old.tabs (held_in old)
 
-      pub standing_opened : IsStanding (replaced old tabs entries)
-      standing_opened =
-          stands (replaced old tabs entries) to (show old.rules number url copied) there arrived standing.in_time
-          (show_placed old.rules (places_in old.tabs) number url copied (placed_by_tabs (places_in old.tabs) (held_in old) copied copies.tabs standing.placed_all))
-          (owned_shown old.rules number url (held_in old) copied standing.owned copies)
-        where
-          copies : AreCopies number (held_in old) copied
-          copies = copies_by (places_in old.tabs) number opener noopener (held_in old)
+      abbrev loads : Step
+      loads = done_with (store_of old) line target (placed number target places) (arrived own_copied)
 
-      pub runs_opened : (method : Method) → is_there opener old.tabs ≡ true → is_open number old.tabs ≡ false
-          → (reply : Reply) → reply_of reply ≡ printed (told_at (site_of_address old.rules url) (line method) (Load None [])) → Runs (line method) old (replaced old tabs entries) (Ok reply)
-      unfolding world_of
-      runs_opened method opener_there free reply replies =
-          let starter = starter_is opener opener_there in
-          runs_done (line method) old (replaced old tabs entries) refl reply (whole_world old.now to no_shared_cells (show old.rules number url copied))
-          (told_at (site_of_address old.rules url) (line method) (Load None []))
-          (open_makes old.rules old.now (places_in old.tabs) no_shared_cells (held_in old) number url opener noopener method starter.0 starter.1 (nowhere_is number old.tabs free))
-          (world_is (replaced old tabs entries) to (show old.rules number url copied) there arrived) replies
+      open_makes : store_step old.rules (store_of old) line ≡ loads
+      open_makes =
+          (λ i. opens (starter_is opener opener_there i) (nowhere_is number old.tabs free i))
+          ∙ ap (λ held. done_with (store_of old) line target (placed number target places) (arrived held)) (sym (same_copies opener noopener number old.tabs (held_in old)))
+
+      module _ (tabs : List PlainTab) (entries : Entries) (cookies : CookieEntries) (there : places_in tabs ≡ placed number target places)
+          (shared : cells_in (replaced old tabs entries cookies) ≡ (arrived own_copied).cells)
+          (has : held_in (replaced old tabs entries cookies) ≡ (arrived own_copied).held) where
+        abbrev new : AgentState
+        new = replaced old tabs entries cookies
+
+        pub standing_opened : IsStanding new
+        standing_opened =
+            stands_after line old new refl standing loads open_makes
+            (store_is new (placed number target places) loads.store.cells loads.store.held there shared has) standing.in_time
+            (owned_shown old.rules number url (held_in old) own_copied standing.owned copies)
+          where
+            copies : AreCopies number (held_in old) own_copied
+            copies = subst (AreCopies number (held_in old)) (sym (same_copies opener noopener number old.tabs (held_in old))) (copies_by places number opener noopener (held_in old))
+
+        pub runs_opened : (reply : Reply) → reply_of reply ≡ printed loads.reply → Runs line old new (Ok reply)
+        runs_opened reply replies =
+            runs_done line old new refl standing loads open_makes (store_is new (placed number target places) loads.store.cells loads.store.held there shared has) reply replies

@@ -1,5 +1,5 @@
 -- What a line makes of the agent: what it keeps afterwards, and that the line was run.
-use Rattle.std.proofs.Common.{◌≡◌, ℕ, Bool, List, [], Some, None, Ok, Err, refl, sym, ap, subst, ◌∙◌}
+use Rattle.std.proofs.Common.{◌≡◌, ℕ, Bool, true, false, cond, List, Option, Some, None, Ok, Err, refl, sym, ap, subst, ◌∙◌}
 use Rattle.std.specs.Prelude.{Result, pos}
 use Rattle.std.specs.Result.{IsErr}
 use Rattle.std.specs.FinMap as finite
@@ -7,41 +7,49 @@ use Rattle.agent_base.specs.declared.refusals.Label.{Label}
 use Rattle.agent_base.specs.declared.refusals.NoMemory.{NoMemory}
 use Rattle.origin_site.specs.Address.{PlainAddress}
 use Rattle.origin_site.specs.Site.{PlainSite, site_of_address}
+use Rattle.frame_tree.specs.Tree.{top_site}
+use Rattle.live_state.specs.Queues.{frames_by}
 use Rattle.live_state.specs.Tabs.{PlainTab, tab_at}
 use Rattle.web_storage.specs.Stored.{Entries}
+use Rattle.web_cookies.specs.Stored.{Entries as CookieEntries}
 use Rattle.reply_lines.specs.declared.reply.Reply.{Reply}
 use Rattle.script_lines.specs.declared.words.Method.{Method}
 use Rattle.reply_lines.specs.Plain.{reply_of}
-use Rattle.reply_lines.specs.Reply.{Cleared, Load, Now}
-use Rattle.script_lines.specs.Script.{PlainAction, DocumentAction, Tick, Close, Go, Evict, Act}
-use Rattle.agent_model.specs.Partition.{Holdings}
-use Rattle.agent_model.specs.Done.{Done, no_shared_cells, ok}
-use Rattle.agent_model.specs.Buckets.{evicted_count, without_evicted}
-use Rattle.agent_model.specs.Sessions.{close, show}
+use Rattle.reply_lines.specs.Reply.{PlainBody, Now}
+use Rattle.script_lines.specs.Script.{HeadField, PlainAction, DocumentAction, Tick, Close, Go, Evict, Act}
+use Rattle.agent_model.specs.Partition.{Holdings, tab_named}
+use Rattle.agent_model.specs.Done.{Done, answers, ok}
+use Rattle.agent_model.specs.Buckets.{evict, without_evicted}
+use Rattle.agent_model.specs.Sessions.{arrive, close}
 use Rattle.agent_model.specs.SiteStep.{act_in}
 use Rattle.agent_model.specs.Isolation.{printed}
-use Rattle.agent_model.specs.Lines.{Places, placed, site_at}
-use Rattle.agent_model.specs.Rest.{clock_after}
-use Rattle.agent_model.proofs.ApartLemmas.{act_apart}
-use Rattle.one_store.specs.WholeWorld.{whole_world}
-use Rattle.one_store.proofs.ActPlacedLemmas.{act_placed}
-use Rattle.one_store.proofs.WorldLemmas.{LineMakes, told_at, told_nowhere}
-use Rattle.one_store.proofs.WorldActLemmas.{act_makes}
-use Rattle.one_store.proofs.WorldCloseLemmas.{close_makes, close_placed, evict_makes, evict_placed, tick_makes}
-use Rattle.one_store.proofs.WorldLoadLemmas.{go_makes, show_placed}
-use Rattle.agent_core.specs.AgentState.{AgentState, IsStanding, held_in, places_in, world_of}
+use Rattle.agent_model.specs.Lines.{Places, Page, User, goer_of, is_same_site, placed, site_at}
+use Rattle.agent_model.specs.Rest.{clock_after, last_moment}
+use Rattle.agent_core.specs.AgentState.{AgentState, IsStanding, cells_in, held_in, places_in, world_of}
+use Rattle.one_store.specs.Store.{Step, acted, closed, done_with, gone, null_reply, site_reply, store_step}
 use Rattle.agent_core.specs.Lines.{Runs}
+use Rattle.agent_core.specs.Requests.{starter_by, starter_in}
 use Rattle.agent_core.proofs.OwnedLemmas.{no_copies, owned_shown, owned_closed, owned_evicted}
 use Rattle.agent_core.proofs.ActOwnedLemmas.{owned_acted}
-use Rattle.agent_core.proofs.StandingLemmas.{HasEvent, open_is, place_is, runs_done, runs_wanting, stands, world_is}
+use Rattle.agent_core.proofs.StandingLemmas.{HasEvent, open_is, placed_after, runs_done, runs_wanting, stands, stands_after, store_is, store_of, top_is, world_is}
 
--- the agent with other tabs and another storage
-abbrev pub replaced : AgentState → List PlainTab → Entries → AgentState
-replaced state tabs entries = record state { tabs = tabs; entries = entries }
+-- the agent with other tabs, another storage and other cookies
+abbrev pub replaced : AgentState → List PlainTab → Entries → CookieEntries → AgentState
+replaced state tabs entries cookies = record state { tabs = tabs; entries = entries; cookies = cookies }
 
-module _ (old : AgentState) (standing : IsStanding old) (tabs : List PlainTab) (entries : Entries) where
+-- a page of an open tab is one of the site that the tab is at
+pub page_is : (old : AgentState) → IsStanding old → (number : ℕ) (tab : PlainTab) → tab_at number old.tabs ≡ Some tab
+    → (site : PlainSite) → site_at number (places_in old.tabs) ≡ Some site → starter_in (Some number) old.tabs ≡ Page site
+page_is old standing number tab found site place =
+    ap starter_by (ap (λ t. top_site (frames_by t)) found ∙ top_is old number standing tab found ∙ place)
+
+-- who starts a load that a page in this tab starts, or the user
+abbrev pub by_tab : Bool → ℕ → Option ℕ
+by_tab by_page number = cond by_page (Some number) None
+
+module _ (old : AgentState) (standing : IsStanding old) (tabs : List PlainTab) (entries : Entries) (cookies : CookieEntries) where
   abbrev new : AgentState
-  new = replaced old tabs entries
+  new = replaced old tabs entries cookies
 
   -- what is held before, and where the tabs are
   abbrev before : Holdings
@@ -52,89 +60,112 @@ module _ (old : AgentState) (standing : IsStanding old) (tabs : List PlainTab) (
 
   -- ---- memory was wanting
 
-  module _ (there : places_in tabs ≡ places) (has : held_in new ≡ before) where
+  module _ (there : places_in tabs ≡ places) (shared : cells_in new ≡ cells_in old) (has : held_in new ≡ before) where
     pub standing_stays : IsStanding new
-    standing_stays = stands new places before there has standing.in_time standing.placed_all standing.owned
+    standing_stays = stands new places (cells_in old) before there shared has standing.in_time standing.placed_all standing.owned
 
     pub runs_stays : (action : PlainAction) → HasEvent action places → (result : Result Reply NoMemory) → IsErr result → Runs action old new result
     unfolding world_of
     runs_stays action event (Ok reply) wanting = cc
-    runs_stays action event (Err wanting) is = runs_wanting action old new refl wanting (world_is new places before there has) event
+    runs_stays action event (Err wanting) is = runs_wanting action old new refl wanting (world_is new places (cells_in old) before there shared has) event
 
   -- ---- an action in an open tab
 
-  module _ (at : Label) (action : DocumentAction) (tab : PlainTab) (found : tab_at at.tab old.tabs ≡ Some tab) where
+  module _ (at : Label) (action : DocumentAction) (tab : PlainTab) (site : PlainSite) (found : tab_at at.tab old.tabs ≡ Some tab) (place : site_at at.tab places ≡ Some site) where
     abbrev done : Done
-    done = act_in old.rules old.now at action tab no_shared_cells before
+    done = act_in old.rules old.now site at action tab (cells_in old) before
 
-    module _ (there : places_in tabs ≡ places) (has : held_in new ≡ done.held) where
+    abbrev acts : Step
+    acts = done_with (store_of old) (Act at action) site places done
+
+    act_makes : store_step old.rules (store_of old) (Act at action) ≡ acts
+    act_makes = λ i. acted old.rules (store_of old) (Act at action) at action (place i) (open_is old at.tab tab found i)
+
+    module _ (there : places_in tabs ≡ places) (shared : cells_in new ≡ done.cells) (has : held_in new ≡ done.held) where
       pub standing_acted : IsStanding new
       standing_acted =
-          let open_tab = open_is old at.tab tab found in
-          stands new places done.held there has standing.in_time (act_placed places no_shared_cells before standing.placed_all at tab open_tab old.rules old.now action)
-          (owned_acted old.rules old.now places no_shared_cells before standing.placed_all standing.owned at action tab open_tab)
+          let same = store_is new places done.cells done.held there shared has in
+          stands_after (Act at action) old new refl standing acts act_makes same standing.in_time
+          (owned_acted old.rules old.now site places (cells_in old) before standing.placed_all standing.owned at action tab (open_is old at.tab tab found)
+          (placed_after (Act at action) old new refl standing acts act_makes same))
 
-      pub runs_acted : (line : PlainAction) → line ≡ Act at action → (site : PlainSite) → site_at at.tab places ≡ Some site
-          → (reply : Reply) → reply_of reply ≡ printed (told_at site line done.body) → Runs line old new (Ok reply)
-      unfolding world_of
-      runs_acted line is site place reply replies =
+      pub runs_acted : (line : PlainAction) → line ≡ Act at action → (reply : Reply) → reply_of reply ≡ printed (site_reply site line done.body) → Runs line old new (Ok reply)
+      runs_acted line is reply replies =
           subst (λ line. Runs line old new (Ok reply)) (sym is)
-          (runs_done (Act at action) old new refl reply (whole_world old.now places no_shared_cells done.held) (told_at site (Act at action) done.body)
-          (subst (λ (d : Done). LineMakes old.rules (world_of old) (Act at action) (whole_world old.now places d.cells d.held) (told_at site (Act at action) d.body))
-          (act_apart old.rules old.now at action tab no_shared_cells before)
-          (act_makes old.rules old.now places no_shared_cells before standing.placed_all at action tab (open_is old at.tab tab found) site place))
-          (world_is new places done.held there has) (replies ∙ ap (λ line. printed (told_at site line done.body)) is))
+          (runs_done (Act at action) old new refl standing acts act_makes (store_is new places done.cells done.held there shared has) reply
+          (replies ∙ ap (λ line. printed (site_reply site line done.body)) is))
 
   -- ---- a closing
 
-  module _ (number : ℕ) (there : places_in tabs ≡ finite.remove places number) (has : held_in new ≡ close number before) where
+  module _ (number : ℕ) (site : PlainSite) (place : site_at number places ≡ Some site) (there : places_in tabs ≡ finite.remove places number)
+      (shared : cells_in new ≡ cells_in old) (has : held_in new ≡ close number before) where
+    abbrev closes : Step
+    closes = done_with (store_of old) (Close number) site (finite.remove places number) (answers ok (cells_in old) (close number before))
+
+    close_makes : store_step old.rules (store_of old) (Close number) ≡ closes
+    close_makes = ap (closed (store_of old) (Close number) number) place
+
     pub standing_closed : IsStanding new
     standing_closed =
-        stands new (finite.remove places number) (close number before) there has standing.in_time (close_placed places before standing.placed_all number)
-        (owned_closed number before standing.owned)
+        stands_after (Close number) old new refl standing closes close_makes (store_is new (finite.remove places number) (cells_in old) (close number before) there shared has)
+        standing.in_time (owned_closed number before standing.owned)
 
-    pub runs_closed : (site : PlainSite) → site_at number places ≡ Some site
-        → (reply : Reply) → reply_of reply ≡ printed (told_at site (Close number) ok) → Runs (Close number) old new (Ok reply)
-    unfolding world_of
-    runs_closed site place reply replies =
-        runs_done (Close number) old new refl reply (whole_world old.now (finite.remove places number) no_shared_cells (close number before)) (told_at site (Close number) ok)
-        (close_makes places before standing.placed_all number old.rules old.now no_shared_cells site place)
-        (world_is new (finite.remove places number) (close number before) there has) replies
+    pub runs_closed : (reply : Reply) → reply_of reply ≡ printed (site_reply site (Close number) ok) → Runs (Close number) old new (Ok reply)
+    runs_closed reply replies =
+        runs_done (Close number) old new refl standing closes close_makes (store_is new (finite.remove places number) (cells_in old) (close number before) there shared has) reply replies
 
   -- ---- a tab goes to an address
 
-  module _ (number : ℕ) (url : PlainAddress) (there : places_in tabs ≡ placed number (site_of_address old.rules url) places)
-      (has : held_in new ≡ (show old.rules number url before)) where
-    pub standing_gone : IsStanding new
-    standing_gone =
-        stands new (placed number (site_of_address old.rules url) places) (show old.rules number url before) there has standing.in_time
-        (show_placed old.rules places number url before standing.placed_all)
-        (owned_shown old.rules number url before before standing.owned (no_copies number before))
+  module _ (number : ℕ) (url : PlainAddress) (by_page : Bool) (method : Method) (head : List HeadField) (tab : PlainTab) (found : tab_at number old.tabs ≡ Some tab)
+      (site : PlainSite) (place : site_at number places ≡ Some site) where
+    abbrev target : PlainSite
+    target = site_of_address old.rules url
 
-    pub runs_gone : (by_page : Bool) (method : Method) (tab : PlainTab) → tab_at number old.tabs ≡ Some tab
-        → (reply : Reply) → reply_of reply ≡ printed (told_at (site_of_address old.rules url) (Go number url by_page method) (Load None [])) → Runs (Go number url by_page method) old new (Ok reply)
-    unfolding world_of
-    runs_gone by_page method tab found reply replies =
-        let target = site_of_address old.rules url in
-        let place = place_is old number standing tab found in
-        runs_done (Go number url by_page method) old new refl reply (whole_world old.now (placed number target places) no_shared_cells (show old.rules number url before))
-        (told_at target (Go number url by_page method) (Load None [])) (go_makes old.rules old.now places no_shared_cells before number url by_page method place.0 place.1)
-        (world_is new (placed number target places) (show old.rules number url before) there has) replies
+    abbrev line : PlainAction
+    line = Go number url by_page method head
+
+    -- what the load does, by who starts it
+    abbrev arrived : Bool → Done
+    arrived same_site = arrive old.rules old.now target number url method same_site head (cells_in old) before
+
+    starter_is : (by_page : Bool) → goer_of by_page site ≡ starter_in (by_tab by_page number) old.tabs
+    starter_is false = refl
+    starter_is true = sym (page_is old standing number tab found site place)
+
+    abbrev loads : Step
+    loads = done_with (store_of old) line target (placed number target places) (arrived (is_same_site (starter_in (by_tab by_page number) old.tabs) target))
+
+    go_makes : store_step old.rules (store_of old) line ≡ loads
+    go_makes =
+        ap (gone old.rules (store_of old) line number url by_page method head) place
+        ∙ ap (λ starter. done_with (store_of old) line target (placed number target places) (arrived (is_same_site starter target))) (starter_is by_page)
+
+    module _ (there : places_in tabs ≡ placed number target places) (shared : cells_in new ≡ (arrived (is_same_site (starter_in (by_tab by_page number) old.tabs) target)).cells)
+        (has : held_in new ≡ (arrived (is_same_site (starter_in (by_tab by_page number) old.tabs) target)).held) where
+      pub standing_gone : IsStanding new
+      standing_gone =
+          stands_after line old new refl standing loads go_makes
+          (store_is new (placed number target places) loads.store.cells loads.store.held there shared has) standing.in_time
+          (owned_shown old.rules number url before before standing.owned (no_copies number before))
+
+      pub runs_gone : (reply : Reply) → reply_of reply ≡ printed loads.reply → Runs line old new (Ok reply)
+      runs_gone reply replies =
+          runs_done line old new refl standing loads go_makes (store_is new (placed number target places) loads.store.cells loads.store.held there shared has) reply replies
 
   -- ---- an eviction
 
-  module _ (site : PlainSite) (there : places_in tabs ≡ places) (has : held_in new ≡ (without_evicted site before)) where
+  module _ (site : PlainSite) (there : places_in tabs ≡ places) (shared : cells_in new ≡ cells_in old) (has : held_in new ≡ without_evicted site before) where
+    abbrev evicts : Step
+    evicts = done_with (store_of old) (Evict site) site places (evict site (cells_in old) before)
+
     pub standing_evicted : IsStanding new
     standing_evicted =
-        stands new places (without_evicted site before) there has standing.in_time
-        (evict_placed old.rules old.now places no_shared_cells before standing.placed_all site) (owned_evicted site before standing.owned)
+        stands_after (Evict site) old new refl standing evicts refl (store_is new places (cells_in old) (without_evicted site before) there shared has) standing.in_time
+        (owned_evicted site before standing.owned)
 
-    pub runs_evicted : (reply : Reply) → reply_of reply ≡ printed (told_at site (Evict site) (Cleared (evicted_count site before))) → Runs (Evict site) old new (Ok reply)
-    unfolding world_of
+    pub runs_evicted : (reply : Reply) → reply_of reply ≡ printed evicts.reply → Runs (Evict site) old new (Ok reply)
     runs_evicted reply replies =
-        runs_done (Evict site) old new refl reply (whole_world old.now places no_shared_cells (without_evicted site before))
-        (told_at site (Evict site) (Cleared (evicted_count site before))) (evict_makes old.rules old.now places no_shared_cells before site)
-        (world_is new places (without_evicted site before) there has) replies
+        runs_done (Evict site) old new refl standing evicts refl (store_is new places (cells_in old) (without_evicted site before) there shared has) reply replies
 
 -- ---- memory was wanting before anything was done
 
@@ -144,12 +175,12 @@ runs_unchanged old action event (Err wanting) is = runs_wanting action old old r
 
 -- ---- a tick
 
-module _ (old : AgentState) (s : ℕ) where
+module _ (old : AgentState) (standing : IsStanding old) (s : ℕ) where
   abbrev ticked : AgentState
   ticked = record old { now = clock_after old.now s }
 
-  pub runs_ticked : (reply : Reply) → reply_of reply ≡ printed (told_nowhere (Tick s) (Now (pos (clock_after old.now s)))) → Runs (Tick s) old ticked (Ok reply)
-  unfolding world_of
-  runs_ticked reply replies =
-      runs_done (Tick s) old ticked refl reply (world_of ticked) (told_nowhere (Tick s) (Now (pos (clock_after old.now s))))
-      (tick_makes old.rules old.now (places_in old.tabs) no_shared_cells (held_in old) s) refl replies
+  abbrev ticks : Step
+  ticks = record { store = store_of ticked; reply = null_reply (Tick s) (Now (pos (clock_after old.now s))) }
+
+  pub runs_ticked : (reply : Reply) → reply_of reply ≡ printed ticks.reply → Runs (Tick s) old ticked (Ok reply)
+  runs_ticked reply replies = runs_done (Tick s) old ticked refl standing ticks refl refl reply replies

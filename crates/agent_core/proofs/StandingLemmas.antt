@@ -1,18 +1,17 @@
--- The world that the agent stands for, and what it keeps, from where its tabs are and what it holds.
+-- The world that the agent stands for, and what it keeps, as a store of all sites that a line makes another.
 use Rattle.std.proofs.Common.{◌≡◌, ◌≤◌, ℕ, true, false, List, Option, Some, None, Ok, Err, refl, sym, ap, subst, ◌∙◌}
 use Rattle.std.specs.Prelude.{Bool, Result, codes, is_some, option_map}
-use Rattle.unwinding.specs.World.{SiteReply}
 use Rattle.agent_base.specs.declared.refusals.NoMemory.{NoMemory}
 use Rattle.origin_site.specs.Site.{PlainSite}
+use Rattle.frame_tree.specs.Tree.{top_site}
 use Rattle.live_state.specs.Tabs.{PlainTab, is_open, tab_at}
 use Rattle.web_storage.specs.Stored.{held_with}
 use Rattle.reply_lines.specs.declared.reply.Reply.{Reply}
 use Rattle.reply_lines.specs.Plain.{reply_of}
 use Rattle.reply_lines.specs.Reply.{PlainBody, Plain}
-use Rattle.script_lines.specs.Script.{PlainAction, Tick, Open, Close, Go, Evict, Act}
+use Rattle.script_lines.specs.Script.{HeadField, PlainAction, Tick, Open, Close, Go, Evict, Act}
 use Rattle.agent_model.specs.Partition.{Holdings, tab_named}
-use Rattle.agent_model.specs.Done.{no_shared_cells}
-use Rattle.agent_model.specs.SiteEvent.{Answer}
+use Rattle.agent_model.specs.Done.{SharedCells}
 use Rattle.agent_model.specs.ActionNames.{action_name}
 use Rattle.agent_model.specs.Isolation.{printed}
 use Rattle.suffix_list.specs.Suffix.{Rule}
@@ -22,16 +21,27 @@ use Rattle.agent_model.specs.SiteEvent.{SiteEvent, Acts, Closes}
 use Rattle.agent_model.specs.Lines.{AgentWorld, Places, Starter, going, main_event, occurs, opener_of, opening, site_at}
 use Rattle.agent_model.specs.Rest.{last_moment}
 use Rattle.one_store.specs.WholeWorld.{IsPlaced, whole_world}
-use Rattle.one_store.proofs.PlacedLemmas.{open_tab, site_of_tab}
-use Rattle.one_store.proofs.WorldLemmas.{LineMakes, told_at, told_nowhere}
-use Rattle.one_store.proofs.WorldActLemmas.{no_tab_acts, no_tab_closes, no_tab_goes}
-use Rattle.agent_core.specs.AgentState.{AgentState, AreOwned, IsStanding, held_in, places_in, world_of}
+use Rattle.one_store.specs.Store.{Step, Store, acted, closed, gone, refuses, site_reply, store_step}
+use Rattle.one_store.specs.Refinement.{IsStep}
+use Rattle.one_store.specs.Refinement as refinement
+use Rattle.one_store.proofs.PlacedLemmas.{at_its_top, open_tab, site_of_tab}
+use Rattle.one_store.proofs.RefinementLemmas.{are_steps}
+use Rattle.agent_core.specs.AgentState.{AgentState, AreOwned, IsStanding, cells_in, held_in, places_in, world_of}
 use Rattle.agent_core.specs.Lines.{Runs}
 use Rattle.agent_core.proofs.LiveLemmas.{site_found, site_of, tab_found}
 
--- ---- what it holds, told otherwise
+-- ---- the store
 
-module _ (state : AgentState) (places : Places) (held : Holdings) (there : places_in state.tabs ≡ places) (has : held_in state ≡ held) where
+-- what the agent has, as one store of all sites
+abbrev pub store_of : AgentState → Store
+store_of state = record { now = state.now; places = places_in state.tabs; cells = cells_in state; held = held_in state }
+
+-- what it holds, told otherwise
+module _ (state : AgentState) (places : Places) (cells : SharedCells) (held : Holdings) (there : places_in state.tabs ≡ places)
+    (shared : cells_in state ≡ cells) (has : held_in state ≡ held) where
+  pub store_is : store_of state ≡ record { now = state.now; places = places; cells = cells; held = held }
+  store_is = λ i. record { now = state.now; places = there i; cells = shared i; held = has i }
+
   -- what it keeps
   pub stands : state.now ≤ last_moment → IsPlaced places held → AreOwned held → IsStanding state
   stands in_time placed_all owned =
@@ -42,9 +52,9 @@ module _ (state : AgentState) (places : Places) (held : Holdings) (there : place
       }
 
   -- and its world
-  pub world_is : world_of state ≡ whole_world state.now places no_shared_cells held
+  pub world_is : world_of state ≡ whole_world state.now places cells held
   unfolding world_of
-  world_is = λ i. whole_world state.now (there i) no_shared_cells (has i)
+  world_is = λ i. whole_world state.now (there i) (shared i) (has i)
 
 -- ---- the tabs
 
@@ -79,6 +89,10 @@ module _ (state : AgentState) (number : ℕ) where
   pub closed_is : tab_at number state.tabs ≡ None → tab_named number (held_in state) ≡ None
   closed_is is = tab_is ∙ is
 
+  -- it is at the site of its top document
+  pub top_is : IsStanding state → (tab : PlainTab) → tab_at number state.tabs ≡ Some tab → top_site tab.frames ≡ site_at number (places_in state.tabs)
+  top_is standing tab is = (at_its_top (places_in state.tabs) (held_in state) standing.placed_all number tab (open_is tab is)).1
+
   -- it is at a site
   pub place_is : IsStanding state → (tab : PlainTab) → tab_at number state.tabs ≡ Some tab → (site : PlainSite) × (site_at number (places_in state.tabs) ≡ Some site)
   place_is standing tab is = site_of_tab (places_in state.tabs) (held_in state) standing.placed_all number tab (open_is tab is)
@@ -94,9 +108,9 @@ module _ (state : AgentState) (number : ℕ) where
 -- what a line finds that has a main event
 abbrev pub HasEvent : PlainAction → Places → Type 0
 HasEvent (Tick s) places = ⊥
-HasEvent (Open tab url opener noopener method) places = (is_some (opener_of opener places) ≡ true) × (site_at tab places ≡ None)
+HasEvent (Open tab url opener noopener method head) places = (is_some (opener_of opener places) ≡ true) × (site_at tab places ≡ None)
 HasEvent (Close tab) places = is_some (site_at tab places) ≡ true
-HasEvent (Go tab url by_page method) places = is_some (site_at tab places) ≡ true
+HasEvent (Go tab url by_page method head) places = is_some (site_at tab places) ≡ true
 HasEvent (Evict site) places = Unit {0}
 HasEvent (Act at action) places = is_some (site_at at.tab places) ≡ true
 
@@ -104,26 +118,26 @@ some_occurs : (world : AgentWorld) (event : SiteEvent) (here : Option PlainSite)
 some_occurs world event None there none = cc
 some_occurs world event (Some site) there none = cc
 
-some_opens : (rules : List Rule) (world : AgentWorld) (tab : ℕ) (url : PlainAddress) (method : Method) (starter : Option Starter) (here : Option PlainSite)
-    → is_some starter ≡ true → here ≡ None → opening rules world tab url method starter here ≡ None → ⊥
-some_opens rules world tab url method None here there free none = cc
-some_opens rules world tab url method (Some starter) None there free none = cc
-some_opens rules world tab url method (Some starter) (Some site) there free none = cc
+some_opens : (rules : List Rule) (world : AgentWorld) (tab : ℕ) (url : PlainAddress) (method : Method) (head : List HeadField) (starter : Option Starter) (here : Option PlainSite)
+    → is_some starter ≡ true → here ≡ None → opening rules world tab url method head starter here ≡ None → ⊥
+some_opens rules world tab url method head None here there free none = cc
+some_opens rules world tab url method head (Some starter) None there free none = cc
+some_opens rules world tab url method head (Some starter) (Some site) there free none = cc
 
-some_goes : (rules : List Rule) (world : AgentWorld) (tab : ℕ) (url : PlainAddress) (by_page : Bool) (method : Method) (here : Option PlainSite)
-    → is_some here ≡ true → going rules world tab url by_page method here ≡ None → ⊥
-some_goes rules world tab url by_page method None there none = cc
-some_goes rules world tab url by_page method (Some site) there none = cc
+some_goes : (rules : List Rule) (world : AgentWorld) (tab : ℕ) (url : PlainAddress) (by_page : Bool) (method : Method) (head : List HeadField) (here : Option PlainSite)
+    → is_some here ≡ true → going rules world tab url by_page method head here ≡ None → ⊥
+some_goes rules world tab url by_page method head None there none = cc
+some_goes rules world tab url by_page method head (Some site) there none = cc
 
 -- it is not refused
 pub not_refused : (state : AgentState) (action : PlainAction) → HasEvent action (places_in state.tabs) → main_event state.rules (world_of state) action ≡ None → ⊥
 unfolding main_event world_of whole_world
 not_refused state (Tick s) event none = absurd event
-not_refused state (Open tab url opener noopener method) event none =
-    some_opens state.rules (world_of state) tab url method (opener_of opener (places_in state.tabs)) (site_at tab (places_in state.tabs)) event.0 event.1 none
+not_refused state (Open tab url opener noopener method head) event none =
+    some_opens state.rules (world_of state) tab url method head (opener_of opener (places_in state.tabs)) (site_at tab (places_in state.tabs)) event.0 event.1 none
 not_refused state (Close tab) event none = some_occurs (world_of state) (Closes tab) (site_at tab (places_in state.tabs)) event none
-not_refused state (Go tab url by_page method) event none =
-    some_goes state.rules (world_of state) tab url by_page method (site_at tab (places_in state.tabs)) event none
+not_refused state (Go tab url by_page method head) event none =
+    some_goes state.rules (world_of state) tab url by_page method head (site_at tab (places_in state.tabs)) event none
 not_refused state (Evict site) event none = cc
 not_refused state (Act at action) event none = some_occurs (world_of state) (Acts at action) (site_at at.tab (places_in state.tabs)) event none
 
@@ -132,7 +146,7 @@ not_refused state (Act at action) event none = some_occurs (world_of state) (Act
 -- a reply of a site, whose site and answer are told otherwise
 pub reply_told : (action : PlainAction) (reply : Reply) {here there : PlainSite} {answer body : PlainBody}
     → reply_of reply ≡ record { name = action_name action; site = Some here; body = answer } → here ≡ there → answer ≡ body
-    → reply_of reply ≡ printed (told_at there action body)
+    → reply_of reply ≡ printed (site_reply there action body)
 reply_told action reply is same says = is ∙ λ i. record { name = action_name action; site = Some (same i); body = says i }
 
 -- the agent's state, told otherwise
@@ -143,11 +157,28 @@ pub runs_still : {action : PlainAction} {old seen : AgentState} {result : Result
 runs_still {action} {result = result} same runs = subst (λ o. Runs action o o result) same runs
 
 module _ (action : PlainAction) (old new : AgentState) (rules : new.rules ≡ old.rules) where
-  -- the world is the next one
-  pub runs_done : (reply : Reply) (after : AgentWorld) (told : SiteReply PlainSite Answer) → LineMakes old.rules (world_of old) action after told
-      → world_of new ≡ after → reply_of reply ≡ printed told → Runs action old new (Ok reply)
-  runs_done reply after told makes world is =
-      record { reply = is ∙ ap printed (sym makes.reply); world = world ∙ sym makes.world; rules = rules; unchanged = tt; refused = λ none. refl }
+  -- what the line makes of the store is what the agent has
+  module _ (standing : IsStanding old) (step : Step) (makes : store_step old.rules (store_of old) action ≡ step) (same : store_of new ≡ step.store) where
+    made : IsStep old.rules (store_of old) action step
+    made = subst (IsStep old.rules (store_of old) action) makes (are_steps old.rules (store_of old) action standing.placed_all)
+
+    -- so each tab is where its top document is
+    pub placed_after : IsPlaced step.store.places step.store.held
+    placed_after = made.places
+
+    pub stands_after : new.now ≤ last_moment → AreOwned step.store.held → IsStanding new
+    stands_after in_time owned =
+        record {
+          in_time = in_time;
+          placed_all = subst (λ (s : Store). IsPlaced s.places s.held) (sym same) made.places;
+          owned = subst (λ (s : Store). AreOwned s.held) (sym same) owned;
+        }
+
+    -- and the world is the next one
+    pub runs_done : (reply : Reply) → reply_of reply ≡ printed step.reply → Runs action old new (Ok reply)
+    unfolding world_of
+    runs_done reply is =
+        record { reply = is ∙ ap printed (sym made.reply); world = ap refinement.world_of same ∙ sym made.world; rules = rules; unchanged = tt; refused = λ none. refl }
 
   -- memory was wanting
   pub runs_wanting : (wanting : NoMemory) → world_of new ≡ world_of old → HasEvent action (places_in old.tabs) → Runs action old new (Err wanting)
@@ -159,28 +190,29 @@ module _ (action : PlainAction) (old new : AgentState) (rules : new.rules ≡ ol
 -- a line needs a tab that is nowhere
 abbrev pub NeedsTab : PlainAction → Places → Type 0
 NeedsTab (Tick s) places = ⊥
-NeedsTab (Open tab url opener noopener method) places = ⊥
+NeedsTab (Open tab url opener noopener method head) places = ⊥
 NeedsTab (Close tab) places = site_at tab places ≡ None
-NeedsTab (Go tab url by_page method) places = site_at tab places ≡ None
+NeedsTab (Go tab url by_page method head) places = site_at tab places ≡ None
 NeedsTab (Evict site) places = ⊥
 NeedsTab (Act at action) places = site_at at.tab places ≡ None
 
 no_tab_makes : (state : AgentState) (action : PlainAction) → NeedsTab action (places_in state.tabs)
-    → LineMakes state.rules (world_of state) action (world_of state) (told_nowhere action (Plain (codes "no-tab")))
-unfolding world_of
+    → store_step state.rules (store_of state) action ≡ refuses (store_of state) action (Plain (codes "no-tab"))
 no_tab_makes state (Tick s) needs = absurd needs
-no_tab_makes state (Open tab url opener noopener method) needs = absurd needs
-no_tab_makes state (Close tab) needs = no_tab_closes state.rules state.now (places_in state.tabs) no_shared_cells (held_in state) tab needs
-no_tab_makes state (Go tab url by_page method) needs = no_tab_goes state.rules state.now (places_in state.tabs) no_shared_cells (held_in state) tab url by_page method needs
+no_tab_makes state (Open tab url opener noopener method head) needs = absurd needs
+no_tab_makes state (Close tab) needs = ap (closed (store_of state) (Close tab) tab) needs
+no_tab_makes state (Go tab url by_page method head) needs =
+    ap (gone state.rules (store_of state) (Go tab url by_page method head) tab url by_page method head) needs
 no_tab_makes state (Evict site) needs = absurd needs
-no_tab_makes state (Act at action) needs = no_tab_acts state.rules state.now (places_in state.tabs) no_shared_cells (held_in state) at action needs
+no_tab_makes state (Act at action) needs =
+    ap (λ here. acted state.rules (store_of state) (Act at action) at action here (tab_named at.tab (held_in state))) needs
 
-module _ (action : PlainAction) (state : AgentState) where
-  pub runs_refused : (reply : Reply) (told : SiteReply PlainSite Answer) → LineMakes state.rules (world_of state) action (world_of state) told
-      → reply_of reply ≡ printed told → Runs action state state (Ok reply)
-  runs_refused reply told makes is = runs_done action state state refl reply (world_of state) told makes refl is
+module _ (action : PlainAction) (state : AgentState) (standing : IsStanding state) where
+  pub runs_refused : (body : PlainBody) → store_step state.rules (store_of state) action ≡ refuses (store_of state) action body
+      → (reply : Reply) → reply_of reply ≡ record { name = action_name action; site = None; body = body } → Runs action state state (Ok reply)
+  runs_refused body makes reply is = runs_done action state state refl standing (refuses (store_of state) action body) makes refl reply is
 
   -- as no tab of its number is open
   pub runs_without_tab : (reply : Reply) → NeedsTab action (places_in state.tabs)
-      → reply_of reply ≡ printed (told_nowhere action (Plain (codes "no-tab"))) → Runs action state state (Ok reply)
-  runs_without_tab reply needs is = runs_refused reply (told_nowhere action (Plain (codes "no-tab"))) (no_tab_makes state action needs) is
+      → reply_of reply ≡ record { name = action_name action; site = None; body = Plain (codes "no-tab") } → Runs action state state (Ok reply)
+  runs_without_tab reply needs is = runs_refused (Plain (codes "no-tab")) (no_tab_makes state action needs) reply is

@@ -19,7 +19,7 @@ use Rattle.agent_model.specs.Documents.{Keyed, hears_at, told, told_queue, told_
 use Rattle.agent_model.proofs.KeptLemmas.{get_mapped}
 use Rattle.agent_core.specs.AgentState.{tabs_in}
 use Rattle.agent_core.specs.FrameTrees.{AreTrees}
-use Rattle.agent_core.specs.Documents.{each_told}
+use Rattle.agent_core.specs.Documents.{each_sent}
 use Rattle.live_state.specs.Hearers.{hearers}
 use Rattle.agent_core.proofs.LiveLemmas.{number_found, tab_found}
 use Rattle.agent_core.proofs.MemberLemmas.{passes}
@@ -27,18 +27,18 @@ use Rattle.agent_core.proofs.AudienceLemmas.{in_audience}
 
 -- a document that is among them has the event
 event_sent : (label : Label) (event : PlainEvent) (to : List Label)
-    → event_for label (each_told event to) ≡ cond (list_any (λ l. same_label l label) to) (Some event) None
+    → event_for label (each_sent event to) ≡ cond (list_any (λ l. same_label l label) to) (Some event) None
 event_sent label event [] = refl
 event_sent label event (l ∷ to) = at (same_label l label) (event_sent label event to)
   where
-    at : (b : Bool) → event_for label (each_told event to) ≡ cond (list_any (λ l. same_label l label) to) (Some event) None
-        → option_map (λ entry. entry.1) (cond b (Some (l, event)) (find (λ entry. same_label entry.0 label) (each_told event to)))
+    at : (b : Bool) → event_for label (each_sent event to) ≡ cond (list_any (λ l. same_label l label) to) (Some event) None
+        → option_map (λ entry. entry.1) (cond b (Some (l, event)) (find (λ entry. same_label entry.0 label) (each_sent event to)))
         ≡ cond (b || list_any (λ l. same_label l label) to) (Some event) None
     at true later = refl
     at false later = later
 
 -- events of the program that are such ones are for these documents
-pub labels_sent : (event : PlainEvent) (to : List Label) (events : List (Label × Event)) → map plain_sent events ≡ each_told event to → map (λ e. e.0) events ≡ to
+pub labels_sent : (event : PlainEvent) (to : List Label) (events : List (Label × Event)) → map plain_sent events ≡ each_sent event to → map (λ e. e.0) events ≡ to
 labels_sent event to events is =
     sym (map-map (λ e. e.0) plain_sent events) ∙ ap (map (λ e. e.0)) is ∙ map-map (λ e. e.0) (λ label. (label, event)) to ∙ map-id to
 
@@ -48,7 +48,7 @@ module _ (kind : AreaKind) (writer : Keyed) (event : PlainEvent) (tabs : List Pl
   to = hearers kind writer.at writer.key tabs
 
   abbrev change : Label → PlainFrameQueue → PlainFrameQueue
-  change label queue = queue_told (event_for label (each_told event to)) queue
+  change label queue = queue_told (event_for label (each_sent event to)) queue
 
   module _ (tab : PlainTab) (is : tab_at tab.number tabs ≡ Some tab) where
     queue_sent : (queue : PlainFrameQueue) → change (label_of tab queue) queue ≡ told_queue kind writer event tab.number tab queue
@@ -76,8 +76,8 @@ module _ (kind : AreaKind) (writer : Keyed) (event : PlainEvent) (tabs : List Pl
       ∙ ap (λ n. Some (told_tab kind writer event n tab)) same
 
   -- what is sent to the documents that hear, in the list, is told to every document of the map
-  pub tabs_after_send : tabs_in (sent (each_told event to) tabs) ≡ told kind writer event (tabs_in tabs)
+  pub tabs_after_send : tabs_in (sent (each_sent event to) tabs) ≡ told kind writer event (tabs_in tabs)
   tabs_after_send = same_map nat_cmp_total nat_cmp-IsAntisymmetric _ _ (λ q.
-      tab_found q (sent (each_told event to) tabs) ∙ find-map (with_queues change) (λ tab. tab.number == q) tabs ∙ tab_sent q (tab_at q tabs) refl
+      tab_found q (sent (each_sent event to) tabs) ∙ find-map (with_queues change) (λ tab. tab.number == q) tabs ∙ tab_sent q (tab_at q tabs) refl
       ∙ sym (get_mapped nat_cmp nat_cmp_total nat_cmp-IsAntisymmetric (told_tab kind writer event) (tabs_in tabs) q
       ∙ ap (option_map (told_tab kind writer event q)) (tab_found q tabs)))

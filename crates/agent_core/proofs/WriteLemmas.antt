@@ -1,4 +1,4 @@
--- What is held after a change was stored and told.
+-- What is held after a change was stored and its event sent.
 use Rattle.std.proofs.Common.{◌≡◌, ◌<◌, ◌≤◌, ◌⊎◌, inl, inr, ℕ, Bool, true, false, cond, List, map, Option, Some, None, Bor, refl, sym, ap, subst, ◌∙◌, arith}
 use Rattle.std.proofs.lemmas.Bool.{le-ltb, lt-ltb}
 use Rattle.std.proofs.lemmas.Slice.Eq.{bytes_eq-Decides}
@@ -22,23 +22,24 @@ use Rattle.std.specs.Ordering.{eq_by_cmp}
 use Rattle.storage_events.specs.Audience.{hears}
 use Rattle.storage_events.specs.declared.event.Event.{Event}
 use Rattle.web_storage.specs.Stored.{held_with}
+use Rattle.web_cookies.specs.Stored.{shared_in}
 use Rattle.reply_lines.specs.Reply.{PlainBody, Plain}
-use Rattle.agent_model.specs.Partition.{Holdings, Tabs, with_area}
-use Rattle.agent_model.specs.Done.{SharedCells, no_shared_cells, answers, ok}
+use Rattle.agent_model.specs.Partition.{Holdings, with_area}
+use Rattle.agent_model.specs.Done.{SharedCells, answers, ok}
 use Rattle.agent_model.specs.AreaActions.{change_event, pairs_of, remove_by, remove_item, set_by, set_item, store, write}
 use Rattle.agent_model.specs.Documents.{Keyed, told}
-use Rattle.agent_core.specs.AgentState.{places_in, tabs_in}
+use Rattle.agent_core.specs.AgentState.{beside_storage, places_in, tabs_in}
 use Rattle.agent_core.specs.FrameTrees.{AreTrees}
 use Rattle.agent_core.specs.HoldingsView.{HoldingsView}
-use Rattle.agent_core.specs.Documents.{each_told}
+use Rattle.agent_core.specs.Documents.{each_sent}
 use Rattle.live_state.specs.Hearers.{hearers}
-use Rattle.agent_core.specs.HoldingsView.{held_of}
-use Rattle.agent_core.specs.Actions.{IsDone, put_told}
-use Rattle.agent_core.proofs.DoneLemmas.{held_beside, tabs_held}
+use Rattle.agent_core.specs.HoldingsView.{cells_of, held_of}
+use Rattle.agent_core.specs.Actions.{IsDone, put_sent}
+use Rattle.agent_core.proofs.DoneLemmas.{held_tabs, tabs_held}
 use Rattle.agent_core.proofs.TabLemmas.{places_after_send}
 use Rattle.agent_core.proofs.ToldLemmas.{tabs_after_send}
 
--- ---- a change is stored and told
+-- ---- a change is stored and its event sent
 
 -- the tabs do not change where an area does
 tabs_kept : (kind : AreaKind) (tab : ℕ) (key : PlainKey) (pairs : List Pair) (held : Holdings) → (with_area kind tab key pairs held).tabs ≡ held.tabs
@@ -46,7 +47,7 @@ tabs_kept Local tab key pairs held = refl
 tabs_kept Session tab key pairs held = refl
 
 module _ (event : PlainEvent) (writer : Keyed) (change : List Pair → List Pair) (old mid new : HoldingsView) (trees : AreTrees mid.live.tabs)
-    (tabs : mid.live.tabs ≡ old.live.tabs) (entries : mid.storage ≡ old.storage) (rising : is_rising old.live.tabs ≡ true) where
+    (tabs : mid.live.tabs ≡ old.live.tabs) (entries : mid.storage ≡ old.storage) (same : new.cookies ≡ old.cookies) (rising : is_rising old.live.tabs ≡ true) where
   -- the pairs of the area after the change, and what is held with them
   abbrev pairs : List Pair
   pairs = change (pairs_of event.area writer (held_of old))
@@ -56,32 +57,34 @@ module _ (event : PlainEvent) (writer : Keyed) (change : List Pair → List Pair
 
   -- the area has its pairs, and each document that hears is told
   pub is_written : (seen : PlainEvent) (events : List (Label × PlainEvent)) (body : PlainBody) → seen ≡ event
-      → events ≡ each_told seen (hearers seen.area writer.at writer.key old.live.tabs)
-      → new.live.tabs ≡ sent events mid.live.tabs → ((tabs : Tabs) → held_with tabs new.storage ≡ with_pairs (held_with tabs mid.storage))
-      → body ≡ ok → IsDone (write event.area writer pairs event no_shared_cells (held_of old)) old new body
+      → events ≡ each_sent seen (hearers seen.area writer.at writer.key old.live.tabs)
+      → new.live.tabs ≡ sent events mid.live.tabs → ((beside : Holdings) → held_with beside new.storage ≡ with_pairs (held_with beside mid.storage))
+      → body ≡ ok → IsDone (write event.area writer pairs event (cells_of old) (held_of old)) old new body
   is_written seen events body is these after stored answer = record {
     held =
-        held_beside (tabs_in old.live.tabs) (tabs_in new.live.tabs) new.storage
+        ap (λ own. held_with (beside_storage new.live.tabs own) new.storage) same
+        ∙ held_tabs old.live.tabs new.live.tabs old.cookies new.storage
         ∙ ap {A = Holdings} (λ held. record held { tabs = tabs_in new.live.tabs })
-        (stored (tabs_in old.live.tabs) ∙ ap (λ entries. with_pairs (held_with (tabs_in old.live.tabs) entries)) entries)
+        (stored (beside_storage old.live.tabs old.cookies) ∙ ap (λ entries. with_pairs (held_with (beside_storage old.live.tabs old.cookies) entries)) entries)
         ∙ ap {B = Holdings} (λ tabs. record (with_pairs (held_of old)) { tabs = tabs })
-        (ap tabs_in (after ∙ λ i. sent ((these ∙ ap (λ e. each_told e (hearers e.area writer.at writer.key old.live.tabs)) is) i) (tabs i))
+        (ap tabs_in (after ∙ λ i. sent ((these ∙ ap (λ e. each_sent e (hearers e.area writer.at writer.key old.live.tabs)) is) i) (tabs i))
         ∙ tabs_after_send event.area writer event old.live.tabs rising (subst AreTrees tabs trees)
-        ∙ ap (told event.area writer event) (sym (tabs_kept event.area writer.at.tab writer.key pairs (held_of old) ∙ tabs_held (tabs_in old.live.tabs) old.storage)));
+        ∙ ap (told event.area writer event) (sym (tabs_kept event.area writer.at.tab writer.key pairs (held_of old) ∙ tabs_held old.live.tabs old.cookies old.storage)));
+    cells = ap shared_in same;
     answer = answer;
     places = ap places_in after ∙ places_after_send events mid.live.tabs ∙ ap places_in tabs;
   }
 
 -- ---- within the quota
 
-module _ (kind : AreaKind) (writer : Keyed) (pairs : List Pair) (event : PlainEvent) (held : Holdings) (old new : HoldingsView) (body : PlainBody) where
+module _ (kind : AreaKind) (writer : Keyed) (pairs : List Pair) (event : PlainEvent) (cells : SharedCells) (held : Holdings) (old new : HoldingsView) (body : PlainBody) where
   abbrev stores : Bool → Type 0
-  stores past = IsDone (cond past (answers (Plain (codes "quota")) no_shared_cells held) (write kind writer pairs event no_shared_cells held)) old new body
+  stores past = IsDone (cond past (answers (Plain (codes "quota")) cells held) (write kind writer pairs event cells held)) old new body
 
-  pub is_stored : area_weight pairs ≤ quota → IsDone (write kind writer pairs event no_shared_cells held) old new body → IsDone (store kind writer pairs event no_shared_cells held) old new body
+  pub is_stored : area_weight pairs ≤ quota → IsDone (write kind writer pairs event cells held) old new body → IsDone (store kind writer pairs event cells held) old new body
   is_stored within done = subst stores (sym (le-ltb quota (area_weight pairs) within)) done
 
-  pub is_refused : quota < area_weight pairs → IsDone (answers (Plain (codes "quota")) no_shared_cells held) old new body → IsDone (store kind writer pairs event no_shared_cells held) old new body
+  pub is_refused : quota < area_weight pairs → IsDone (answers (Plain (codes "quota")) cells held) old new body → IsDone (store kind writer pairs event cells held) old new body
   is_refused past done = subst stores (sym (lt-ltb quota (area_weight pairs) past)) done
 
 -- a refusal for the quota passes it
@@ -110,15 +113,15 @@ none_copied (Some found) = refl
 module _ (kind : AreaKind) (writer : Keyed) (name : List ℕ) (cells : SharedCells) (held : Holdings) where
   -- a name that has another value, or none, is given one
   pub is_set : (value : List ℕ) (found : Option (List ℕ)) → found ≢ Some value → found ≡ area_get name (pairs_of kind writer held)
-      → put_told kind name value (change_event kind writer (Some name) found (Some value)) writer cells held ≡ set_item kind name value writer cells held
+      → put_sent kind name value (change_event kind writer (Some name) found (Some value)) writer cells held ≡ set_item kind name value writer cells held
   is_set value found other is = sets found other ∙ ap (λ found. set_by (answer_over value found) kind writer name value (area_put name value (pairs_of kind writer held)) cells held) is
     where
-      by : (before : List ℕ) (b : Bool) → b ≡ false → put_told kind name value (change_event kind writer (Some name) (Some before) (Some value)) writer cells held
+      by : (before : List ℕ) (b : Bool) → b ≡ false → put_sent kind name value (change_event kind writer (Some name) (Some before) (Some value)) writer cells held
           ≡ set_by (cond b same (changed before)) kind writer name value (area_put name value (pairs_of kind writer held)) cells held
       by before true apart = absurd (cc apart)
       by before false apart = refl
 
-      sets : (found : Option (List ℕ)) → found ≢ Some value → put_told kind name value (change_event kind writer (Some name) found (Some value)) writer cells held
+      sets : (found : Option (List ℕ)) → found ≢ Some value → put_sent kind name value (change_event kind writer (Some name) found (Some value)) writer cells held
           ≡ set_by (answer_over value found) kind writer name value (area_put name value (pairs_of kind writer held)) cells held
       sets None other = refl
       sets (Some before) other = by before (bytes_eq before value) (differ (bytes_eq before value) refl)

@@ -1,6 +1,6 @@
 -- The state of the agent, as contracts see it, and the world that it stands for.
--- Source: none; the agent keeps one list of tabs and one storage for all sites, and the world has a
--- partition for each site.
+-- Source: none; the agent keeps one list of tabs, one storage and one set of cookies for all sites,
+-- and the world has a partition for each site.
 use Rattle.std.specs.Prelude.{◌≡◌, ◌≤◌, ℕ, false, List, [], ◌∷◌, map, Option, Some, None}
 use Rattle.std.specs.FinMap as finite
 use Rattle.suffix_list.specs.Suffix.{Rule}
@@ -8,20 +8,22 @@ use Rattle.origin_site.specs.Site.{PlainSite}
 use Rattle.frame_tree.specs.Tree.{top_site}
 use Rattle.live_state.specs.Tabs.{PlainTab}
 use Rattle.web_storage.specs.Stored.{Entries, held_with}
-use Rattle.agent_model.specs.Partition.{Tabs, Holdings, tab_named}
-use Rattle.agent_model.specs.Done.{no_shared_cells}
+use Rattle.web_cookies.specs.Stored.{Entries as CookieEntries, partitioned_in, shared_in}
+use Rattle.agent_model.specs.Partition.{Tabs, Holdings, no_holdings, tab_named}
+use Rattle.agent_model.specs.Done.{SharedCells}
 use Rattle.agent_model.specs.Lines.{Places, AgentWorld, no_places, placed}
 use Rattle.agent_model.specs.Rest.{last_moment}
 use Rattle.agent_model.specs.Sessions.{has_session}
 use Rattle.one_store.specs.WholeWorld.{IsPlaced, whole_world}
 
--- the agent: the rules of its list, the clock, the open tabs in the order of their numbers, and the
--- entries of its storage
+-- the agent: the rules of its list, the clock, the open tabs in the order of their numbers, the
+-- entries of its storage, and those of its cookies
 pub record AgentState : Type 0 where
   pub rules : List Rule
   pub now : ℕ
   pub tabs : List PlainTab
   pub entries : Entries
+  pub cookies : CookieEntries
 
 -- the open tabs by their numbers
 abbrev pub tabs_in : List PlainTab → Tabs
@@ -37,9 +39,18 @@ abbrev pub places_in : List PlainTab → Places
 places_in [] = no_places
 places_in (tab ∷ tabs) = placed_by tab.number (top_site tab.frames) (places_in tabs)
 
+-- what is held beside the storage: the open tabs, and the partitioned cells of cookies
+abbrev pub beside_storage : List PlainTab → CookieEntries → Holdings
+beside_storage tabs cookies =
+    record no_holdings { tabs = tabs_in tabs; cookies = partitioned_in cookies }
+
 -- what the agent holds for all sites
 abbrev pub held_in : AgentState → Holdings
-held_in state = held_with (tabs_in state.tabs) state.entries
+held_in state = held_with (beside_storage state.tabs state.cookies) state.entries
+
+-- the cells that sites share
+abbrev pub cells_in : AgentState → SharedCells
+cells_in state = shared_in state.cookies
 
 -- session areas belong to open tabs
 abbrev pub AreOwned : Holdings → Type 0
@@ -52,7 +63,7 @@ pub record IsStanding (state : AgentState) : Type 0 where
   pub placed_all : IsPlaced (places_in state.tabs) (held_in state)
   pub owned : AreOwned (held_in state)
 
--- the world that the agent stands for. It keeps no shared cell, as each is empty.
+-- the world that the agent stands for
 unfoldable pub world_of : AgentState → AgentWorld
 world_of state =
-    whole_world state.now (places_in state.tabs) no_shared_cells (held_in state)
+    whole_world state.now (places_in state.tabs) (cells_in state) (held_in state)

@@ -1,6 +1,7 @@
 -- The documents of open tabs, as lines name them, and those that hear of a change.
 -- Source: HTML, "Web storage", the broadcast of a storage object.
-use Rattle.std.specs.Prelude.{◌≡◌, ℕ, List, map, Option, Some, None, option_map}
+use Rattle.std.specs.Prelude.{◌≡◌, ℕ, ◌==◌, Bool, ◌&&◌, not, List, map, Option, Some, None}
+use Rattle.std.specs.Prelude.{option_map}
 use Rattle.agent_base.specs.declared.refusals.Label.{Label}
 use Rattle.frame_tree.specs.Document.{PlainDocument}
 use Rattle.frame_tree.specs.Tree.{PlainFrame, document_of}
@@ -8,7 +9,7 @@ use Rattle.storage_key.specs.Key.{PlainKey}
 use Rattle.storage_key.specs.Plain.{plain_key}
 use Rattle.storage_events.specs.Event.{PlainEvent}
 use Rattle.frame_tree.specs.Keys.{key_of_document}
-use Rattle.live_state.specs.Queues.{frames_by}
+use Rattle.live_state.specs.Queues.{frames_by, has_document}
 use Rattle.live_state.specs.Tabs.{PlainTab, tab_at}
 use Rattle.agent_core.specs.declared.holdings.Found.{Found}
 use Rattle.agent_core.specs.declared.holdings.Found.TheVariants as found
@@ -17,9 +18,13 @@ use Rattle.agent_core.specs.declared.holdings.Found.TheVariants as found
 abbrev pub document_at : Label → List PlainTab → Option PlainDocument
 document_at at tabs = document_of at.frame (frames_by (tab_at at.tab tabs))
 
+-- a document below the top is there
+abbrev pub is_below : List PlainTab → Label → Bool
+is_below tabs at = not (at.frame == 0) && has_document tabs at
+
 -- one event for each of these documents
-abbrev pub each_told : PlainEvent → List Label → List (Label × PlainEvent)
-each_told event to = map (λ label. (label, event)) to
+abbrev pub each_sent : PlainEvent → List Label → List (Label × PlainEvent)
+each_sent event to = map (λ label. (label, event)) to
 
 -- what is found for a document that may not be there
 abbrev pub IsFound : Option (Option PlainKey) → Found → Type 0

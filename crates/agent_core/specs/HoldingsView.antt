@@ -1,20 +1,27 @@
--- What is held for all sites, as contracts see it: the open tabs and the storage.
--- Source: none; the agent keeps one list of tabs and one storage.
+-- What is held for all sites, as contracts see it: the open tabs, the storage and the cookies.
+-- Source: none; the agent keeps one list of tabs, one storage and one set of cookies.
 use Rattle.std.specs.Prelude.{ℕ, List}
 use Rattle.suffix_list.specs.Suffix.{Rule}
 use Rattle.live_state.specs.Tabs.{PlainLive}
 use Rattle.web_storage.specs.Stored.{Entries, held_with}
+use Rattle.web_cookies.specs.Stored.{Entries as CookieEntries, shared_in}
 use Rattle.agent_model.specs.Partition.{Holdings}
-use Rattle.agent_core.specs.AgentState.{AgentState, tabs_in}
+use Rattle.agent_model.specs.Done.{SharedCells}
+use Rattle.agent_core.specs.AgentState.{AgentState, beside_storage}
 
--- the open tabs and the entries of the storage
+-- the open tabs, the entries of the storage, and those of the cookies
 pub record HoldingsView : Type 0 where
   pub live : PlainLive
   pub storage : Entries
+  pub cookies : CookieEntries
 
 -- what is held for all sites
 abbrev pub held_of : HoldingsView → Holdings
-held_of parts = held_with (tabs_in parts.live.tabs) parts.storage
+held_of parts = held_with (beside_storage parts.live.tabs parts.cookies) parts.storage
+
+-- the cells that sites share
+abbrev pub cells_of : HoldingsView → SharedCells
+cells_of parts = shared_in parts.cookies
 
 -- the state of an agent, by the rules of its list, its clock and what it holds
 abbrev pub state_of : List Rule → ℕ → HoldingsView → AgentState
@@ -23,4 +30,5 @@ state_of rules now parts = record {
   now = now;
   tabs = parts.live.tabs;
   entries = parts.storage;
+  cookies = parts.cookies;
 }

@@ -5,5 +5,7 @@ pub mod FrameTrees
 pub mod HoldingsView
 -- What private functions compute. No public clause rests on it.
 pub mod Documents
+pub mod ActionKinds
 pub mod Actions
 pub mod Lines
+pub mod Requests

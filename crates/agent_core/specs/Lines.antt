@@ -1,6 +1,7 @@
 -- What a line makes of the agent, and its reply; and what a tab that is opened copies.
 -- Source: HTML, "Navigables"; Storage Standard, "Storage sheds", for the copies.
-use Rattle.std.specs.Prelude.{◌≡◌, ℕ, Bool, true, List, Option, Some, None, Result, IfOk, IsOk, OnOk, OnErr}
+use Rattle.std.specs.Prelude.{◌≡◌, ℕ, Bool, true, List, Option, Some, None, Result, IfOk, IsOk}
+use Rattle.std.specs.Prelude.{OnOk, OnErr}
 use Rattle.unwinding.specs.World.{line_reply, world_step}
 use Rattle.agent_base.specs.declared.refusals.NoMemory.{NoMemory}
 use Rattle.origin_site.specs.Site.{PlainSite}

@@ -1,32 +1,31 @@
 //! The agent: one list of tabs and one storage, for all sites.
-ghost use Rattle.std.specs.Prelude.{◌≡◌, ◌≤◌, Bool, IfOk, IsOk, None, Ok, OnOk, OnErr, Some};
+ghost use Rattle.std.specs.Prelude.{◌≡◌, ◌≤◌, IfOk, IsOk, None, Ok, OnOk, OnErr, Some, map};
 ghost use Rattle.unwinding.specs.World.{line_reply, world_step};
 ghost use Rattle.origin_site.specs.Plain.{plain_address, plain_site};
-ghost use Rattle.script_lines.specs.Plain.{action_of};
+ghost use Rattle.script_lines.specs.Plain.{action_of, head_field_of};
 ghost use Rattle.reply_lines.specs.Plain.{reply_of};
 ghost use Rattle.script_lines.specs.Script as plain;
-ghost use Rattle.script_lines.specs.declared.words.Method.{Method};
 ghost use Rattle.agent_model.specs.Isolation.{printed};
 ghost use Rattle.agent_model.specs.Lines.{main_event};
 ghost use Rattle.agent_model.specs.Rest as spec;
 ghost use Rattle.agent_model.specs.TheMachine.{machine, beginning};
 ghost use Rattle.agent_core.specs.AgentState.{world_of};
 ghost use Rattle.agent_core.specs.Lines.{Runs};
-ghost use Rattle.agent_core.specs.Actions.{label_of};
+ghost use Rattle.agent_core.specs.ActionKinds.{label_of};
 
 use crate::clock::clock_after;
 use crate::holdings::Holdings;
-use crate::replies::{answer, loaded, name_of, refused, replied, ticked};
+use crate::replies::{answer, name_of, refused, replied, ticked};
 use agent_base::{Label, NoMemory};
 use origin_site::{Address, Site};
 use reply_lines::{Reply, ReplyBody};
-use script_lines::Action;
+use script_lines::{Action, HeadField, Method};
 use std::alloc::Global;
 use std::marker::Model;
 use suffix_list::SuffixList;
 
-/// The storage of a browser: the tabs that are open, and the storage of all sites under a suffix
-/// list.
+/// The storage of a browser: the tabs that are open, and the storage and cookies of all sites under
+/// a suffix list.
 #[derive(Debug, Drop)]
 pub struct Agent<'l> {
     alloc: Global,
@@ -47,8 +46,8 @@ impl<'l> Model for Agent<'l> {
 }
 
 impl<'l> Agent<'l> {
-    /// An agent without tabs and areas, whose clock stands at `start`, in seconds since 1970. The
-    /// list says of which site an address is, for as long as the agent lives.
+    /// An agent without tabs, areas and cookies, whose clock stands at `start`, in seconds since
+    /// 1970. The list says of which site an address is, for as long as the agent lives.
     pub fn new(alloc: Global, list: &'l SuffixList, start: u64) -> Agent<'l>
         requires { start ≤ spec.last_moment }
         ensures beginning { world_of result ≡ beginning start }
@@ -90,15 +89,23 @@ impl<'l> Agent<'l> {
                 url,
                 opener,
                 noopener,
-                ..
-            } => self.open(*tab, url, *opener, *noopener),
+                method,
+                head,
+            } => self.open(*tab, url, *opener, *noopener, *method, head.as_slice()),
             Action::Close { tab } => self.close(*tab),
-            Action::Go { tab, url, .. } => self.go(*tab, url),
+            Action::Go {
+                tab,
+                url,
+                by_page,
+                method,
+                head,
+            } => self.go(*tab, url, *by_page, *method, head.as_slice()),
             Action::Evict { site } => self.evict(site),
             Action::Frame { at, .. }
             | Action::Nav { at, .. }
             | Action::Drop { at }
             | Action::Click { at }
+            | Action::Fetch { at, .. }
             | Action::Set { at, .. }
             | Action::Get { at, .. }
             | Action::Del { at, .. }
@@ -106,6 +113,8 @@ impl<'l> Agent<'l> {
             | Action::Len { at, .. }
             | Action::Key { at, .. }
             | Action::Events { at }
+            | Action::Cookie { at }
+            | Action::SetCookie { at, .. }
             | Action::Persisted { at }
             | Action::Estimate { at }
             | Action::Persist { at, .. } => self.act(*at, action),
@@ -126,9 +135,11 @@ impl<'l> Agent<'l> {
         url: &Address,
         opener: Option<u16>,
         noopener: bool,
+        method: Method,
+        head: &[HeadField],
     ) -> Result<Reply, NoMemory>
-        ensures runs { (method : Method)
-            → let line = plain.Open tab (plain_address url.now) opener noopener method in
+        ensures runs { let fields = map head_field_of head.now in
+            let line = plain.Open tab (plain_address url.now) opener noopener method fields in
             Runs line self.old self.new result }
     {
         if !self.held.is_there(opener) {
@@ -138,20 +149,32 @@ impl<'l> Agent<'l> {
             return Ok(refused("open", "tab-exists"));
         }
         let copied = if noopener { None } else { opener };
-        let site = self.held.show(self.alloc, self.list, tab, url, copied)?;
-        Ok(replied("open", site, loaded(self.alloc)))
+        let (site, body) = self.held.arrive(
+            self.alloc, self.list, self.now, tab, url, copied, opener, method, head,
+        )?;
+        Ok(replied("open", site, body))
     }
 
-    fn go(&mut self, tab: u16, url: &Address) -> Result<Reply, NoMemory>
-        ensures runs { (by_page : Bool) (method : Method)
-            → let line = plain.Go tab (plain_address url.now) by_page method in
+    fn go(
+        &mut self,
+        tab: u16,
+        url: &Address,
+        by_page: bool,
+        method: Method,
+        head: &[HeadField],
+    ) -> Result<Reply, NoMemory>
+        ensures runs { let fields = map head_field_of head.now in
+            let line = plain.Go tab (plain_address url.now) by_page method fields in
             Runs line self.old self.new result }
     {
         if !self.held.is_open(tab) {
             return Ok(refused("go", "no-tab"));
         }
-        let site = self.held.show(self.alloc, self.list, tab, url, None)?;
-        Ok(replied("go", site, loaded(self.alloc)))
+        let starter = if by_page { Some(tab) } else { None };
+        let (site, body) = self.held.arrive(
+            self.alloc, self.list, self.now, tab, url, None, starter, method, head,
+        )?;
+        Ok(replied("go", site, body))
     }
 
     fn close(&mut self, tab: u16) -> Result<Reply, NoMemory>

@@ -5,19 +5,22 @@ ghost use Rattle.origin_site.specs.Plain.{plain_site};
 ghost use Rattle.frame_tree.specs.Document.{PlainDocument};
 ghost use Rattle.live_state.specs.Queues.{has_document};
 ghost use Rattle.live_state.specs.Tabs.{is_open, tab_at};
+ghost use Rattle.agent_model.specs.Done.{no_shared_cells};
 ghost use Rattle.agent_model.specs.Lines.{site_at};
 ghost use Rattle.agent_model.specs.Partition.{no_holdings};
 ghost use Rattle.agent_core.specs.AgentState.{places_in};
 ghost use Rattle.agent_core.specs.Documents.{IsFound, document_at, key_wanted};
-ghost use Rattle.agent_core.specs.HoldingsView.{held_of};
+ghost use Rattle.agent_core.specs.HoldingsView.{cells_of, held_of};
 ghost use Rattle.agent_core.specs.Lines.{is_there};
 
 mod acts;
 mod areas;
+mod cookies;
 mod events;
 mod frames;
 mod loads;
 mod persistence;
+mod requests;
 
 use agent_base::{Label, NoMemory};
 use frame_tree::Tab;
@@ -26,13 +29,15 @@ use origin_site::Site;
 use std::alloc::Global;
 use std::marker::Model;
 use storage_key::StorageKey;
+use web_cookies::Cookies;
 use web_storage::Storage;
 
-/// What is held for all sites: the open tabs, and the storage.
+/// What is held for all sites: the open tabs, the storage and the cookies.
 #[derive(Debug, Drop)]
 pub struct Holdings {
     pub live: Live,
     pub storage: Storage,
+    pub cookies: Cookies,
 }
 
 impl Model for Holdings {
@@ -41,20 +46,22 @@ impl Model for Holdings {
 
     ghost Value = { HoldingsView };
 
-    ghost view = { λ h. record { live = h.live; storage = h.storage } };
+    ghost view = { λ h. record { live = h.live; storage = h.storage; cookies = h.cookies } };
 
     ghost invariant = { λ h. AreTrees h.live.tabs };
 }
 
 impl Holdings {
-    /// No tab and no storage.
+    /// No tab, no storage and no cookies.
     pub fn new(alloc: Global) -> Holdings
         ensures tabs { result.live.tabs ≡ [] }
         ensures held { held_of result ≡ no_holdings }
+        ensures cells { cells_of result ≡ no_shared_cells }
     {
         Holdings {
             live: Live::new(alloc),
             storage: Storage::new(alloc),
+            cookies: Cookies::new(alloc),
         }
     }
 
@@ -93,10 +100,7 @@ impl Holdings {
         requires { is_open tab self.now.live.tabs ≡ true }
         ensures tab { option_map (λ t. t.frames) (tab_at tab self.now.live.tabs) ≡ Some result.now }
     {
-        match self.live.tab(tab) {
-            Some(found) => found,
-            None => unreachable!(),
-        }
+        open_tab(&self.live, tab)
     }
 
     /// The URL of a document that is there.
@@ -117,6 +121,17 @@ impl Holdings {
         ensures there { result ≡ has_document self.now.live.tabs at }
     {
         self.tab(at.tab).document(at.frame).is_some()
+    }
+}
+
+/// The documents of a tab that is open.
+pub fn open_tab(live: &Live, tab: u16) -> &Tab
+    requires { is_open tab live.now.tabs ≡ true }
+    ensures tab { option_map (λ t. t.frames) (tab_at tab live.now.tabs) ≡ Some result.now }
+{
+    match live.tab(tab) {
+        Some(found) => found,
+        None => unreachable!(),
     }
 }
 

@@ -1,5 +1,5 @@
 //! The replies that the agent gives.
-ghost use Rattle.std.specs.Prelude.{◌≡◌, ◌≤◌, [], Some, None, codes, pos};
+ghost use Rattle.std.specs.Prelude.{◌≡◌, ◌≤◌, Some, None, codes, pos};
 ghost use Rattle.origin_site.specs.Plain.{plain_site};
 ghost use Rattle.reply_lines.specs.Plain.{body_of, reply_of};
 ghost use Rattle.reply_lines.specs.Reply as reply_text;
@@ -10,7 +10,6 @@ ghost use Rattle.agent_model.specs.Rest.{last_moment};
 use origin_site::Site;
 use reply_lines::{Reply, ReplyBody};
 use script_lines::Action;
-use std::alloc::Global;
 
 /// The name of an action.
 pub fn name_of(action: &Action) -> &'static str
@@ -25,6 +24,7 @@ pub fn name_of(action: &Action) -> &'static str
         Action::Nav { .. } => "nav",
         Action::Drop { .. } => "drop",
         Action::Click { .. } => "click",
+        Action::Fetch { .. } => "fetch",
         Action::Set { .. } => "set",
         Action::Get { .. } => "get",
         Action::Del { .. } => "del",
@@ -32,6 +32,8 @@ pub fn name_of(action: &Action) -> &'static str
         Action::Len { .. } => "len",
         Action::Key { .. } => "key",
         Action::Events { .. } => "events",
+        Action::Cookie { .. } => "cookie",
+        Action::SetCookie { .. } => "setcookie",
         Action::Persisted { .. } => "persisted",
         Action::Estimate { .. } => "estimate",
         Action::Persist { .. } => "persist",
@@ -81,14 +83,4 @@ pub fn answer(is: &'static str) -> ReplyBody
     ensures { body_of result ≡ reply_text.Plain is.now }
 {
     ReplyBody::Plain { is }
-}
-
-/// The answer to a load that sent no cookie and stored none.
-pub fn loaded(alloc: Global) -> ReplyBody
-    ensures { body_of result ≡ reply_text.Load None [] }
-{
-    ReplyBody::Load {
-        cookie: None,
-        set: Vec::new(alloc),
-    }
 }

@@ -2,13 +2,14 @@
 ghost use Rattle.std.specs.Prelude.{◌≡◌, ◌≤◌, IfSome, Some, false, true};
 ghost use Rattle.storage_key.specs.Plain.{plain_key};
 ghost use Rattle.live_state.specs.Queues.{has_document};
-ghost use Rattle.live_state.specs.Tabs.{PlainTab, is_open, tab_at};
+ghost use Rattle.live_state.specs.Tabs.{is_open};
 ghost use Rattle.script_lines.specs.Plain.{action_of};
 ghost use Rattle.agent_model.specs.Rest.{last_moment};
-ghost use Rattle.agent_model.specs.Documents.{Keyed, with_key};
+ghost use Rattle.agent_model.specs.Documents.{with_key};
 ghost use Rattle.agent_model.specs.SiteStep.{act_in};
-ghost use Rattle.agent_core.specs.Actions.{ActsBy, ActsIn, by_keyed, document_action, is_keyed};
-ghost use Rattle.agent_core.specs.Actions.{is_reading, label_of};
+ghost use Rattle.agent_core.specs.ActionKinds.{by_keyed, document_action, is_keyed};
+ghost use Rattle.agent_core.specs.Actions.{ActsAt, ActsIn};
+ghost use Rattle.agent_core.specs.ActionKinds.{is_reading, label_of};
 
 use crate::holdings::{Found, Holdings, key_at};
 use crate::replies::answer;
@@ -33,7 +34,8 @@ impl Holdings {
         requires open { is_open at.tab self.old.live.tabs ≡ true }
         requires named { label_of (action_of action.now) ≡ Some at }
         ensures acts { IfSome (document_action (action_of action.now)) (λ does.
-            ActsIn at.tab (act_in list.now.rules now at does) self.old self.new result) }
+            ActsIn at.tab (λ site. act_in list.now.rules now site at does)
+            self.old self.new result) }
     {
         match action {
             Action::Frame {
@@ -41,13 +43,32 @@ impl Holdings {
                 url,
                 sandbox,
                 deny,
+                head,
                 ..
-            } => self.add_frame(alloc, list, at, *parent, url, sandbox, *deny),
-            Action::Nav { url, .. } => self.navigate_frame(alloc, list, at, url),
+            } => {
+                let head = head.as_slice();
+                self.add_frame(alloc, list, now, at, *parent, url, sandbox, *deny, head)
+            }
+            Action::Nav {
+                url,
+                by_self,
+                method,
+                head,
+                ..
+            } => {
+                let head = head.as_slice();
+                self.navigate_frame(alloc, list, now, at, url, *by_self, *method, head)
+            }
+            Action::Fetch {
+                url,
+                method,
+                head,
+                ..
+            } => self.fetch(alloc, list, now, at, url, *method, head.as_slice()),
             Action::Drop { .. } => self.remove_frame(at),
             Action::Click { .. } => self.click(at, now),
             Action::Events { .. } => Ok(self.take(at)),
-            _ => self.act_with_key(alloc, at, action),
+            _ => self.act_with_key(alloc, list, now, at, action),
         }
     }
 
@@ -56,23 +77,26 @@ impl Holdings {
     fn act_with_key(
         &mut self,
         alloc: Global,
+        list: &SuffixList,
+        now: u64,
         at: Label,
         action: &Action,
     ) -> Result<ReplyBody, NoMemory>
+        requires now { now ≤ last_moment }
         requires open { is_open at.tab self.old.live.tabs ≡ true }
-        requires keyed { is_keyed (action_of action.now) ≡ true }
-        ensures acts { IfSome (by_keyed (action_of action.now)) (λ does.
-            ActsIn at.tab (λ tab. with_key at tab (does tab)) self.old self.new result) }
+        requires keyed { is_keyed list.now.rules now (action_of action.now) ≡ true }
+        ensures acts { IfSome (by_keyed list.now.rules now (action_of action.now)) (λ does.
+            ActsIn at.tab (λ site tab. with_key at tab (does site tab)) self.old self.new result) }
     {
         match key_at(self.tab(at.tab), at.frame) {
             Found::NoFrame => Ok(answer("no-frame")),
             Found::Opaque => Ok(answer("security")),
             Found::Keyed(key) => {
                 if is_reading(action) {
-                    return self.read_under(alloc, at, key, action);
+                    return self.read_under(alloc, list, now, at, key, action);
                 }
                 let key = key.copy(alloc)?;
-                self.write_under(alloc, at, &key, action)
+                self.write_under(alloc, list, now, at, &key, action)
             }
         }
     }
@@ -81,14 +105,17 @@ impl Holdings {
     fn read_under(
         &self,
         alloc: Global,
+        list: &SuffixList,
+        now: u64,
         at: Label,
         key: &StorageKey,
         action: &Action,
     ) -> Result<ReplyBody, NoMemory>
+        requires now { now ≤ last_moment }
+        requires there { has_document self.now.live.tabs at ≡ true }
         requires reads { is_reading (action_of action.now) ≡ true }
-        ensures acts { IfSome (by_keyed (action_of action.now)) (λ does.
-            (tab : PlainTab) → tab_at at.tab self.now.live.tabs ≡ Some tab
-            → ActsBy at (plain_key key.now) (does tab) self.now self.now result) }
+        ensures acts { IfSome (by_keyed list.now.rules now (action_of action.now)) (λ does.
+            ActsAt at (plain_key key.now) does self.now self.now result) }
     {
         match action {
             Action::Get {
@@ -98,6 +125,7 @@ impl Holdings {
             } => self.get(alloc, *area, at.tab, key, name),
             Action::Len { area, .. } => Ok(self.len(*area, at.tab, key)),
             Action::Key { area, n, .. } => self.name_at(alloc, *area, at.tab, key, *n),
+            Action::Cookie { .. } => self.cookie(alloc, list, now, at, key),
             Action::Persisted { .. } => Ok(self.persisted(key)),
             Action::Estimate { .. } => Ok(self.estimate(key)),
             _ => unreachable!(),
@@ -108,16 +136,18 @@ impl Holdings {
     fn write_under(
         &mut self,
         alloc: Global,
+        list: &SuffixList,
+        now: u64,
         at: Label,
         key: &StorageKey,
         action: &Action,
     ) -> Result<ReplyBody, NoMemory>
+        requires now { now ≤ last_moment }
         requires there { has_document self.old.live.tabs at ≡ true }
-        requires keyed { is_keyed (action_of action.now) ≡ true }
+        requires keyed { is_keyed list.now.rules now (action_of action.now) ≡ true }
         requires writes { is_reading (action_of action.now) ≡ false }
-        ensures acts { IfSome (by_keyed (action_of action.now)) (λ does.
-            (tab : PlainTab) → tab_at at.tab self.old.live.tabs ≡ Some tab
-            → ActsBy at (plain_key key.now) (does tab) self.old self.new result) }
+        ensures acts { IfSome (by_keyed list.now.rules now (action_of action.now)) (λ does.
+            ActsAt at (plain_key key.now) does self.old self.new result) }
     {
         match action {
             Action::Set {
@@ -132,6 +162,7 @@ impl Holdings {
                 ..
             } => self.del(alloc, at, *area, key, name),
             Action::Clear { area, .. } => self.clear(alloc, at, *area, key),
+            Action::SetCookie { text, .. } => self.set_cookie(alloc, list, now, at, key, text),
             Action::Persist { answer, .. } => self.persist(at, key, *answer),
             _ => unreachable!(),
         }
@@ -146,6 +177,7 @@ fn is_reading(action: &Action) -> bool
         Action::Get { .. }
         | Action::Len { .. }
         | Action::Key { .. }
+        | Action::Cookie { .. }
         | Action::Persisted { .. }
         | Action::Estimate { .. } => true,
         _ => false,

@@ -12,8 +12,8 @@ ghost use Rattle.reply_lines.specs.Reply as reply_text;
 ghost use Rattle.agent_model.specs.Partition.{area_of};
 ghost use Rattle.agent_model.specs.AreaActions.{clear_area, remove_item, set_item, store};
 ghost use Rattle.agent_core.specs.HoldingsView.{held_of};
-ghost use Rattle.agent_core.specs.Actions.{ActsBy, put_told};
-ghost use Rattle.agent_core.specs.Documents.{each_told};
+ghost use Rattle.agent_core.specs.Actions.{ActsBy, put_sent};
+ghost use Rattle.agent_core.specs.Documents.{each_sent};
 
 use crate::holdings::Holdings;
 use crate::holdings::events::events_of;
@@ -139,9 +139,9 @@ impl Holdings {
         requires rising { is_rising self.old.live.tabs ≡ true }
         requires hearers { to.items ≡ hearers area at (plain_key key.now) self.old.live.tabs }
         requires labels { map (λ e. e.0) events.items ≡ to.items }
-        ensures acts { (told : PlainEvent) → let event = record told { area = area } in
-            map plain_sent events.items ≡ each_told event to.items
-            → ActsBy at (plain_key key.now) (put_told area name.now value.now event)
+        ensures acts { (made : PlainEvent) → let event = record made { area = area } in
+            map plain_sent events.items ≡ each_sent event to.items
+            → ActsBy at (plain_key key.now) (put_sent area name.now value.now event)
             self.old self.new result }
     {
         self.live.reserve_queues(to.as_slice())?;
@@ -183,7 +183,7 @@ impl Holdings {
         Ok(answer("ok"))
     }
 
-    /// Empties an area. That is told also where it was empty.
+    /// Empties an area. An event is sent also where it was empty.
     pub fn clear(
         &mut self,
         alloc: Global,

@@ -6,7 +6,7 @@ ghost use Rattle.live_state.specs.Hearers.{hearers};
 ghost use Rattle.live_state.specs.Tabs.{is_open, is_rising};
 ghost use Rattle.storage_key.specs.Plain.{plain_key};
 ghost use Rattle.agent_model.specs.Queues.{take_events};
-ghost use Rattle.agent_core.specs.Documents.{each_told};
+ghost use Rattle.agent_core.specs.Documents.{each_sent};
 ghost use Rattle.agent_core.specs.Actions.{ActsIn};
 
 use crate::holdings::Holdings;
@@ -34,7 +34,7 @@ pub fn events_of(
       before = option_copied before.entry;
       after = option_copied after.entry;
       url = url.now;
-    } in IfOk result (λ events. map plain_sent events.items ≡ each_told event to.now) }
+    } in IfOk result (λ events. map plain_sent events.items ≡ each_sent event to.now) }
 {
     if to.is_empty() {
         return Ok(Vec::new(alloc));
@@ -45,8 +45,8 @@ pub fn events_of(
 
 // The event for each of these documents.
 fn events_to(alloc: Global, to: &[Label], event: &Event) -> Result<Vec<(Label, Event)>, NoMemory>
-    ensures { let told = each_told (plain_event event.now) to.now in
-        IfOk result (λ events. map plain_sent events.items ≡ told) }
+    ensures { let sent = each_sent (plain_event event.now) to.now in
+        IfOk result (λ events. map plain_sent events.items ≡ sent) }
 {
     let mut events = Vec::new(alloc);
     for at in to {
@@ -75,7 +75,7 @@ impl Holdings {
     /// Takes the events that wait for a document.
     pub fn take(&mut self, at: Label) -> ReplyBody
         requires { is_open at.tab self.old.live.tabs ≡ true }
-        ensures acts { ActsIn at.tab (take_events at) self.old self.new (Ok result) }
+        ensures acts { ActsIn at.tab (λ site. take_events at) self.old self.new (Ok result) }
     {
         if !self.has_document(at) {
             return answer("no-frame");

@@ -57,7 +57,7 @@ impl Holdings {
         ensures acts { (document : PlainDocument)
             → let own = plain_key key.now in
             let asker : Keyed = record { at = at; document = document; key = own } in
-            ActsIn at.tab (λ tab. persist tab prompt asker) self.old self.new result }
+            ActsIn at.tab (λ site tab. persist tab prompt asker) self.old self.new result }
     {
         if !self.is_secure(at) {
             return Ok(answer("insecure"));
@@ -79,6 +79,7 @@ impl Holdings {
         ensures count { let taken = evicted_count (plain_site site.now) (held_of self.old) in
             IfOk result (λ count. count ≡ taken) }
         ensures live { self.new.live ≡ self.old.live }
+        ensures cookies { self.new.cookies ≡ self.old.cookies }
         ensures unchanged { OnErr result (held_of self.new ≡ held_of self.old) }
     {
         self.storage.evict(site)

@@ -3,7 +3,7 @@ use Rattle.std.specs.Prelude.{pos}
 use Rattle.reply_lines.specs.Reply.{Now}
 use Rattle.script_lines.specs.Script.{Tick}
 use Rattle.agent_model.specs.Isolation.{printed}
-use Rattle.one_store.proofs.WorldLemmas.{told_nowhere}
+use Rattle.one_store.specs.Store.{null_reply}
 use Rattle.agent_core.specs.AgentState.{AgentState}
 use Rattle.agent_core.specs.Lines.{Runs}
 use Rattle.agent_core.proofs.StandingLemmas.{runs_from}
@@ -13,10 +13,10 @@ use Rattle.agent_core.proofs.agent.Agent.tick.Goals as goal
 pub returns : goal.returns
 returns c =
     let here = c.self.inside in
-    let old : AgentState = record { rules = here.list.now.rules; now = here.now; tabs = here.held.live.tabs; entries = here.held.storage } in
+    let old : AgentState = record { rules = here.list.now.rules; now = here.now; tabs = here.held.live.tabs; entries = here.held.storage; cookies = here.held.cookies } in
     let later = c.clock_after-now.ensures.value in
     record {
       runs = runs_from c.self.view_is
           (subst (λ now. Runs (Tick c.args.s) old (record old { now = now }) (Ok c.ticked.result)) (sym later)
-          (runs_ticked old c.args.s c.ticked.result (c.ticked.ensures ∙ ap (λ (now : ℕ). printed (told_nowhere (Tick c.args.s) (Now (pos now)))) later)));
+          (runs_ticked old c.self.invariant c.args.s c.ticked.result (c.ticked.ensures ∙ ap (λ (now : ℕ). printed (null_reply (Tick c.args.s) (Now (pos now)))) later)));
     }

@@ -1,35 +1,97 @@
--- The frames of the tab are changed in their place.
-use Rattle.std.proofs.Common.{[], None, refl, ap, string_bytes, ◌∙◌}
+-- The frame has its document, and its load is performed; or the frames refuse it.
+use Rattle.std.proofs.Common.{◌≡◌, ◌⊎◌, inr, true, List, Some, None, Ok, map, refl, sym, ap, string_bytes, subst, ◌∙◌}
 use Rattle.std.specs.Prelude.{option_map}
+use Rattle.agent_base.specs.declared.refusals.Label.{Label}
+use Rattle.agent_base.specs.Answers.{Answers}
 use Rattle.origin_site.specs.Plain.{plain_address}
-use Rattle.reply_lines.specs.Reply.{Load}
-use Rattle.agent_model.specs.Frames.{frames_added}
-use Rattle.agent_core.proofs.FrameLemmas.{tree_added}
+use Rattle.frame_tree.specs.declared.tab.TreeFault.TheVariants.{FrameExists, NoFrame, NoMemory}
+use Rattle.frame_tree.specs.Tree.{has_frame, top_site}
 use Rattle.live_state.specs.FramesInPlace.{frames_at}
-use Rattle.live_state.specs.Queues.{frames_by}
-use Rattle.live_state.specs.Tabs.{is_open}
+use Rattle.live_state.specs.Queues.{frames_by, has_document}
+use Rattle.live_state.specs.Tabs.{is_open, tab_at}
 use Rattle.reply_lines.specs.Plain.{body_of}
+use Rattle.script_lines.specs.Plain.{head_field_of}
+use Rattle.agent_model.specs.CookieUse.{frame_use}
+use Rattle.agent_model.specs.Cookies.{request}
+use Rattle.agent_model.specs.Frames.{frames_added, on_frames}
 use Rattle.agent_core.specs.HoldingsView.{HoldingsView}
-use Rattle.agent_core.proofs.DoneLemmas.{frames_as}
-use Rattle.agent_core.proofs.InPlaceLemmas.{acts_in_place, trees_in_place}
+use Rattle.agent_core.specs.Requests.{IsPrepared}
+use Rattle.agent_core.proofs.DoneLemmas.{frames_refused, stays_same}
+use Rattle.agent_core.proofs.FoundLemmas.{frames_are, frames_found}
+use Rattle.agent_core.proofs.FrameLemmas.{tree_added}
+use Rattle.agent_core.proofs.InPlaceLemmas.{load_in_place, trees_in_place}
+use Rattle.agent_core.proofs.RequestLemmas.{acts_wanting, no_parent, number_taken}
 use Rattle.agent_core.proofs.holdings.Holdings.add_frame.Goals as goal
 
-pub invariant_of-self : goal.invariant_of-self
-invariant_of-self c =
-    let old : HoldingsView = record { live = c.self.inside.live; storage = c.self.inside.storage } in
-    let new : HoldingsView = record { live = c.add-done.new.live; storage = c.self.inside.storage } in
-    let frames = frames_at c.args.at.tab old.live.tabs in
-    trees_in_place c.args.at.tab None old new (frames_added c.args.list.now.rules c.args.at c.args.parent (plain_address c.args.url.now) (option_map string_bytes c.args.sandbox.now) c.args.deny frames) refl c.add-done.ensures.site c.add-done.result c.add-done.ensures.answer c.add-done.ensures.put c.add-done.ensures.unchanged
-    (ap (λ (h : HoldingsView). is_open c.args.at.tab h.live.tabs) c.self.view_is ∙ c.requires.«open») (λ tree. tree_added frames tree c.args.list.now.rules c.args.at c.args.parent (plain_address c.args.url.now) (option_map string_bytes c.args.sandbox.now) c.args.deny c.add-done.ensures.number) c.self.invariant
+pub returns-then-not-has_document : goal.returns-then-not-has_document
+returns-then-not-has_document c = record {
+  acts = λ tab site found top.
+      let rules = c.args.list.now.rules in
+      let url = plain_address c.args.url.now in
+      let sandbox = option_map (λ text. string_bytes text.value) c.args.sandbox.now in
+      frames_refused c.args.at.tab tab None (λ frames. request rules c.args.now (frame_use rules site c.args.parent tab.frames url) (map head_field_of c.args.head.now))
+      (frames_added rules c.args.at c.args.parent url sandbox c.args.deny tab.frames) NoFrame (body_of c.answer.result) c.args.self.now c.args.self.now
+      (inr (no_parent rules c.args.at c.args.self.now.live.tabs tab found url c.args.parent sandbox c.args.deny (sym c.if-not-has_document.ensures.there))) (λ e. cc e) c.answer.ensures
+      (record { held = refl; cells = refl; places = refl });
+}
+
+pub returns-then-has_document : goal.returns-then-has_document
+returns-then-has_document c = record {
+  acts = λ tab site found top.
+      let rules = c.args.list.now.rules in
+      let url = plain_address c.args.url.now in
+      let sandbox = option_map (λ text. string_bytes text.value) c.args.sandbox.now in
+      frames_refused c.args.at.tab tab None (λ frames. request rules c.args.now (frame_use rules site c.args.parent tab.frames url) (map head_field_of c.args.head.now))
+      (frames_added rules c.args.at c.args.parent url sandbox c.args.deny tab.frames) FrameExists (body_of c.answer-then-has_document.result) c.args.self.now c.args.self.now
+      (inr (number_taken rules c.args.at c.args.self.now.live.tabs tab found url c.args.parent sandbox c.args.deny (sym c.if-not-has_document.ensures.there) (sym c.if-has_document.ensures.there)))
+      (λ e. cc e) c.answer-then-has_document.ensures (record { held = refl; cells = refl; places = refl });
+}
+
+pub prepare_below-requires-clause-there : goal.prepare_below-requires-clause-there
+prepare_below-requires-clause-there c =
+    let at : Label = record { tab = c.args.at.tab; frame = c.args.parent } in
+    let here : has_document c.self.inside.live.tabs at ≡ true =
+    ap (λ (h : HoldingsView). has_document h.live.tabs at) c.self.view_is ∙ sym c.if-not-has_document.ensures.there in
+    ap (has_frame c.args.parent) (sym (frames_found (tab_at c.args.at.tab c.self.inside.live.tabs) c.open_tab-tab.result.now (sym c.open_tab-tab.ensures.tab))) ∙ here
+
+pub returns-in_err-prepared : goal.returns-in_err-prepared
+returns-in_err-prepared c = rw (← c.self.view_is) (record {
+  acts = λ tab site found top.
+      let rules = c.args.list.now.rules in
+      let url = plain_address c.args.url.now in
+      let sandbox = option_map (λ text. string_bytes text.value) c.args.sandbox.now in
+      let old : HoldingsView = record { live = c.self.inside.live; storage = c.self.inside.storage; cookies = c.self.inside.cookies } in
+      let mid : HoldingsView = record { live = c.self.inside.live; storage = c.self.inside.storage; cookies = c.prepare_below.new.cookies } in
+      let same = frames_are (tab_at c.args.at.tab old.live.tabs) c.open_tab-tab.result.now tab (sym c.open_tab-tab.ensures.tab) found in
+      acts_wanting (on_frames c.args.at.tab tab None (λ frames. request rules c.args.now (frame_use rules site c.args.parent tab.frames url) (map head_field_of c.args.head.now)) (frames_added rules c.args.at c.args.parent url sandbox c.args.deny tab.frames)) old mid
+      c.from_residual.result c.from_residual.ensures.0 (stays_same old mid refl refl (c.in_err-prepared.ensures.prepared site (subst (λ f. top_site f ≡ Some site) same top)).keeps);
+})
+
+pub invariant_of-self-2 : goal.invariant_of-self-2
+invariant_of-self-2 c =
+    let rules = c.args.list.now.rules in
+    let url = plain_address c.args.url.now in
+    let sandbox = option_map (λ text. string_bytes text.value) c.args.sandbox.now in
+    let frames = frames_at c.args.at.tab c.self.inside.live.tabs in
+    trees_in_place c.args.at.tab None c.self.inside.live c.add-done.new.live (frames_added rules c.args.at c.args.parent url sandbox c.args.deny frames) c.add-done.result c.add-done.ensures.answer c.add-done.ensures.put
+    c.add-done.ensures.unchanged (ap (λ (h : HoldingsView). is_open c.args.at.tab h.live.tabs) c.self.view_is ∙ c.requires.«open») (λ tree. tree_added frames tree rules c.args.at c.args.parent url sandbox c.args.deny c.add-done.ensures.number) c.self.invariant
 
 pub returns : goal.returns
 returns c = rw (← c.self.view_is) (record {
-  acts = λ now. λ tab found.
-      let old : HoldingsView = record { live = c.self.inside.live; storage = c.self.inside.storage } in
-      let new : HoldingsView = record { live = c.add-done.new.live; storage = c.self.inside.storage } in
-      let frames = frames_at c.args.at.tab old.live.tabs in
-      frames_as c.args.at.tab tab None (body_of c.loaded.result) (Load None []) (frames_added c.args.list.now.rules c.args.at c.args.parent (plain_address c.args.url.now) (option_map string_bytes c.args.sandbox.now) c.args.deny frames) (frames_added c.args.list.now.rules c.args.at c.args.parent (plain_address c.args.url.now) (option_map string_bytes c.args.sandbox.now) c.args.deny tab.frames) old new c.frames_answer.result c.loaded.ensures
-      (ap (λ t. frames_added c.args.list.now.rules c.args.at c.args.parent (plain_address c.args.url.now) (option_map string_bytes c.args.sandbox.now) c.args.deny (frames_by t)) found)
-      (acts_in_place c.args.at.tab None old new (frames_added c.args.list.now.rules c.args.at c.args.parent (plain_address c.args.url.now) (option_map string_bytes c.args.sandbox.now) c.args.deny frames) refl c.add-done.ensures.site c.add-done.result c.add-done.ensures.answer c.add-done.ensures.put c.add-done.ensures.unchanged
-      tab found (body_of c.loaded.result) c.frames_answer.result c.frames_answer.ensures.answered);
+  acts = λ tab site found top.
+      let rules = c.args.list.now.rules in
+      let url = plain_address c.args.url.now in
+      let head = map head_field_of c.args.head.now in
+      let sandbox = option_map (λ text. string_bytes text.value) c.args.sandbox.now in
+      let old : HoldingsView = record { live = c.self.inside.live; storage = c.self.inside.storage; cookies = c.self.inside.cookies } in
+      let new : HoldingsView = record { live = c.add-done.new.live; storage = c.self.inside.storage; cookies = c.load_answer.new.cookies } in
+      let own = c.prepare_below.new.cookies in
+      let same = frames_are (tab_at c.args.at.tab old.live.tabs) c.open_tab-tab.result.now tab (sym c.open_tab-tab.ensures.tab) found in
+      let prepared : IsPrepared rules c.args.now (frame_use rules site c.args.parent tab.frames url) head old.cookies own (Ok c.in_ok-prepared.prepared) =
+      subst (λ f. IsPrepared rules c.args.now (frame_use rules site c.args.parent f url) head old.cookies own (Ok c.in_ok-prepared.prepared)) (sym same)
+      (c.in_ok-prepared.ensures.prepared site (subst (λ f. top_site f ≡ Some site) same top)) in
+      load_in_place c.args.at.tab None (request rules c.args.now (frame_use rules site c.args.parent tab.frames url) head) c.in_ok-prepared.prepared own old new (frames_added rules c.args.at c.args.parent url sandbox c.args.deny tab.frames) refl prepared.keeps prepared.ready
+      c.add-done.ensures.site c.add-done.result
+      (subst (λ r. Answers (λ _. frames_at c.args.at.tab new.live.tabs) NoMemory r c.add-done.result) (ap (λ t. frames_added rules c.args.at c.args.parent url sandbox c.args.deny (frames_by t)) found) c.add-done.ensures.answer)
+      c.add-done.ensures.put c.add-done.ensures.unchanged tab found c.load_answer.result c.load_answer.ensures.performed;
 })

@@ -5,7 +5,7 @@ use Rattle.storage_key.specs.Plain.{plain_key}
 use Rattle.storage_events.specs.Event.{PlainEvent}
 use Rattle.live_state.specs.Queues.{has_document, is_ready}
 use Rattle.agent_model.specs.Documents.{Keyed}
-use Rattle.agent_core.specs.Documents.{each_told}
+use Rattle.agent_core.specs.Documents.{each_sent}
 use Rattle.agent_core.specs.FrameTrees.{AreTrees}
 use Rattle.agent_core.specs.HoldingsView.{HoldingsView}
 use Rattle.agent_core.proofs.TreeLemmas.{trees_after_send}
@@ -39,14 +39,14 @@ pub returns : goal.returns
 returns c = record {
   acts = λ document there.
       let old : HoldingsView = c.args.self.now in
-      let mid : HoldingsView = record { live = c.reserve_queues.new.self; storage = c.self.inside.storage } in
+      let mid : HoldingsView = record { live = c.reserve_queues.new.self; storage = c.self.inside.storage; cookies = c.self.inside.cookies } in
       let writer : Keyed = record { at = c.args.at; document = document; key = plain_key c.args.key.now } in
       let event : PlainEvent = record { area = c.args.area; key = None; before = None; after = None; url = document.address.text } in
       let these = c.in_ok-events.ensures.events
-      ∙ ap (λ url. each_told (record event { url = url }) c.as_slice.result.now) (c.url-url.ensures.url document there)
-      ∙ ap (each_told event) (c.as_slice.ensures.value ∙ c.in_ok-to.ensures.hearers) in
+      ∙ ap (λ url. each_sent (record event { url = url }) c.as_slice.result.now) (c.url-url.ensures.url document there)
+      ∙ ap (each_sent event) (c.as_slice.ensures.value ∙ c.in_ok-to.ensures.hearers) in
       (is_written event writer (λ pairs. []) old mid _
       (subst AreTrees (sym c.reserve_queues.ensures.same.0) c.self.invariant)
       (c.reserve_queues.ensures.same.0 ∙ ap (λ (h : HoldingsView). h.live.tabs) c.self.view_is)
-      (ap (λ (h : HoldingsView). h.storage) c.self.view_is) c.in_ok-to.ensures.rising event _ _ refl these c.send.ensures.sent c.clear.ensures.cleared c.answer.ensures);
+      (ap (λ (h : HoldingsView). h.storage) c.self.view_is) (ap (λ (h : HoldingsView). h.cookies) c.self.view_is) c.in_ok-to.ensures.rising event _ _ refl these c.send.ensures.sent c.clear.ensures.cleared c.answer.ensures);
 }

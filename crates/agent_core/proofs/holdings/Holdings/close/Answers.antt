@@ -1,7 +1,9 @@
 use Rattle.std.proofs.Common.{ap, sym, subst, ◌∙◌}
 use Rattle.web_storage.specs.Stored.{held_with, without_areas}
+use Rattle.web_cookies.specs.Stored.{partitioned_in}
+use Rattle.agent_model.specs.Partition.{no_holdings}
 use Rattle.agent_core.specs.FrameTrees.{AreTrees}
-use Rattle.agent_core.specs.AgentState.{places_in, tabs_in}
+use Rattle.agent_core.specs.AgentState.{beside_storage, places_in, tabs_in}
 use Rattle.agent_core.proofs.TabLemmas.{places_after_close, tabs_after_close}
 use Rattle.agent_core.proofs.TreeLemmas.{trees_after_close}
 use Rattle.agent_core.proofs.holdings.Holdings.close.Goals as goal
@@ -13,8 +15,9 @@ invariant_of-self c =
 pub returns-clause-held : goal.returns-clause-held
 unfolding held_with
 returns-clause-held c = rw (← c.self.view_is)
-    (c.close.ensures.closed (tabs_in c.drop_tab.new.self.tabs)
-    ∙ ap (λ tabs. let before = held_with tabs c.self.inside.storage in record before { sessions = without_areas c.args.tab before.sessions })
+    (c.close.ensures.closed (beside_storage c.drop_tab.new.self.tabs c.self.inside.cookies)
+    ∙ ap (λ tabs. let before = held_with (record no_holdings { tabs = tabs; cookies = partitioned_in c.self.inside.cookies }) c.self.inside.storage in
+    record before { sessions = without_areas c.args.tab before.sessions })
     (ap tabs_in c.drop_tab.ensures.dropped ∙ tabs_after_close c.args.tab c.self.inside.live.tabs))
 
 pub returns-clause-places : goal.returns-clause-places

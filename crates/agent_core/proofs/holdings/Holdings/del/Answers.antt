@@ -6,12 +6,11 @@ use Rattle.storage_key.specs.Plain.{plain_key}
 use Rattle.storage_events.specs.Event.{PlainEvent}
 use Rattle.live_state.specs.Queues.{has_document, is_ready}
 use Rattle.agent_model.specs.Documents.{Keyed}
-use Rattle.agent_core.specs.Documents.{each_told}
+use Rattle.agent_core.specs.Documents.{each_sent}
 use Rattle.agent_core.specs.FrameTrees.{AreTrees}
-use Rattle.agent_core.specs.HoldingsView.{HoldingsView, held_of}
+use Rattle.agent_core.specs.HoldingsView.{HoldingsView, cells_of, held_of}
 use Rattle.agent_core.proofs.TreeLemmas.{trees_after_send}
 use Rattle.local_area.specs.Area.{area_remove}
-use Rattle.agent_model.specs.Done.{no_shared_cells}
 use Rattle.agent_core.proofs.ToldLemmas.{labels_sent}
 use Rattle.agent_core.proofs.WriteLemmas.{events_distinct, events_ready, is_written, is_removed, none_copied, to_there}
 use Rattle.agent_core.proofs.holdings.Holdings.del.Goals as goal
@@ -42,17 +41,17 @@ pub returns : goal.returns
 returns c = record {
   acts = λ document there.
       let old : HoldingsView = c.args.self.now in
-      let mid : HoldingsView = record { live = c.reserve_queues.new.self; storage = c.self.inside.storage } in
+      let mid : HoldingsView = record { live = c.reserve_queues.new.self; storage = c.self.inside.storage; cookies = c.self.inside.cookies } in
       let writer : Keyed = record { at = c.args.at; document = document; key = plain_key c.args.key.now } in
       let found = option_copied c.value-before.result in
       let is_there : is_none c.value-before.result ≡ false = search rules in
       let event : PlainEvent = record { area = c.args.area; key = Some c.args.name.now; before = found; after = None; url = document.address.text } in
       let these = c.in_ok-events.ensures.events
-      ∙ ap (λ url. each_told (record event { url = url }) c.as_slice.result.now) (c.url-url.ensures.url document there)
-      ∙ ap (each_told event) (c.as_slice.ensures.value ∙ c.in_ok-to.ensures.hearers) in
-      is_removed c.args.area writer c.args.name.now no_shared_cells (held_of old) found old _ _ (none_copied c.value-before.result ∙ is_there) c.value-before.ensures.value
+      ∙ ap (λ url. each_sent (record event { url = url }) c.as_slice.result.now) (c.url-url.ensures.url document there)
+      ∙ ap (each_sent event) (c.as_slice.ensures.value ∙ c.in_ok-to.ensures.hearers) in
+      is_removed c.args.area writer c.args.name.now (cells_of old) (held_of old) found old _ _ (none_copied c.value-before.result ∙ is_there) c.value-before.ensures.value
       (is_written event writer (area_remove c.args.name.now) old mid _
       (subst AreTrees (sym c.reserve_queues.ensures.same.0) c.self.invariant)
       (c.reserve_queues.ensures.same.0 ∙ ap (λ (h : HoldingsView). h.live.tabs) c.self.view_is)
-      (ap (λ (h : HoldingsView). h.storage) c.self.view_is) c.in_ok-to.ensures.rising event _ _ refl these c.send.ensures.sent c.remove.ensures.removed c.answer-2.ensures);
+      (ap (λ (h : HoldingsView). h.storage) c.self.view_is) (ap (λ (h : HoldingsView). h.cookies) c.self.view_is) c.in_ok-to.ensures.rising event _ _ refl these c.send.ensures.sent c.remove.ensures.removed c.answer-2.ensures);
 }

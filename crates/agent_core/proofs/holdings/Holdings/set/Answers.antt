@@ -5,9 +5,9 @@ use Rattle.std.specs.Prelude.{option_copied}
 use Rattle.storage_key.specs.Plain.{plain_key}
 use Rattle.storage_events.specs.Event.{PlainEvent}
 use Rattle.agent_model.specs.Documents.{Keyed}
-use Rattle.agent_model.specs.Done.{Done, no_shared_cells}
-use Rattle.agent_core.specs.Documents.{each_told}
-use Rattle.agent_core.specs.HoldingsView.{held_of}
+use Rattle.agent_model.specs.Done.{Done}
+use Rattle.agent_core.specs.Documents.{each_sent}
+use Rattle.agent_core.specs.HoldingsView.{cells_of, held_of}
 use Rattle.agent_core.specs.Actions.{Acts}
 use Rattle.agent_core.proofs.ToldLemmas.{labels_sent}
 use Rattle.agent_core.proofs.WriteLemmas.{is_set}
@@ -25,10 +25,10 @@ returns c = record {
       let old = c.args.self.now in
       let writer : Keyed = record { at = c.args.at; document = document; key = plain_key c.args.key.now } in
       let found = option_copied c.value-before.result in
-      let told : PlainEvent = record { area = area; key = Some name; before = found; after = Some value; url = document.address.text } in
+      let event : PlainEvent = record { area = area; key = Some name; before = found; after = Some value; url = document.address.text } in
       let these = c.in_ok-events.ensures.events
-      ∙ ap (λ url. each_told (record { area = area; key = Some name; before = found; after = Some value; url = url }) c.as_slice.result.now) (c.url-url.ensures.url document there)
-      ∙ ap (each_told told) c.as_slice.ensures.value in
-      subst (λ (d : Done). Acts (λ _ _. d) old c.store.new.self c.store.result) (is_set area writer name no_shared_cells (held_of old) value found (λ equal. true≢false (sym (c.if-is_text.ensures.1 equal))) c.value-before.ensures.value)
-      (c.store.ensures.acts told these document there);
+      ∙ ap (λ url. each_sent (record { area = area; key = Some name; before = found; after = Some value; url = url }) c.as_slice.result.now) (c.url-url.ensures.url document there)
+      ∙ ap (each_sent event) c.as_slice.ensures.value in
+      subst (λ (d : Done). Acts (λ _ _. d) old c.store.new.self c.store.result) (is_set area writer name (cells_of old) (held_of old) value found (λ equal. true≢false (sym (c.if-is_text.ensures.1 equal))) c.value-before.ensures.value)
+      (c.store.ensures.acts event these document there);
 }

@@ -3,16 +3,17 @@ use Rattle.std.proofs.Common.{◌≡◌, ◌≤◌, ◌<◌, List, true, ap, ref
 use Rattle.std.specs.List.{list_all}
 use Rattle.local_area.specs.Area.{Pair, area_put, area_weight, quota}
 use Rattle.web_storage.specs.Stored.{Entries, held_with}
-use Rattle.agent_model.specs.Partition.{Tabs, area_of, with_area}
+use Rattle.web_cookies.specs.Stored.{shared_in}
+use Rattle.agent_model.specs.Partition.{Holdings, area_of, with_area}
 use Rattle.agent_model.specs.AreaActions.{pairs_of}
-use Rattle.agent_core.specs.AgentState.{places_in, tabs_in}
+use Rattle.agent_core.specs.AgentState.{beside_storage, places_in}
 use Rattle.storage_key.specs.Plain.{plain_key}
 use Rattle.storage_events.specs.Event.{PlainEvent}
 use Rattle.live_state.specs.Queues.{has_document, is_ready}
 use Rattle.agent_model.specs.Documents.{Keyed}
-use Rattle.agent_core.specs.Documents.{each_told}
+use Rattle.agent_core.specs.Documents.{each_sent}
 use Rattle.agent_core.specs.FrameTrees.{AreTrees}
-use Rattle.agent_core.specs.HoldingsView.{HoldingsView, held_of}
+use Rattle.agent_core.specs.HoldingsView.{HoldingsView, cells_of, held_of}
 use Rattle.agent_core.proofs.TreeLemmas.{trees_after_send}
 use Rattle.agent_core.proofs.WriteLemmas.{events_distinct, events_ready, is_past, is_refused, is_stored, is_within, is_written, to_there}
 use Rattle.agent_core.proofs.holdings.Holdings.store.Goals as goal
@@ -44,47 +45,50 @@ invariant_of-self-in-Ok c =
 
 pub returns-in-Ok : goal.returns-in-Ok
 returns-in-Ok c = record {
-  acts = λ told these document there.
-      let event : PlainEvent = record told { area = c.args.area } in
+  acts = λ made these document there.
+      let event : PlainEvent = record made { area = c.args.area } in
       let old : HoldingsView = c.args.self.now in
-      let mid : HoldingsView = record { live = c.reserve_queues.new.self; storage = c.self.inside.storage } in
+      let mid : HoldingsView = record { live = c.reserve_queues.new.self; storage = c.self.inside.storage; cookies = c.self.inside.cookies } in
       let writer : Keyed = record { at = c.args.at; document = document; key = plain_key c.args.key.now } in
-      let pairs_with : Entries → List Pair = λ entries. pairs_of c.args.area writer (held_with (tabs_in old.live.tabs) entries) in
+      let pairs_with : Entries → List Pair = λ entries. pairs_of c.args.area writer (held_with (beside_storage old.live.tabs old.cookies) entries) in
       let entries : mid.storage ≡ old.storage = ap (λ (h : HoldingsView). h.storage) c.self.view_is in
       let put : area_put (string_bytes c.in_ok-name.name) (string_bytes c.in_ok-value.value) ≡ area_put c.args.name.now c.args.value.now =
       λ i. area_put (c.in_ok-name.ensures.ok i) (c.in_ok-value.ensures.ok i) in
-      is_stored c.args.area writer (area_put c.args.name.now c.args.value.now (pairs_of c.args.area writer (held_of old))) event (held_of old) old _ _
+      is_stored c.args.area writer (area_put c.args.name.now c.args.value.now (pairs_of c.args.area writer (held_of old))) event (cells_of old) (held_of old) old _ _
       (subst (λ pairs. area_weight pairs ≤ quota) (λ i. put i (pairs_with (entries i)))
       (is_within c.in-Ok.field-0 (area_weight (area_put (string_bytes c.in_ok-name.name) (string_bytes c.in_ok-value.value) (pairs_with mid.storage)))
-      (c.in-Ok.ensures.quota (tabs_in old.live.tabs))))
+      (c.in-Ok.ensures.quota (beside_storage old.live.tabs old.cookies))))
       (is_written event writer (area_put c.args.name.now c.args.value.now) old mid _
       (subst AreTrees (sym c.reserve_queues.ensures.same.0) c.self.invariant)
-      (c.reserve_queues.ensures.same.0 ∙ ap (λ (h : HoldingsView). h.live.tabs) c.self.view_is) entries c.requires.rising event _ _ refl
-      (these ∙ ap (each_told event) c.requires.hearers) c.send.ensures.sent
-      (subst (λ put. (tabs : Tabs) → let before = held_with tabs mid.storage in
-      held_with tabs c.put.new.self ≡ with_area c.args.area c.args.at.tab (plain_key c.args.key.now) (put (area_of c.args.area c.args.at.tab (plain_key c.args.key.now) before)) before)
+      (c.reserve_queues.ensures.same.0 ∙ ap (λ (h : HoldingsView). h.live.tabs) c.self.view_is) entries (ap (λ (h : HoldingsView). h.cookies) c.self.view_is) c.requires.rising event _ _ refl
+      (these ∙ ap (each_sent event) c.requires.hearers) c.send.ensures.sent
+      (subst (λ put. (beside : Holdings) → let before = held_with beside mid.storage in
+      held_with beside c.put.new.self ≡ with_area c.args.area c.args.at.tab (plain_key c.args.key.now) (put (area_of c.args.area c.args.at.tab (plain_key c.args.key.now) before)) before)
       put c.in-Ok.ensures.stored)
       c.answer.ensures);
 }
 
 pub returns-in-Err-Quota : goal.returns-in-Err-Quota
 returns-in-Err-Quota c = record {
-  acts = λ told these document there.
-      let event : PlainEvent = record told { area = c.args.area } in
+  acts = λ made these document there.
+      let event : PlainEvent = record made { area = c.args.area } in
       let old : HoldingsView = c.args.self.now in
-      let mid : HoldingsView = record { live = c.reserve_queues.new.self; storage = c.self.inside.storage } in
+      let mid : HoldingsView = record { live = c.reserve_queues.new.self; storage = c.self.inside.storage; cookies = c.self.inside.cookies } in
       let writer : Keyed = record { at = c.args.at; document = document; key = plain_key c.args.key.now } in
-      let pairs_with : Entries → List Pair = λ entries. pairs_of c.args.area writer (held_with (tabs_in old.live.tabs) entries) in
+      let pairs_with : Entries → List Pair = λ entries. pairs_of c.args.area writer (held_with (beside_storage old.live.tabs old.cookies) entries) in
       let entries : mid.storage ≡ old.storage = ap (λ (h : HoldingsView). h.storage) c.self.view_is in
+      let own : mid.cookies ≡ old.cookies = ap (λ (h : HoldingsView). h.cookies) c.self.view_is in
       let tabs : mid.live.tabs ≡ old.live.tabs = c.reserve_queues.ensures.same.0 ∙ ap (λ (h : HoldingsView). h.live.tabs) c.self.view_is in
       let put : area_put (string_bytes c.in_ok-name.name) (string_bytes c.in_ok-value.value) ≡ area_put c.args.name.now c.args.value.now =
       λ i. area_put (c.in_ok-name.ensures.ok i) (c.in_ok-value.ensures.ok i) in
-      is_refused c.args.area writer (area_put c.args.name.now c.args.value.now (pairs_of c.args.area writer (held_of old))) event (held_of old) old _ _
+      is_refused c.args.area writer (area_put c.args.name.now c.args.value.now (pairs_of c.args.area writer (held_of old))) event (cells_of old) (held_of old) old _ _
       (subst (λ pairs. quota < area_weight pairs) (λ i. put i (pairs_with (entries i)))
       (is_past c.in-Err-Quota.field-0 c.in-Err-Quota.field-0-0 (area_weight (area_put (string_bytes c.in_ok-name.name) (string_bytes c.in_ok-value.value) (pairs_with mid.storage)))
-      c.in-Err-Quota.field-0-is (c.in-Err-Quota.ensures.causes (tabs_in old.live.tabs)) (c.in-Err-Quota.ensures.quota (tabs_in old.live.tabs))))
+      c.in-Err-Quota.field-0-is (c.in-Err-Quota.ensures.causes (beside_storage old.live.tabs old.cookies)) (c.in-Err-Quota.ensures.quota (beside_storage old.live.tabs old.cookies))))
       (record {
-        held = ap (λ tabs. held_with (tabs_in tabs) c.put.new.self) tabs ∙ c.in-Err-Quota.ensures.unchanged (tabs_in old.live.tabs) ∙ ap (held_with (tabs_in old.live.tabs)) entries;
+        held = (λ i. held_with (beside_storage (tabs i) (own i)) c.put.new.self) ∙ c.in-Err-Quota.ensures.unchanged (beside_storage old.live.tabs old.cookies)
+            ∙ ap (held_with (beside_storage old.live.tabs old.cookies)) entries;
+        cells = ap shared_in own;
         answer = c.answer-in-Err-Quota.ensures;
         places = ap places_in tabs;
       });

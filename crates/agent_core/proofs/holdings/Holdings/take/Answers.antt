@@ -5,7 +5,7 @@ use Rattle.live_state.specs.Tabs.{PlainTab}
 use Rattle.reply_lines.specs.Reply.{Events}
 use Rattle.agent_core.specs.FrameTrees.{AreTrees}
 use Rattle.agent_core.specs.HoldingsView.{HoldingsView}
-use Rattle.agent_core.proofs.DoneLemmas.{taken_done}
+use Rattle.agent_core.proofs.DoneLemmas.{no_change, taken_done}
 use Rattle.agent_core.proofs.TreeLemmas.{trees_after_take}
 use Rattle.agent_core.proofs.holdings.Holdings.take.Goals as goal
 
@@ -20,7 +20,7 @@ returns c =
     ap (λ (h : HoldingsView). has_document h.live.tabs at) c.self.view_is ∙ sym c.if-not-has_document.ensures.there in
     let given = c.take_events-events.ensures.given in
     rw (← c.self.view_is) (record {
-      acts = λ tab found.
+      acts = λ tab site found top.
           taken_done at tab _ _ _ found (sym (ap (λ (t : Option PlainTab). has_frame at.frame (frames_by t)) found) ∙ there)
-          c.take_events-events.ensures.taken refl (λ i. Events (given.0 i) (given.1 i));
+          c.take_events-events.ensures.taken refl (no_change c.self.inside.cookies) (λ i. Events (given.0 i) (given.1 i));
     })

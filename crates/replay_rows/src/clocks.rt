@@ -16,7 +16,9 @@ pub const ROWS: &[Row] = &[
         words: REPLAY,
         list: "",
         script: "{\"do\":\"tick\",\"s\":0}\n{\"do\":\"tick\",\"s\":1000000000}\n",
-        out: "{\"do\":\"tick\",\"is\":\"ok\",\"now\":1767225600,\"site\":null}\n{\"do\":\"tick\",\"is\":\"ok\",\"now\":2767225600,\"site\":null}\n",
+        out: r#"{"do":"tick","is":"ok","now":1767225600,"site":null}
+{"do":"tick","is":"ok","now":2767225600,"site":null}
+"#,
         err: "",
         status: 0,
     },
@@ -25,7 +27,9 @@ pub const ROWS: &[Row] = &[
         words: &["replay", "LIST", "--start", "253402300798"],
         list: "",
         script: "{\"do\":\"tick\",\"s\":1}\n{\"do\":\"tick\",\"s\":1}\n",
-        out: "{\"do\":\"tick\",\"is\":\"ok\",\"now\":253402300799,\"site\":null}\n{\"do\":\"tick\",\"is\":\"ok\",\"now\":253402300799,\"site\":null}\n",
+        out: r#"{"do":"tick","is":"ok","now":253402300799,"site":null}
+{"do":"tick","is":"ok","now":253402300799,"site":null}
+"#,
         err: "",
         status: 0,
     },

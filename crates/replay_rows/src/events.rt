@@ -17,15 +17,19 @@ pub const ROWS: &[Row] = &[
 {"do":"events","tab":2,"frame":1}
 {"do":"events","tab":2}
 "#,
-        out: r#"{"cookie":null,"do":"open","is":"ok","set":[],"site":"https://a.test"}
+        out: concat!(
+            r#"{"cookie":null,"do":"open","is":"ok","set":[],"site":"https://a.test"}
 {"cookie":null,"do":"open","is":"ok","set":[],"site":"https://a.test"}
 {"cookie":null,"do":"frame","is":"ok","set":[],"site":"https://a.test"}
 {"do":"set","is":"ok","site":"https://a.test"}
-{"do":"events","events":[{"area":"local","key":"k","new":"v","old":null,"url":"https://a.test/"}],"is":"ok","lost":0,"site":"https://a.test"}
+{"do":"events","events":["#,
+            r#"{"area":"local","key":"k","new":"v","old":null,"url":"https://a.test/"}"#,
+            r#"],"is":"ok","lost":0,"site":"https://a.test"}
 {"do":"events","events":[],"is":"ok","lost":0,"site":"https://a.test"}
 {"do":"events","events":[],"is":"ok","lost":0,"site":"https://a.test"}
 {"do":"events","events":[],"is":"ok","lost":0,"site":"https://a.test"}
 "#,
+        ),
         err: "",
         status: 0,
     },
@@ -43,7 +47,8 @@ pub const ROWS: &[Row] = &[
 {"do":"del","tab":1,"key":"k"}
 {"do":"events","tab":2}
 "#,
-        out: r#"{"cookie":null,"do":"open","is":"ok","set":[],"site":"https://a.test"}
+        out: concat!(
+            r#"{"cookie":null,"do":"open","is":"ok","set":[],"site":"https://a.test"}
 {"cookie":null,"do":"open","is":"ok","set":[],"site":"https://a.test"}
 {"do":"clear","is":"ok","site":"https://a.test"}
 {"do":"set","is":"ok","site":"https://a.test"}
@@ -51,8 +56,14 @@ pub const ROWS: &[Row] = &[
 {"do":"set","is":"ok","site":"https://a.test"}
 {"do":"del","is":"ok","site":"https://a.test"}
 {"do":"del","is":"ok","site":"https://a.test"}
-{"do":"events","events":[{"area":"local","key":null,"new":null,"old":null,"url":"https://a.test/x"},{"area":"local","key":"k","new":"1","old":null,"url":"https://a.test/x"},{"area":"local","key":"k","new":"2","old":"1","url":"https://a.test/x"},{"area":"local","key":"k","new":null,"old":"2","url":"https://a.test/x"}],"is":"ok","lost":0,"site":"https://a.test"}
+{"do":"events","events":["#,
+            r#"{"area":"local","key":null,"new":null,"old":null,"url":"https://a.test/x"},"#,
+            r#"{"area":"local","key":"k","new":"1","old":null,"url":"https://a.test/x"},"#,
+            r#"{"area":"local","key":"k","new":"2","old":"1","url":"https://a.test/x"},"#,
+            r#"{"area":"local","key":"k","new":null,"old":"2","url":"https://a.test/x"}"#,
+            r#"],"is":"ok","lost":0,"site":"https://a.test"}
 "#,
+        ),
         err: "",
         status: 0,
     },
@@ -75,12 +86,15 @@ pub const ROWS: &[Row] = &[
 {"do":"events","tab":2}
 {"do":"events","tab":1}
 "#,
-        out: r#"{"cookie":null,"do":"open","is":"ok","set":[],"site":"https://a.test"}
+        out: concat!(
+            r#"{"cookie":null,"do":"open","is":"ok","set":[],"site":"https://a.test"}
 {"cookie":null,"do":"frame","is":"ok","set":[],"site":"https://a.test"}
 {"cookie":null,"do":"open","is":"ok","set":[],"site":"https://a.test"}
 {"do":"set","is":"ok","site":"https://a.test"}
 {"do":"events","events":[],"is":"ok","lost":0,"site":"https://a.test"}
-{"do":"events","events":[{"area":"session","key":"k","new":"v","old":null,"url":"https://a.test/"}],"is":"ok","lost":0,"site":"https://a.test"}
+{"do":"events","events":["#,
+            r#"{"area":"session","key":"k","new":"v","old":null,"url":"https://a.test/"}"#,
+            r#"],"is":"ok","lost":0,"site":"https://a.test"}
 {"do":"set","is":"ok","site":"https://a.test"}
 {"cookie":null,"do":"nav","is":"ok","set":[],"site":"https://a.test"}
 {"do":"events","events":[],"is":"ok","lost":0,"site":"https://a.test"}
@@ -88,8 +102,11 @@ pub const ROWS: &[Row] = &[
 {"do":"click","is":"ok","site":"https://a.test"}
 {"cookie":null,"do":"go","is":"ok","set":[],"site":"https://a.test"}
 {"do":"events","events":[],"is":"ok","lost":0,"site":"https://a.test"}
-{"do":"events","events":[{"area":"local","key":"k","new":"x","old":null,"url":"https://a.test/"}],"is":"ok","lost":0,"site":"https://a.test"}
+{"do":"events","events":["#,
+            r#"{"area":"local","key":"k","new":"x","old":null,"url":"https://a.test/"}"#,
+            r#"],"is":"ok","lost":0,"site":"https://a.test"}
 "#,
+        ),
         err: "",
         status: 0,
     },

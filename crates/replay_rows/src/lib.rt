@@ -8,6 +8,10 @@ mod areas;
 #[cfg(test)]
 mod clocks;
 #[cfg(test)]
+mod cookie_limits;
+#[cfg(test)]
+mod cookies;
+#[cfg(test)]
 mod events;
 #[cfg(test)]
 mod faults;

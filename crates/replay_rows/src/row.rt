@@ -111,6 +111,31 @@ fn make_ended(
     })
 }
 
+/// A script, and the replies that it has to print.
+#[derive(Drop)]
+pub struct Lines {
+    pub script: String,
+    pub replies: String,
+}
+
+impl Lines {
+    pub fn new(alloc: Global) -> Lines {
+        Lines {
+            script: String::new(alloc),
+            replies: String::new(alloc),
+        }
+    }
+
+    /// A line, and its reply.
+    pub fn add(&mut self, line: &str, reply: &str) -> Result<(), Fail> {
+        self.script.push_str(line)?;
+        self.script.push_str("\n")?;
+        self.replies.push_str(reply)?;
+        self.replies.push_str("\n")?;
+        Ok(())
+    }
+}
+
 /// Runs a row, and names it where it fails.
 pub fn check(rt: &impl Abort, alloc: Global, row: &Row) -> Result<(), Fail> {
     let list = source(alloc, row.list, &[])?;

@@ -1,5 +1,5 @@
 //! A run of many tabs, frames, storage keys and pairs, whose replies are written in several parts.
-use crate::row::{run_of, sink_of, source};
+use crate::row::{Lines, run_of, sink_of, source};
 use std::alloc::Global;
 use std::test::Fail;
 
@@ -8,23 +8,6 @@ const TABS: u32 = 3_000;
 const FRAMES: u32 = 255;
 
 const PAIRS: u32 = 2_000;
-
-// A script, and the replies that it has to print.
-#[derive(Drop)]
-struct Lines {
-    script: String,
-    replies: String,
-}
-
-impl Lines {
-    fn add(&mut self, line: &str, reply: &str) -> Result<(), Fail> {
-        self.script.push_str(line)?;
-        self.script.push_str("\n")?;
-        self.replies.push_str(reply)?;
-        self.replies.push_str("\n")?;
-        Ok(())
-    }
-}
 
 // Each tab shows a site of its own, and sets a pair there.
 fn add_tab(alloc: Global, lines: &mut Lines, tab: u32) -> Result<(), Fail> {
@@ -59,10 +42,7 @@ fn add_pair(alloc: Global, lines: &mut Lines, area: &str, pair: u32) -> Result<(
 }
 
 fn many_lines(alloc: Global) -> Result<Lines, Fail> {
-    let mut lines = Lines {
-        script: String::new(alloc),
-        replies: String::new(alloc),
-    };
+    let mut lines = Lines::new(alloc);
     for tab in 1..TABS + 1 {
         add_tab(alloc, &mut lines, tab)?;
     }

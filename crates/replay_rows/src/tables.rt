@@ -2,7 +2,7 @@
 use crate::refusals::{LISTS, USAGE, WORDS};
 use crate::row::{REPLAY, Row, check};
 use crate::script_faults::SCRIPTS;
-use crate::{areas, clocks, events, first_path, frames, lists, sessions};
+use crate::{areas, clocks, cookies, events, first_path, frames, lists, sessions};
 use std::alloc::Global;
 use std::process::Abort;
 use std::test::Fail;
@@ -22,6 +22,11 @@ fn areas(rt: HostRuntime) -> Result<(), Fail> {
 #[test]
 fn clocks(rt: HostRuntime) -> Result<(), Fail> {
     check_all(&rt, rt.alloc(), clocks::ROWS)
+}
+
+#[test]
+fn cookies(rt: HostRuntime) -> Result<(), Fail> {
+    check_all(&rt, rt.alloc(), cookies::ROWS)
 }
 
 #[test]

@@ -9,12 +9,12 @@ use Rattle.std.specs.Ordering.{nat_cmp, bool_cmp, ordering_then}
 use Rattle.storage_key.specs.Key.{origin_order, site_order, key_order}
 
 -- both parts of a tie are ties
-both_equal : (a b : Ordering) → ordering_then a b ≡ Equal → (a ≡ Equal) × (b ≡ Equal)
+pub both_equal : (a b : Ordering) → ordering_then a b ≡ Equal → (a ≡ Equal) × (b ≡ Equal)
 both_equal Less b e = cc
 both_equal Equal b e = (refl, e)
 both_equal Greater b e = cc
 
-bool_same : IsAntisymmetric bool_cmp
+pub bool_same : IsAntisymmetric bool_cmp
 bool_same true true e = refl
 bool_same true false e = cc
 bool_same false true e = cc
@@ -36,10 +36,10 @@ origin_order_same a b e =
     let port = nat_cmp-IsAntisymmetric a.port b.port three.1 in
     λ i. record { https = https i; ip = ip i; host = host i; port = port i }
 
-site_order_total : IsTotalOrder site_order
+pub site_order_total : IsTotalOrder site_order
 site_order_total = then_total (on_total (λ s. s.https) bool_cmp_total) (on_total (λ s. s.host) nat_list_cmp_total)
 
-site_order_same : IsAntisymmetric site_order
+pub site_order_same : IsAntisymmetric site_order
 site_order_same a b e =
     let both = both_equal (bool_cmp a.https b.https) _ e in
     let https = bool_same a.https b.https both.0 in

@@ -10,8 +10,8 @@ use Rattle.unwinding.specs.declared.example.Note.{Note}
 use Rattle.unwinding.specs.declared.example.Event.{Event}
 use Rattle.unwinding.specs.declared.example.Event.TheVariants.{Save, Write, Read, Give, Take, Ring}
 use Rattle.unwinding.specs.declared.example.Event.TheVariants.{Hear}
-use Rattle.unwinding.specs.Machine.{World, Occurrence}
-use Rattle.unwinding.specs.World.{consulted, outcome, after_side, after_sides, after_main}
+use Rattle.unwinding.specs.Machine.{World}
+use Rattle.unwinding.specs.World.{consulted, outcome, after_side, after_sides}
 use Rattle.unwinding.specs.World.{world_step}
 use Rattle.unwinding.specs.Durable.{partition_changes, cell_changes}
 use Rattle.unwinding.specs.Facts.{UnsharedFacts, IsQuiet, Facts, KeepingFacts, DurableFacts}
@@ -22,6 +22,7 @@ use Rattle.unwinding.specs.Example.{heard_of}
 use Rattle.unwinding.specs.ExampleSetting.{machine, unshared_machine, keeping, IsSound, IsValid}
 use Rattle.unwinding.specs.ExampleSetting.{example}
 use Rattle.unwinding.specs.ExampleLaw.{ExampleUnwound}
+use Rattle.unwinding.proofs.Partitions.{sides_hold, partitions_hold}
 
 site_same : (s t : Site) → same_site s t ≡ true → s ≡ t
 site_same First First e = refl
@@ -95,26 +96,17 @@ step_site p cells Take = refl
 step_site p cells Ring = refl
 step_site p cells Hear = refl
 
+-- no event makes a partition another site's
+stays_at : (s : Site) (e : Event) (p : Partition) (cells : Cells) → p.site ≡ s → (step_of p cells e).partition.site ≡ s
+stays_at s e p cells of = step_site p cells e ∙ of
+
 side_site : (w : World Site Cells Partition ℕ) (l : Line) → IsSound w → IsSound (after_sides machine w l)
 unfolding machine
-side_site w l ok s = pick (heard_of l.site s l.event)
-  where
-    pick : (o : Option Event) → (after_side machine w.cells o (w.partition s)).site ≡ s
-    pick None = ok s
-    pick (Some e) = step_site (w.partition s) _ e ∙ ok s
-
-main_site : (v : World Site Cells Partition ℕ) (o : Option (Occurrence Site Event)) → IsSound v → IsSound (after_main machine v o)
-unfolding machine
-main_site v None ok s = ok s
-main_site v (Some a) ok s = pick (same_site s a.site) refl
-  where
-    pick : (b : Bool) → same_site s a.site ≡ b → ((after_main machine v (Some a)).partition s).site ≡ s
-    pick true is = rw is (step_site (v.partition a.site) _ a.event ∙ ok a.site ∙ sym (site_same s a.site is))
-    pick false is = rw is (ok s)
+side_site w l = sides_hold machine site_same (λ s p. p.site ≡ s) w l (λ s e is. stays_at s e)
 
 sound : (w : World Site Cells Partition ℕ) (l : Line) → IsSound w → IsSound (world_step machine w l)
-unfolding world_step
-sound w l ok s = main_site (after_sides machine w l) (machine.main w l) (side_site w l ok) s
+unfolding machine
+sound w l = partitions_hold machine site_same (λ s p. p.site ≡ s) w l (λ s e is. stays_at s e) (λ a is. stays_at a.site a.event)
 
 pub facts : Facts machine IsSound
 unfolding machine

@@ -2,6 +2,7 @@ pub mod Tests
 pub mod Runs
 pub mod UnsharedReplies
 pub mod HeldCells
+pub mod Partitions
 pub mod EpochReplies
 pub mod OthersOut
 pub mod HoldsOnly

@@ -1,5 +1,5 @@
--- What a line gives a site goes by the partitions of near sites, the cells that are home to it and
--- the rest, so that lines of other sites can be left out.
+-- What a line gives a site of a group goes by the partitions of the group's sites, its cells and the
+-- rest, so that lines of other sites can be left out.
 use Rattle.std.proofs.Common.{◌≡◌, Bool, true, false, cond, not, ◌&&◌, ◌||◌, List, [], ◌∷◌, ◌++◌, Option, Some, None}
 use Rattle.std.proofs.Common.{refl, sym, ap, subst, ◌∙◌, append-nil, arith}
 use Rattle.std.proofs.lemmas.Bool.{true≢false}
@@ -10,7 +10,7 @@ use Rattle.unwinding.specs.LocalEntries.{side_entries, main_entries, main_touche
 use Rattle.unwinding.specs.LocalEntries.{line_touched, local_entries}
 use Rattle.unwinding.specs.OneSite.{own_beginning, epoch_script}
 use Rattle.unwinding.specs.Facts.{Facts}
-use Rattle.unwinding.specs.LeftOut.{lines_without, IsAlike, OwnFacts, IsFar, ApartFacts}
+use Rattle.unwinding.specs.LeftOut.{Group, lines_without, ConsultsWithin, IsGroup, IsAlike, OwnFacts, IsOutside, ApartFacts}
 use Rattle.unwinding.proofs.HeldCells.{in_append}
 
 or_none : (b : Bool) → (b || false) ≡ b
@@ -19,8 +19,7 @@ or_none false = refl
 
 module _ {Site Cell Cells Partition Content Rest Line Event Reply Change : Type 0}
     (m : Machine Site Cell Cells Partition Content Rest Line Event Reply Change)
-    (is_near : Site → Site → Bool)
-    (IsSound : WorldOf m → Type 0) (f : Facts m IsSound) (g : OwnFacts m is_near IsSound) where
+    (IsSound : WorldOf m → Type 0) (f : Facts m IsSound) (g : Group Site Cell) (own : OwnFacts m g) where
   -- what an event that sees no cell makes of a partition
   side_same : (x y : Cells) (o : Option Event) (p : Partition) → after_side m x o p ≡ after_side m y o p
   side_same x y None p = refl
@@ -31,50 +30,47 @@ module _ {Site Cell Cells Partition Content Rest Line Event Reply Change : Type 
   named w a c = is_in m.same_cell c (m.names (w.partition a.site) a.event)
 
   asks_named : (w : WorldOf m) (a : Occurrence Site Event) (c : Cell) → consulted m a.site (w.partition a.site) a.event c ≡ named w a c
-  asks_named w a c = ap (λ b. named w a c || (b && m.is_own a.site c)) (g.sweeps_none (w.partition a.site) a.event) ∙ or_none (named w a c)
+  asks_named w a c = ap (λ b. named w a c || (b && m.is_own a.site c)) (own.sweeps_none (w.partition a.site) a.event) ∙ or_none (named w a c)
 
-  -- the event of a near site names home cells, and that of another one names none
-  abbrev NamesHome : Site → WorldOf m → Option (Occurrence Site Event) → Type 0
-  NamesHome s w None = Unit {0}
-  NamesHome s w (Some a) =
-      (is_near s a.site ≡ true → (c : Cell) → named w a c ≡ true → m.is_home s c ≡ true)
-      × (is_near s a.site ≡ false → (c : Cell) → named w a c ≡ true → m.is_home s c ≡ false)
+  -- what the event of a site of the group names is of the group
+  named_inside : (w : WorldOf m) (l : Line) (a : Occurrence Site Event) → ConsultsWithin m g w l (Some a) → g.has_site a.site ≡ true → (c : Cell) → named (after_sides m w l) a c ≡ true → g.has_cell c ≡ true
+  named_inside w l a within inside c is =
+      let same = within c is in
+      grind (arith, same, inside)
 
-  names_home : (s : Site) (w : WorldOf m) (l : Line) → IsSound w → NamesHome s (after_sides m w l) (m.main w l)
-  names_home s w l ok = at (m.main w l) refl
-    where
-      at : (o : Option (Occurrence Site Event)) → m.main w l ≡ o → NamesHome s (after_sides m w l) o
-      at None is = tt
-      at (Some a) is = (λ near c. g.near_names s w l a ok is near c, λ far c. g.far_names s w l a ok is far c)
+  -- ---- the event of a site outside
 
-  -- ---- the event of a site that is not near
-
-  near_apart : (s t u : Site) → is_near s t ≡ true → is_near s u ≡ false → m.same_site t u ≡ false
-  near_apart s t u near far = at (m.same_site t u) refl
+  site_apart : (t u : Site) → g.has_site t ≡ true → g.has_site u ≡ false → m.same_site t u ≡ false
+  site_apart t u of far = at (m.same_site t u) refl
     where
       at : (b : Bool) → m.same_site t u ≡ b → b ≡ false
-      at true is = absurd (true≢false (sym near ∙ ap (is_near s) (f.site_same t u is) ∙ far))
+      at true is = absurd (true≢false (sym of ∙ ap g.has_site (f.site_same t u is) ∙ far))
       at false is = refl
 
-  far_named : (s : Site) (w : WorldOf m) (a : Occurrence Site Event) → NamesHome s w (Some a) → is_near s a.site ≡ false → (c : Cell) → m.is_home s c ≡ true → named w a c ≡ false
-  far_named s w a names far c home = at (named w a c) refl
+  -- it names no cell of the group
+  unnamed : (w : WorldOf m) (l : Line) (a : Occurrence Site Event) → ConsultsWithin m g w l (Some a) → g.has_site a.site ≡ false → (c : Cell) → g.has_cell c ≡ true → named (after_sides m w l) a c ≡ false
+  unnamed w l a within far c of = at (named (after_sides m w l) a c) refl
     where
-      at : (b : Bool) → named w a c ≡ b → b ≡ false
-      at true is = absurd (true≢false (sym home ∙ names.1 far c is))
+      at : (b : Bool) → named (after_sides m w l) a c ≡ b → b ≡ false
+      at true is =
+          let same = within c is in
+          grind (arith, same, of, far)
       at false is = refl
 
-  -- it leaves near partitions
-  far_partition : (s : Site) (w : WorldOf m) (o : Option (Occurrence Site Event)) → IsFar m is_near s o → (t : Site) → is_near s t ≡ true → (after_main m w o).partition t ≡ w.partition t
-  far_partition s w None far t near = refl
-  far_partition s w (Some a) far t near = ap (λ b. cond b (outcome m a.site (w.partition a.site) w.cells a.event).partition (w.partition t)) (near_apart s t a.site near far)
+  -- it leaves the partitions of the group's sites
+  outside_partition : (w : WorldOf m) (o : Option (Occurrence Site Event)) → IsOutside m g o → (t : Site) → g.has_site t ≡ true → (after_main m w o).partition t ≡ w.partition t
+  outside_partition w None far t of = refl
+  outside_partition w (Some a) far t of = ap (λ b. cond b (outcome m a.site (w.partition a.site) w.cells a.event).partition (w.partition t)) (site_apart t a.site of far)
 
-  -- and home cells
-  far_cell : (s : Site) (w : WorldOf m) (o : Option (Occurrence Site Event)) → NamesHome s w o → IsFar m is_near s o → (c : Cell) → m.is_home s c ≡ true → m.get (after_main m w o).cells c ≡ m.get w.cells c
-  far_cell s w None names far c home = refl
-  far_cell s w (Some a) names far c home =
-      let new = (outcome m a.site (w.partition a.site) w.cells a.event).cells in
-      f.get_merge (consulted m a.site (w.partition a.site) a.event) new w.cells c
-      ∙ ap (λ b. cond b (m.get new c) (m.get w.cells c)) (asks_named w a c ∙ far_named s w a names far c home)
+  -- and its cells
+  outside_cell : (w : WorldOf m) (l : Line) (o : Option (Occurrence Site Event)) → ConsultsWithin m g w l o → IsOutside m g o → (c : Cell) → g.has_cell c ≡ true
+      → m.get (after_main m (after_sides m w l) o).cells c ≡ m.get w.cells c
+  outside_cell w l None within far c of = refl
+  outside_cell w l (Some a) within far c of =
+      let here = after_sides m w l in
+      let new = (outcome m a.site (here.partition a.site) w.cells a.event).cells in
+      f.get_merge (consulted m a.site (here.partition a.site) a.event) new w.cells c
+      ∙ ap (λ b. cond b (m.get new c) (m.get w.cells c)) (asks_named here a c ∙ unnamed w l a within far c of)
 
   -- a cell is left different where it is named and its contents differ
   changed_is : (old new : Cells) (c : Cell) (cs : List Cell) → is_in m.same_cell c (changed_cells m old new cs) ≡ (is_in m.same_cell c cs && not (m.same_content (m.get old c) (m.get new c)))
@@ -84,195 +80,229 @@ module _ {Site Cell Cells Partition Content Rest Line Event Reply Change : Type 
       let same = f.cell_same c d in
       grind (arith, later, same)
 
-  -- home cells are among these where they are among those
-  abbrev SameTouched : Site → List Cell → List Cell → Type 0
-  SameTouched s before after = (c : Cell) → m.is_home s c ≡ true → is_in m.same_cell c before ≡ is_in m.same_cell c after
+  -- cells of the group are among these where they are among those
+  abbrev SameTouched : List Cell → List Cell → Type 0
+  SameTouched before after = (c : Cell) → g.has_cell c ≡ true → is_in m.same_cell c before ≡ is_in m.same_cell c after
 
-  module _ (s : Site) (v w : WorldOf m) (alike : IsAlike m is_near s v w) where
-    sides_alike : (l : Line) → IsAlike m is_near s (after_sides m v l) (after_sides m w l)
-    sides_alike l = record {
-      partition = λ t near. side_same v.cells w.cells (m.side v l t) (v.partition t) ∙ (λ i. after_side m w.cells (g.own_side s v w l alike t near i) (alike.partition t near i));
+  -- ---- a line in two worlds
+
+  module _ (v w : WorldOf m) (l : Line) (alike : IsAlike m g v w) where
+    -- the two worlds after the events beside the main one
+    abbrev one : WorldOf m
+    one = after_sides m v l
+
+    abbrev two : WorldOf m
+    two = after_sides m w l
+
+    sides_alike : IsAlike m g one two
+    sides_alike = record {
+      partition = λ t of. side_same v.cells w.cells (m.side v l t) (v.partition t) ∙ (λ i. after_side m w.cells (own.own_side v w l alike t of i) (alike.partition t of i));
       cell = alike.cell;
       rest = alike.rest;
     }
 
+    -- what is within in one world is so in the other, where that holds of the sites outside
+    other_within : ConsultsWithin m g v l (m.main v l)
+        → ((a : Occurrence Site Event) → m.main w l ≡ Some a → g.has_site a.site ≡ false → ConsultsWithin m g w l (Some a))
+        → ConsultsWithin m g w l (m.main w l)
+    other_within within out = at (m.main w l) refl
+      where
+        by : (a : Occurrence Site Event) (b : Bool) → m.main w l ≡ Some a → g.has_site a.site ≡ b → ConsultsWithin m g w l (Some a)
+        by a true is inside c there =
+            subst (ConsultsWithin m g v l) (own.own_main v w l alike ∙ is) within c
+            (ap (λ p. is_in m.same_cell c (m.names p a.event)) (sides_alike.partition a.site inside) ∙ there)
+        by a false is far c there = out a is far c there
+
+        at : (o : Option (Occurrence Site Event)) → m.main w l ≡ o → ConsultsWithin m g w l o
+        at None is = tt
+        at (Some a) is = by a (g.has_site a.site) is refl
+
     -- ---- the same main event in both
 
-    module _ (a : Occurrence Site Event) (names : NamesHome s v (Some a)) (near : is_near s a.site ≡ true) where
+    module _ (a : Occurrence Site Event) (within : ConsultsWithin m g v l (Some a)) (inside : g.has_site a.site ≡ true) where
       abbrev asks : Cell → Bool
-      asks = consulted m a.site (v.partition a.site) a.event
+      asks = consulted m a.site (one.partition a.site) a.event
 
       seen_same : m.restrict asks v.cells ≡ m.restrict asks w.cells
       seen_same = f.same_cells _ _ (λ c. f.get_restrict asks v.cells c ∙ at c (asks c) refl ∙ sym (f.get_restrict asks w.cells c))
         where
           at : (c : Cell) (b : Bool) → asks c ≡ b → cond b (m.get v.cells c) m.blank ≡ cond b (m.get w.cells c) m.blank
-          at c true is = alike.cell c (names.0 near c (sym (asks_named v a c) ∙ is))
+          at c true is = alike.cell c (named_inside v l a within inside c (sym (asks_named one a c) ∙ is))
           at c false is = refl
 
-      outcome_same : outcome m a.site (v.partition a.site) v.cells a.event ≡ outcome m a.site (w.partition a.site) w.cells a.event
-      outcome_same = ap (λ z. m.step (v.partition a.site) z a.event) seen_same ∙ ap (λ p. outcome m a.site p w.cells a.event) (alike.partition a.site near)
+      outcome_same : outcome m a.site (one.partition a.site) v.cells a.event ≡ outcome m a.site (two.partition a.site) w.cells a.event
+      outcome_same = ap (λ z. m.step (one.partition a.site) z a.event) seen_same ∙ ap (λ p. outcome m a.site p w.cells a.event) (sides_alike.partition a.site inside)
 
-      near_cell : (c : Cell) → m.is_home s c ≡ true → m.get (after_main m v (Some a)).cells c ≡ m.get (after_main m w (Some a)).cells c
-      near_cell c home =
-          f.get_merge asks (outcome m a.site (v.partition a.site) v.cells a.event).cells v.cells c
-          ∙ (λ i. cond (consulted m a.site (alike.partition a.site near i) a.event c) (m.get (outcome_same i).cells c) (alike.cell c home i))
-          ∙ sym (f.get_merge (consulted m a.site (w.partition a.site) a.event) (outcome m a.site (w.partition a.site) w.cells a.event).cells w.cells c)
+      inside_cell : (c : Cell) → g.has_cell c ≡ true → m.get (after_main m one (Some a)).cells c ≡ m.get (after_main m two (Some a)).cells c
+      inside_cell c of =
+          f.get_merge asks (outcome m a.site (one.partition a.site) v.cells a.event).cells v.cells c
+          ∙ (λ i. cond (consulted m a.site (sides_alike.partition a.site inside i) a.event c) (m.get (outcome_same i).cells c) (alike.cell c of i))
+          ∙ sym (f.get_merge (consulted m a.site (two.partition a.site) a.event) (outcome m a.site (two.partition a.site) w.cells a.event).cells w.cells c)
 
-      near_alike : IsAlike m is_near s (after_main m v (Some a)) (after_main m w (Some a))
-      near_alike = record {
-        partition = λ t close i. cond (m.same_site t a.site) (outcome_same i).partition (alike.partition t close i);
-        cell = near_cell;
+      inside_alike : IsAlike m g (after_main m one (Some a)) (after_main m two (Some a))
+      inside_alike = record {
+        partition = λ t of i. cond (m.same_site t a.site) (outcome_same i).partition (sides_alike.partition t of i);
+        cell = inside_cell;
         rest = alike.rest;
       }
 
-    main_alike : (o : Option (Occurrence Site Event)) → NamesHome s v o → NamesHome s w o → IsAlike m is_near s (after_main m v o) (after_main m w o)
-    main_alike None one two = alike
-    main_alike (Some a) one two = at (is_near s a.site) refl
+    main_alike : (o : Option (Occurrence Site Event)) → ConsultsWithin m g v l o → ConsultsWithin m g w l o → IsAlike m g (after_main m one o) (after_main m two o)
+    main_alike None in_v in_w = sides_alike
+    main_alike (Some a) in_v in_w = at (g.has_site a.site) refl
       where
-        at : (b : Bool) → is_near s a.site ≡ b → IsAlike m is_near s (after_main m v (Some a)) (after_main m w (Some a))
-        at true near = near_alike a one near
+        at : (b : Bool) → g.has_site a.site ≡ b → IsAlike m g (after_main m one (Some a)) (after_main m two (Some a))
+        at true inside = inside_alike a in_v inside
         at false far = record {
-          partition = λ t near. far_partition s v (Some a) far t near ∙ alike.partition t near ∙ sym (far_partition s w (Some a) far t near);
-          cell = λ c home. far_cell s v (Some a) one far c home ∙ alike.cell c home ∙ sym (far_cell s w (Some a) two far c home);
+          partition = λ t of. outside_partition one (Some a) far t of ∙ sides_alike.partition t of ∙ sym (outside_partition two (Some a) far t of);
+          cell = λ c of. outside_cell v l (Some a) in_v far c of ∙ alike.cell c of ∙ sym (outside_cell w l (Some a) in_w far c of);
           rest = alike.rest;
         }
 
-    -- it leaves different the same home cells
-    touched_alike : (before after : List Cell) → SameTouched s before after → (o : Option (Occurrence Site Event)) → NamesHome s v o → NamesHome s w o
-        → SameTouched s (main_touched m s before v o) (main_touched m s after w o)
-    touched_alike before after h None one two c home = h c home
-    touched_alike before after h (Some a) one two c home = at (m.same_site s a.site)
+    -- it leaves different the same cells of the group
+    touched_alike : (s : Site) (before after : List Cell) → SameTouched before after → (o : Option (Occurrence Site Event)) → ConsultsWithin m g v l o → ConsultsWithin m g w l o
+        → SameTouched (main_touched m s before one o) (main_touched m s after two o)
+    touched_alike s before after h None in_v in_w c of = h c of
+    touched_alike s before after h (Some a) in_v in_w c of = at (m.same_site s a.site)
       where
         added : WorldOf m → List Cell
         added x = changed_cells m x.cells (after_main m x (Some a)).cells (m.names (x.partition a.site) a.event)
 
-        same : (b : Bool) → is_near s a.site ≡ b → named v a c ≡ named w a c
-        same true near = ap (λ p. is_in m.same_cell c (m.names p a.event)) (alike.partition a.site near)
-        same false far = far_named s v a one far c home ∙ sym (far_named s w a two far c home)
+        same : (b : Bool) → g.has_site a.site ≡ b → named one a c ≡ named two a c
+        same true inside = ap (λ p. is_in m.same_cell c (m.names p a.event)) (sides_alike.partition a.site inside)
+        same false far = unnamed v l a in_v far c of ∙ sym (unnamed w l a in_w far c of)
 
-        changed : is_in m.same_cell c (added v) ≡ is_in m.same_cell c (added w)
+        changed : is_in m.same_cell c (added one) ≡ is_in m.same_cell c (added two)
         changed =
-            changed_is v.cells (after_main m v (Some a)).cells c (m.names (v.partition a.site) a.event)
-            ∙ (λ i. same (is_near s a.site) refl i && not (m.same_content (alike.cell c home i) ((main_alike (Some a) one two).cell c home i)))
-            ∙ sym (changed_is w.cells (after_main m w (Some a)).cells c (m.names (w.partition a.site) a.event))
+            changed_is v.cells (after_main m one (Some a)).cells c (m.names (one.partition a.site) a.event)
+            ∙ (λ i. same (g.has_site a.site) refl i && not (m.same_content (alike.cell c of i) ((main_alike (Some a) in_v in_w).cell c of i)))
+            ∙ sym (changed_is w.cells (after_main m two (Some a)).cells c (m.names (two.partition a.site) a.event))
 
-        at : (b : Bool) → is_in m.same_cell c (cond b before (before ++ added v)) ≡ is_in m.same_cell c (cond b after (after ++ added w))
-        at true = h c home
-        at false = in_append m IsSound f c before (added v) ∙ (λ i. h c home i || changed i) ∙ sym (in_append m IsSound f c after (added w))
+        at : (b : Bool) → is_in m.same_cell c (cond b before (before ++ added one)) ≡ is_in m.same_cell c (cond b after (after ++ added two))
+        at true = h c of
+        at false = in_append m IsSound f c before (added one) ∙ (λ i. h c of i || changed i) ∙ sym (in_append m IsSound f c after (added two))
 
-    -- home cells are held alike
-    held_alike : (before after : List Cell) → SameTouched s before after → (cs : List Cell) → ((c : Cell) → is_in m.same_cell c cs ≡ true → m.is_home s c ≡ true)
+    -- cells of the group are held alike
+    held_alike : (s : Site) (before after : List Cell) → SameTouched before after → (cs : List Cell) → ((c : Cell) → is_in m.same_cell c cs ≡ true → g.has_cell c ≡ true)
         → held_cells m (is_held m s before) v.cells cs ≡ held_cells m (is_held m s after) w.cells cs
-    held_alike before after h [] each = refl
-    held_alike before after h (d ∷ ds) each =
-        let home = each d (ap (λ b. cond b true (is_in m.same_cell d ds)) (g.cell_itself d)) in
-        let later = held_alike before after h ds (λ c there. each c (more c (m.same_cell c d) there)) in
-        λ i. cond (not (m.is_home s d) || h d home i) (record { cell = d; content = alike.cell d home i } ∷ later i) (later i)
+    held_alike s before after h [] each = refl
+    held_alike s before after h (d ∷ ds) each =
+        let of = each d (ap (λ b. cond b true (is_in m.same_cell d ds)) (own.cell_itself d)) in
+        let later = held_alike s before after h ds (λ c there. each c (more c (m.same_cell c d) there)) in
+        λ i. cond (not (m.is_home s d) || h d of i) (record { cell = d; content = alike.cell d of i } ∷ later i) (later i)
       where
         more : (c : Cell) (b : Bool) → is_in m.same_cell c ds ≡ true → cond b true (is_in m.same_cell c ds) ≡ true
         more c true there = refl
         more c false there = there
 
-    main_same : (before after : List Cell) → SameTouched s before after → (o : Option (Occurrence Site Event)) → NamesHome s v o → main_entries m s before v o ≡ main_entries m s after w o
-    main_same before after h None names = refl
-    main_same before after h (Some a) names = at (m.same_site s a.site) refl
+    main_same : (s : Site) → g.has_site s ≡ true → (before after : List Cell) → SameTouched before after → (o : Option (Occurrence Site Event)) → ConsultsWithin m g w l o
+        → main_entries m s before one o ≡ main_entries m s after two o
+    main_same s member before after h None within = refl
+    main_same s member before after h (Some a) within = at (m.same_site s a.site) refl
       where
         asked : Partition → List Cell
         asked p = m.listed (m.names p a.event ++ [])
 
         no_more : (touched : List Cell) (p : Partition) → candidates m s touched p a.event ≡ asked p
-        no_more touched p = ap (λ b. m.listed (m.names p a.event ++ swept_cells m b s touched)) (g.sweeps_none p a.event)
+        no_more touched p = ap (λ b. m.listed (m.names p a.event ++ swept_cells m b s touched)) (own.sweeps_none p a.event)
 
-        near_home : is_near s a.site ≡ true → (c : Cell) → is_in m.same_cell c (asked (v.partition a.site)) ≡ true → m.is_home s c ≡ true
-        near_home near c is = names.0 near c (sym (f.in_listed (m.names (v.partition a.site) a.event ++ []) c ∙ ap (is_in m.same_cell c) (append-nil (m.names (v.partition a.site) a.event))) ∙ is)
+        asked_of : g.has_site a.site ≡ true → (c : Cell) → is_in m.same_cell c (asked (two.partition a.site)) ≡ true → g.has_cell c ≡ true
+        asked_of inside c is = named_inside w l a within inside c (sym (f.in_listed (m.names (two.partition a.site) a.event ++ []) c ∙ ap (is_in m.same_cell c) (append-nil (m.names (two.partition a.site) a.event))) ∙ is)
 
-        held_same : is_near s a.site ≡ true
-            → held_cells m (is_held m s before) v.cells (candidates m s before (v.partition a.site) a.event)
-            ≡ held_cells m (is_held m s after) w.cells (candidates m s after (w.partition a.site) a.event)
-        held_same near =
-            ap (held_cells m (is_held m s before) v.cells) (no_more before (v.partition a.site))
-            ∙ held_alike before after h (asked (v.partition a.site)) (near_home near)
-            ∙ ap (λ p. held_cells m (is_held m s after) w.cells (asked p)) (alike.partition a.site near)
-            ∙ ap (held_cells m (is_held m s after) w.cells) (sym (no_more after (w.partition a.site)))
+        held_same : g.has_site a.site ≡ true
+            → held_cells m (is_held m s before) v.cells (candidates m s before (one.partition a.site) a.event)
+            ≡ held_cells m (is_held m s after) w.cells (candidates m s after (two.partition a.site) a.event)
+        held_same inside =
+            ap (held_cells m (is_held m s before) v.cells) (no_more before (one.partition a.site))
+            ∙ ap (λ p. held_cells m (is_held m s before) v.cells (asked p)) (sides_alike.partition a.site inside)
+            ∙ held_alike s before after h (asked (two.partition a.site)) (asked_of inside)
+            ∙ ap (held_cells m (is_held m s after) w.cells) (sym (no_more after (two.partition a.site)))
 
-        at : (b : Bool) → m.same_site s a.site ≡ b → main_entries m s before v (Some a) ≡ main_entries m s after w (Some a)
-        at true is = rw is (ap (λ hs. record { event = a.event; held = hs } ∷ []) (held_same (ap (is_near s) (sym (f.site_same s a.site is)) ∙ g.near_itself s)))
+        at : (b : Bool) → m.same_site s a.site ≡ b → main_entries m s before one (Some a) ≡ main_entries m s after two (Some a)
+        at true is = rw is (ap (λ hs. record { event = a.event; held = hs } ∷ []) (held_same (ap g.has_site (sym (f.site_same s a.site is)) ∙ member)))
         at false is = rw is refl
 
-  -- ---- a line in two worlds
+    -- ---- the line
 
-  module _ (s : Site) (v w : WorldOf m) (l : Line) (one : IsSound v) (two : IsSound w) (alike : IsAlike m is_near s v w) where
-    other_names : NamesHome s (after_sides m w l) (m.main v l)
-    other_names = subst (NamesHome s (after_sides m w l)) (sym (g.own_main s v w l alike)) (names_home s w l two)
-
-    -- the same line gives the same in two worlds that the site cannot tell apart
-    pub same_entries : (before after : List Cell) → SameTouched s before after → line_entries m s before v l ≡ line_entries m s after w l
+    -- it gives a site of the group the same in two worlds that the group cannot tell apart
+    pub same_entries : (s : Site) → g.has_site s ≡ true → (before after : List Cell) → SameTouched before after → ConsultsWithin m g w l (m.main w l)
+        → line_entries m s before v l ≡ line_entries m s after w l
     unfolding line_entries
-    same_entries before after h =
-        ap (λ es. side_entries m (m.side v l s) ++ es) (main_same s (after_sides m v l) (after_sides m w l) (sides_alike s v w alike l) before after h (m.main v l) (names_home s v l one))
-        ∙ (λ i. side_entries m (g.own_side s v w l alike s (g.near_itself s) i) ++ main_entries m s after (after_sides m w l) (g.own_main s v w l alike i))
+    same_entries s member before after h in_w =
+        (λ i. side_entries m (own.own_side v w l alike s member i) ++ main_entries m s before one (own.own_main v w l alike i))
+        ∙ ap (λ es. side_entries m (m.side w l s) ++ es) (main_same s member before after h (m.main w l) in_w)
 
-    same_touched : (before after : List Cell) → SameTouched s before after → SameTouched s (line_touched m s before v l) (line_touched m s after w l)
-    unfolding line_touched
-    same_touched before after h c home =
-        touched_alike s (after_sides m v l) (after_sides m w l) (sides_alike s v w alike l) before after h (m.main v l) (names_home s v l one) other_names c home
-        ∙ ap (λ o. is_in m.same_cell c (main_touched m s after (after_sides m w l) o)) (g.own_main s v w l alike)
+    module _ (in_v : ConsultsWithin m g v l (m.main v l)) (in_w : ConsultsWithin m g w l (m.main w l)) where
+      -- the event of either world is within in the first one
+      both_within : ConsultsWithin m g v l (m.main w l)
+      both_within = subst (ConsultsWithin m g v l) (own.own_main v w l alike) in_v
 
-    -- and leaves two that it cannot tell apart
-    pub step_alike : IsAlike m is_near s (world_step m v l) (world_step m w l)
-    unfolding world_step
-    step_alike =
-        let d = main_alike s (after_sides m v l) (after_sides m w l) (sides_alike s v w alike l) (m.main v l) (names_home s v l one) other_names in
-        record {
-          partition = λ t near. d.partition t near ∙ ap (λ o. (after_main m (after_sides m w l) o).partition t) (g.own_main s v w l alike);
-          cell = λ c home. d.cell c home ∙ ap (λ o. m.get (after_main m (after_sides m w l) o).cells c) (g.own_main s v w l alike);
-          rest = g.own_later s v w l alike;
-        }
+      same_touched : (s : Site) (before after : List Cell) → SameTouched before after → SameTouched (line_touched m s before v l) (line_touched m s after w l)
+      unfolding line_touched
+      same_touched s before after h c of =
+          ap (λ o. is_in m.same_cell c (main_touched m s before one o)) (own.own_main v w l alike)
+          ∙ touched_alike s before after h (m.main w l) both_within in_w c of
+
+      -- and leaves two that it cannot tell apart
+      pub step_alike : IsAlike m g (world_step m v l) (world_step m w l)
+      unfolding world_step
+      step_alike =
+          let d = main_alike (m.main w l) both_within in_w in
+          record {
+            partition = λ t of. ap (λ o. (after_main m one o).partition t) (own.own_main v w l alike) ∙ d.partition t of;
+            cell = λ c of. ap (λ o. m.get (after_main m one o).cells c) (own.own_main v w l alike) ∙ d.cell c of;
+            rest = own.own_later v w l alike;
+          }
 
   -- ---- lines that are left out
 
-  main_none : (s : Site) (touched : List Cell) (w : WorldOf m) (o : Option (Occurrence Site Event)) → IsFar m is_near s o → main_entries m s touched w o ≡ []
-  main_none s touched w None far = refl
-  main_none s touched w (Some a) far = rw (near_apart s s a.site (g.near_itself s) far) refl
+  main_none : (s : Site) → g.has_site s ≡ true → (touched : List Cell) (w : WorldOf m) (o : Option (Occurrence Site Event)) → IsOutside m g o → main_entries m s touched w o ≡ []
+  main_none s member touched w None far = refl
+  main_none s member touched w (Some a) far = rw (site_apart s a.site member far) refl
 
-  main_untouched : (s : Site) (touched : List Cell) (w : WorldOf m) (o : Option (Occurrence Site Event)) → NamesHome s w o → IsFar m is_near s o → SameTouched s (main_touched m s touched w o) touched
-  main_untouched s touched w None names far c home = refl
-  main_untouched s touched w (Some a) names far c home =
-      let new = (after_main m w (Some a)).cells in
-      let added = changed_cells m w.cells new (m.names (w.partition a.site) a.event) in
-      ap (λ b. is_in m.same_cell c (cond b touched (touched ++ added))) (near_apart s s a.site (g.near_itself s) far)
-      ∙ in_append m IsSound f c touched added
-      ∙ ap (λ b. is_in m.same_cell c touched || b) (changed_is w.cells new c (m.names (w.partition a.site) a.event) ∙ ap (λ b. b && not (m.same_content (m.get w.cells c) (m.get new c))) (far_named s w a names far c home))
+  main_untouched : (s : Site) → g.has_site s ≡ true → (touched : List Cell) (w : WorldOf m) (l : Line) (o : Option (Occurrence Site Event)) → ConsultsWithin m g w l o → IsOutside m g o
+      → SameTouched (main_touched m s touched (after_sides m w l) o) touched
+  main_untouched s member touched w l None within far c of = refl
+  main_untouched s member touched w l (Some a) within far c of =
+      let here = after_sides m w l in
+      let new = (after_main m here (Some a)).cells in
+      let names = m.names (here.partition a.site) a.event in
+      ap (λ b. is_in m.same_cell c (cond b touched (touched ++ changed_cells m w.cells new names))) (site_apart s a.site member far)
+      ∙ in_append m IsSound f c touched (changed_cells m w.cells new names)
+      ∙ ap (λ b. is_in m.same_cell c touched || b) (changed_is w.cells new c names ∙ ap (λ b. b && not (m.same_content (m.get w.cells c) (m.get new c))) (unnamed w l a within far c of))
       ∙ or_none (is_in m.same_cell c touched)
 
-  module _ (s : Site) (is_apart : WorldOf m → Line → Bool) (h : ApartFacts m is_near s is_apart) where
+  module _ (s : Site) (member : g.has_site s ≡ true) (is_apart : WorldOf m → Line → Bool) (h : ApartFacts m g IsSound is_apart) where
     -- such a line gives the site nothing
     no_entries : (touched : List Cell) (v : WorldOf m) (l : Line) → is_apart v l ≡ true → line_entries m s touched v l ≡ []
     unfolding line_entries
     no_entries touched v l is =
-        ap (λ o. side_entries m o ++ main_entries m s touched (after_sides m v l) (m.main v l)) (h.no_side v l is s (g.near_itself s))
-        ∙ main_none s touched (after_sides m v l) (m.main v l) (h.no_main v l is)
+        ap (λ o. side_entries m o ++ main_entries m s touched (after_sides m v l) (m.main v l)) (h.no_side v l is s member)
+        ∙ main_none s member touched (after_sides m v l) (m.main v l) (h.no_main v l is)
 
-    untouched : (touched : List Cell) (v : WorldOf m) (l : Line) → IsSound v → is_apart v l ≡ true → SameTouched s (line_touched m s touched v l) touched
+    untouched : (touched : List Cell) (v : WorldOf m) (l : Line) → ConsultsWithin m g v l (m.main v l) → is_apart v l ≡ true → SameTouched (line_touched m s touched v l) touched
     unfolding line_touched
-    untouched touched v l ok is = main_untouched s touched (after_sides m v l) (m.main v l) (names_home s v l ok) (h.no_main v l is)
+    untouched touched v l within is = main_untouched s member touched v l (m.main v l) within (h.no_main v l is)
 
-    -- and the site cannot tell that it happened
-    apart_alike : (v w : WorldOf m) (l : Line) → IsSound v → is_apart v l ≡ true → IsAlike m is_near s v w → IsAlike m is_near s (world_step m v l) w
+    -- and the group cannot tell that it happened
+    apart_alike : (v w : WorldOf m) (l : Line) → ConsultsWithin m g v l (m.main v l) → is_apart v l ≡ true → IsAlike m g v w → IsAlike m g (world_step m v l) w
     unfolding world_step
-    apart_alike v w l ok is alike = record {
-      partition = λ t near.
-          far_partition s (after_sides m v l) (m.main v l) (h.no_main v l is) t near
-          ∙ ap (λ o. after_side m v.cells o (v.partition t)) (h.no_side v l is t near) ∙ alike.partition t near;
-      cell = λ c home. far_cell s (after_sides m v l) (m.main v l) (names_home s v l ok) (h.no_main v l is) c home ∙ alike.cell c home;
+    apart_alike v w l within is alike = record {
+      partition = λ t of.
+          outside_partition (after_sides m v l) (m.main v l) (h.no_main v l is) t of
+          ∙ ap (λ o. after_side m v.cells o (v.partition t)) (h.no_side v l is t of) ∙ alike.partition t of;
+      cell = λ c of. outside_cell v l (m.main v l) within (h.no_main v l is) c of ∙ alike.cell c of;
       rest = h.no_later v l is ∙ alike.rest;
     }
 
-    entries_left : (before after : List Cell) → SameTouched s before after → (v w : WorldOf m) → IsSound v → IsSound w → IsAlike m is_near s v w → (ls : List Line)
+    -- a line that stays is within in the other world too
+    stays_within : (v w : WorldOf m) (l : Line) → IsSound w → IsAlike m g v w → is_apart v l ≡ false → ConsultsWithin m g v l (m.main v l) → ConsultsWithin m g w l (m.main w l)
+    stays_within v w l sound alike is within = other_within v w l alike within (λ a main far. h.stays_out w l a sound (sym (h.same_test v w l alike) ∙ is) main far)
+
+    entries_left : (before after : List Cell) → SameTouched before after → (v w : WorldOf m) → IsSound w → IsAlike m g v w → (ls : List Line) → IsGroup m g v ls
         → local_entries m s before v ls ≡ local_entries m s after w (lines_without m is_apart v ls)
-    entries_left before after t v w one two alike [] = refl
-    entries_left before after t v w one two alike (l ∷ ls) =
-        at (is_apart v l) refl (λ more u ok ready near. entries_left (line_touched m s before v l) more ready (world_step m v l) u (f.sound v l one) ok near ls)
+    entries_left before after t v w sound alike [] group = refl
+    entries_left before after t v w sound alike (l ∷ ls) group =
+        at (is_apart v l) refl (λ more u ok ready same. entries_left (line_touched m s before v l) more ready (world_step m v l) u ok same ls group.1)
       where
         fewer : List Line
         fewer = lines_without m is_apart (world_step m v l) ls
@@ -281,17 +311,18 @@ module _ {Site Cell Cells Partition Content Rest Line Event Reply Change : Type 
         rest more u = local_entries m s (line_touched m s before v l) (world_step m v l) ls ≡ local_entries m s more u fewer
 
         at : (b : Bool) → is_apart v l ≡ b
-            → ((more : List Cell) (u : WorldOf m) → IsSound u → SameTouched s (line_touched m s before v l) more → IsAlike m is_near s (world_step m v l) u → rest more u)
+            → ((more : List Cell) (u : WorldOf m) → IsSound u → SameTouched (line_touched m s before v l) more → IsAlike m g (world_step m v l) u → rest more u)
             → local_entries m s before v (l ∷ ls) ≡ local_entries m s after w (cond b fewer (l ∷ fewer))
         at true is later =
             (λ i. no_entries before v l is i ++ local_entries m s (line_touched m s before v l) (world_step m v l) ls)
-            ∙ later after w two (λ c home. untouched before v l one is c home ∙ t c home) (apart_alike v w l one is alike)
+            ∙ later after w sound (λ c of. untouched before v l group.0 is c of ∙ t c of) (apart_alike v w l group.0 is alike)
         at false is later =
-            (λ i. same_entries s v w l one two alike before after t i ++ local_entries m s (line_touched m s before v l) (world_step m v l) ls)
+            let in_w = stays_within v w l sound alike is group.0 in
+            (λ i. same_entries v w l alike s member before after t in_w i ++ local_entries m s (line_touched m s before v l) (world_step m v l) ls)
             ∙ ap (λ es. line_entries m s after w l ++ es)
-            (later (line_touched m s after w l) (world_step m w l) (f.sound w l two) (same_touched s v w l one two alike before after t) (step_alike s v w l one two alike))
+            (later (line_touched m s after w l) (world_step m w l) (f.sound w l sound) (same_touched v w l alike group.0 in_w s before after t) (step_alike v w l alike group.0 in_w))
 
-    pub left_out : (w : WorldOf m) (lines : List Line) → IsSound w → epoch_script m s w lines ≡ epoch_script m s w (lines_without m is_apart w lines)
-    left_out w lines ok =
-        let same : IsAlike m is_near s w w = record { partition = λ t near. refl; cell = λ c home. refl; rest = refl } in
-        ap (λ es. record { beginning = own_beginning m s w; entries = es }) (entries_left [] [] (λ c home. refl) w w ok ok same lines)
+    pub left_out : (w : WorldOf m) (lines : List Line) → IsSound w → IsGroup m g w lines → epoch_script m s w lines ≡ epoch_script m s w (lines_without m is_apart w lines)
+    left_out w lines sound group =
+        let same : IsAlike m g w w = record { partition = λ t of. refl; cell = λ c of. refl; rest = refl } in
+        ap (λ es. record { beginning = own_beginning m s w; entries = es }) (entries_left [] [] (λ c of. refl) w w sound same lines group)

@@ -9,12 +9,12 @@ module _ (x : Setting) where
   pub gives_by_own : GivesByOwn x
   gives_by_own =
       record {
-        entries = λ is_near owed s touched v w l one two alike. same_entries x.machine is_near x.IsSound owed.0 owed.1 s v w l one two alike touched touched (λ c home. refl);
-        worlds = λ is_near owed s v w l one two alike. step_alike x.machine is_near x.IsSound owed.0 owed.1 s v w l one two alike;
+        entries = λ g owed s member touched v w l alike within. same_entries x.machine x.IsSound owed.0 g owed.1 v w l alike s member touched touched (λ c of. refl) within;
+        worlds = λ g owed v w l alike in_v in_w. step_alike x.machine x.IsSound owed.0 g owed.1 v w l alike in_v in_w;
       }
 
   pub others_left_out : OthersLeftOut x
-  others_left_out is_near owed s is_apart h w lines ok = left_out x.machine is_near x.IsSound owed.0 owed.1 s is_apart h w lines ok
+  others_left_out g owed s member is_apart h w lines sound group = left_out x.machine x.IsSound owed.0 g owed.1 s member is_apart h w lines sound group
 
   pub holds_only_changed : HoldsOnlyChanged x
   holds_only_changed f s c home w lines leave = none_holds x.machine x.IsSound f s c home [] refl w lines leave

@@ -1,12 +1,16 @@
 -- What the example's local scripts hold, computed from the definitions: a wrong rule fails here.
-use Rattle.std.proofs.Common.{◌≡◌, ℕ, true, false, List, [], ◌∷◌, Option, Some, None, refl, inl}
-use Rattle.std.proofs.Common.{inr}
+use Rattle.std.proofs.Common.{◌≡◌, ℕ, true, false, List, [], ◌∷◌, Option, Some, None, refl, sym, inl}
+use Rattle.std.proofs.Common.{inr, nat_eq}
+use Rattle.std.proofs.lemmas.Bool.{true≢false}
 use Rattle.unwinding.specs.declared.example.Site.{Site}
 use Rattle.unwinding.specs.declared.example.Site.TheVariants.{First, Second}
 use Rattle.unwinding.specs.declared.example.Event.{Event}
-use Rattle.unwinding.specs.declared.example.Event.TheVariants.{Write, Read, Give, Take, Ring, Hear}
+use Rattle.unwinding.specs.declared.example.Event.TheVariants.{Save, Write, Read, Give, Take, Ring}
+use Rattle.unwinding.specs.declared.example.Event.TheVariants.{Hear}
+use Rattle.unwinding.specs.declared.example.Partition.{Partition}
 use Rattle.unwinding.specs.declared.example.Reply.TheVariants.{Plain, Text}
-use Rattle.unwinding.specs.World.{world_step, line_reply}
+use Rattle.unwinding.specs.Machine.{World}
+use Rattle.unwinding.specs.World.{is_in, world_step, line_reply}
 use Rattle.unwinding.specs.LocalEntries.{line_entries, line_touched}
 use Rattle.unwinding.specs.OneSite.{own_step, own_reply}
 use Rattle.unwinding.specs.Durable.{Durable, line_changes}
@@ -16,7 +20,8 @@ use Rattle.unwinding.specs.LocalScript.{Happens, Restarts, local_script}
 use Rattle.unwinding.specs.SiteRun.{site_run}
 use Rattle.unwinding.specs.Admissible.{Acts, Reopens, Stretch, interrupted_line}
 use Rattle.unwinding.specs.Admissible.{IsAdmissibleStretch}
-use Rattle.unwinding.specs.Example.{Cell, Shared, Drawer, Line, note}
+use Rattle.unwinding.specs.LeftOut.{Group, IsGroup, lines_without}
+use Rattle.unwinding.specs.Example.{Cell, Shared, Drawer, Cells, Line, note, same_site, same_cell}
 use Rattle.unwinding.specs.ExampleSetting.{machine, keeping}
 
 abbrev at : Site → Event → Line
@@ -145,3 +150,42 @@ keeps_tried = (refl, refl, inr (refl, refl))
 keeps_no_part : IsAdmissibleStretch machine keeping 2 empty (odd 3) → ⊥
 unfolding world_step line_changes machine keeping
 keeps_no_part a = elim a.2 [ inl e ↦ cc | inr e ↦ cc ]
+
+-- ---- groups
+
+-- the first site and the note
+abbrev firsts : Group Site Cell
+firsts = record { has_site = same_site First; has_cell = same_cell Shared }
+
+abbrev begun : World Site Cells Partition ℕ
+begun =
+    record {
+      partition = λ s. record { site = s; saved = 0; heard = false };
+      cells = λ c. note 0 false;
+      rest = 0;
+    }
+
+note_alone : (c : Cell) → is_in same_cell c (Shared ∷ []) ≡ true → same_cell Shared c ≡ true
+note_alone Shared is = refl
+note_alone (Drawer s) is = cc
+
+-- they are a group where the other site saves a text
+stand_apart : IsGroup machine firsts begun (at First (Write 1) ∷ at Second (Save 2) ∷ at First Read ∷ [])
+unfolding world_step machine
+stand_apart = (note_alone, ((λ c is. cc), (note_alone, tt)))
+
+-- not where it reads the note
+other_reads : IsGroup machine firsts begun (at First (Write 1) ∷ at Second Read ∷ []) → ⊥
+unfolding world_step machine
+other_reads group = true≢false (group.1.0 Shared refl)
+
+-- nor where the first site gives into the other's drawer
+first_gives : IsGroup machine firsts begun (at First (Give 1) ∷ []) → ⊥
+unfolding machine
+first_gives group = true≢false (sym (group.0 (Drawer Second) refl))
+
+-- the test of a line sees the world that the line comes upon
+left_later : lines_without machine (λ w l. nat_eq w.rest 1) begun (at First Read ∷ at Second Read ∷ at Second Take ∷ [])
+    ≡ at First Read ∷ at Second Take ∷ []
+unfolding world_step machine
+left_later = refl

@@ -5,36 +5,43 @@ use Rattle.unwinding.specs.World.{world_step}
 use Rattle.unwinding.specs.LocalEntries.{line_entries}
 use Rattle.unwinding.specs.OneSite.{epoch_script}
 use Rattle.unwinding.specs.Facts.{Facts}
-use Rattle.unwinding.specs.LeftOut.{IsAlike, OwnFacts, ApartFacts, lines_without}
+use Rattle.unwinding.specs.LeftOut.{Group, IsAlike, IsGroup, ConsultsWithin, OwnFacts}
+use Rattle.unwinding.specs.LeftOut.{ApartFacts, lines_without}
 use Rattle.unwinding.specs.HeldOnly.{OthersLeaveCell, NoneHolds}
 use Rattle.unwinding.specs.Setting.{Setting}
 use Rattle.unwinding.specs.Laws.{SettingWorld}
 
 module _ (x : Setting) where
-  -- what is owed for the first two laws, where a test says which sites are near one
-  abbrev pub HasOwnFacts : (x.Site → x.Site → Bool) → Type 0
-  HasOwnFacts is_near = Facts x.machine x.IsSound × OwnFacts x.machine is_near x.IsSound
+  -- some sites and some cells
+  abbrev pub SettingGroup : Type 0
+  SettingGroup = Group x.Site x.Cell
 
-  -- What a line gives a site depends on the line, on the partitions of the sites near it, on the
-  -- cells that are home to it, and on the rest. Two worlds that the site cannot tell apart give it
-  -- the same, and stay so.
+  -- what is owed for the first two laws, of a group
+  abbrev pub HasOwnFacts : SettingGroup → Type 0
+  HasOwnFacts g = Facts x.machine x.IsSound × OwnFacts x.machine g
+
+  -- What a line gives a site of a group depends on the line, on the partitions of the group's
+  -- sites, on its cells, and on the rest, where the line consults within the group. Two worlds that
+  -- the group cannot tell apart give the site the same, and stay so.
   pub record GivesByOwn : Type 0 where
-    pub entries : (is_near : x.Site → x.Site → Bool) → HasOwnFacts is_near → (s : x.Site)
-        (touched : List x.Cell) (v w : SettingWorld x) (l : x.Line) → x.IsSound v → x.IsSound w
-        → IsAlike x.machine is_near s v w
+    pub entries : (g : SettingGroup) → HasOwnFacts g → (s : x.Site) → g.has_site s ≡ true
+        → (touched : List x.Cell) (v w : SettingWorld x) (l : x.Line)
+        → IsAlike x.machine g v w → ConsultsWithin x.machine g w l (x.machine.main w l)
         → line_entries x.machine s touched v l ≡ line_entries x.machine s touched w l
-    pub worlds : (is_near : x.Site → x.Site → Bool) → HasOwnFacts is_near → (s : x.Site)
-        (v w : SettingWorld x) (l : x.Line) → x.IsSound v → x.IsSound w
-        → IsAlike x.machine is_near s v w
-        → IsAlike x.machine is_near s (world_step x.machine v l) (world_step x.machine w l)
+    pub worlds : (g : SettingGroup) → HasOwnFacts g → (v w : SettingWorld x) (l : x.Line)
+        → IsAlike x.machine g v w
+        → ConsultsWithin x.machine g v l (x.machine.main v l)
+        → ConsultsWithin x.machine g w l (x.machine.main w l)
+        → IsAlike x.machine g (world_step x.machine v l) (world_step x.machine w l)
 
-  -- Lines that have no event at a site near this one and leave the rest can be left out of a run:
-  -- the site is given the same.
+  -- Lines that have no event at a site of a group and leave the rest can be left out of a run: a
+  -- site of the group is given the same.
   abbrev pub OthersLeftOut : Type 0
   OthersLeftOut =
-      (is_near : x.Site → x.Site → Bool) → HasOwnFacts is_near → (s : x.Site)
-      (is_apart : SettingWorld x → x.Line → Bool) → ApartFacts x.machine is_near s is_apart
-      → (w : SettingWorld x) (lines : List x.Line) → x.IsSound w
+      (g : SettingGroup) → HasOwnFacts g → (s : x.Site) → g.has_site s ≡ true
+      → (is_apart : SettingWorld x → x.Line → Bool)
+      → ApartFacts x.machine g x.IsSound is_apart
+      → (w : SettingWorld x) (lines : List x.Line) → x.IsSound w → IsGroup x.machine g w lines
       → epoch_script x.machine s w lines
       ≡ epoch_script x.machine s w (lines_without x.machine is_apart w lines)
 

@@ -4,7 +4,7 @@ use std::alloc::Global;
 use std::test::Fail;
 
 // A line, and its action behind its number or the message of its fault.
-const ACTIONS: [(&str, &str); 44] = [
+const ACTIONS: [(&str, &str); 52] = [
     (
         "{\"do\":\"tick\",\"s\":1000000000}",
         "1 Tick { s: 1000000000 }\n",
@@ -147,6 +147,38 @@ const ACTIONS: [(&str, &str); 44] = [
     (
         "{\"do\":\"events\",\"tab\":1,\"area\":\"local\"}",
         "script line 1: bad field area",
+    ),
+    (
+        "{\"do\":\"has\",\"tab\":1,\"frame\":2}",
+        "1 Has { at: Label { tab: 1, frame: 2 } }\n",
+    ),
+    (
+        "{\"do\":\"has\",\"tab\":1,\"answer\":\"grant\"}",
+        "script line 1: bad field answer",
+    ),
+    (
+        "{\"do\":\"request\",\"tab\":1,\"frame\":2,\"answer\":\"grant\"}",
+        "1 Request { at: Label { tab: 1, frame: 2 }, answer: Grant }\n",
+    ),
+    (
+        "{\"do\":\"request\",\"tab\":1,\"answer\":\"deny\"}",
+        "1 Request { at: Label { tab: 1, frame: 0 }, answer: Deny }\n",
+    ),
+    (
+        "{\"do\":\"request\",\"tab\":1,\"answer\":\"dismiss\"}",
+        "1 Request { at: Label { tab: 1, frame: 0 }, answer: Dismiss }\n",
+    ),
+    (
+        "{\"do\":\"request\",\"tab\":1,\"answer\":\"Grant\"}",
+        "script line 1: bad field answer",
+    ),
+    (
+        "{\"do\":\"request\",\"tab\":1,\"frame\":2}",
+        "script line 1: bad field answer",
+    ),
+    (
+        "{\"do\":\"request\",\"tab\":1,\"answer\":\"grant\",\"url\":\"https://a.test/\"}",
+        "script line 1: bad field url",
     ),
     (
         "{\"do\":\"persisted\",\"tab\":1}",

@@ -4,7 +4,7 @@ use std::alloc::Global;
 use std::test::Fail;
 
 // The member `head` of a line, and the head that is read or the message of the fault.
-const HEADS: [(&str, &str); 31] = [
+const HEADS: [(&str, &str); 43] = [
     ("[]", "[]"),
     (
         r#"[["Set-Cookie","a=b"]]"#,
@@ -22,6 +22,15 @@ const HEADS: [(&str, &str); 31] = [
         "[[\"a\",\" \\u0009\u{7f}\u{e9};,\\\"\"]]",
         r#"[HeadField { name: "a", value: " \t\u{7f}é;,\"" }]"#,
     ),
+    (
+        r#"[["\u0053et\u002dCookie","a\u003db\\\""],["X","\ud83d\ude00\u00e9"]]"#,
+        r#"[HeadField { name: "Set-Cookie", value: "a=b\\\"" }, HeadField { name: "X", value: "😀é" }]"#,
+    ),
+    (
+        "  [ [ \"a\" , \"b\" ]\t, [\r\"a\",\"c\"]  ] ",
+        r#"[HeadField { name: "a", value: "b" }, HeadField { name: "a", value: "c" }]"#,
+    ),
+    ("[ ]", "[]"),
     ("null", "script line 1: bad field head"),
     ("0", "script line 1: bad field head"),
     ("true", "script line 1: bad field head"),
@@ -37,6 +46,16 @@ const HEADS: [(&str, &str); 31] = [
     (r#"[[1,"b"]]"#, "script line 1: bad field head"),
     (r#"[["a",null]]"#, "script line 1: bad field head"),
     (r#"[["a",["b"]]]"#, "script line 1: bad field head"),
+    (r#"[[["a","b"]]]"#, "script line 1: bad field head"),
+    (r#"[[["a"],"b"]]"#, "script line 1: bad field head"),
+    (r#"[["a","b"],[]]"#, "script line 1: bad field head"),
+    (r#"[["a","b"],"c"]"#, "script line 1: bad field head"),
+    // What is no JSON is so before any form is looked at.
+    (r#"[["a","b"],]"#, "script line 1: not json"),
+    (r#"[["a" "b"]]"#, "script line 1: not json"),
+    (r#"[["a":"b"]]"#, "script line 1: not json"),
+    (r#"[["a","b"]"#, "script line 1: not json"),
+    (r#"[["a","\ud800"]]"#, "script line 1: not json"),
     (
         r#"[["a","b"],["a","b"],["a"]]"#,
         "script line 1: bad field head",
@@ -89,7 +108,7 @@ fn heads_of_requests(rt: HostRuntime) -> Result<(), Fail> {
 }
 
 // A line, and its action behind its number or the message of its fault.
-const LINES: [(&str, &str); 12] = [
+const LINES: [(&str, &str); 24] = [
     (
         r#"{"do":"open","tab":1,"url":"https://a.test","head":[["a","b"]]}"#,
         "1 Open { tab: 1, url: Address { text: \"https://a.test/\", https: true, ip: false, \
@@ -147,6 +166,57 @@ const LINES: [(&str, &str); 12] = [
     (
         r#"{"do":"setcookie","tab":1,"text":["a=b"]}"#,
         "script line 1: bad field text",
+    ),
+    (
+        r#"{"do":"go","tab":1,"url":"https://a.test","head":[["a","b"]],"head":[["c","d"]]}"#,
+        "1 Go { tab: 1, url: Address { text: \"https://a.test/\", https: true, ip: false, \
+            host: \"a.test\", port: 443, path: \"/\" }, by_page: false, method: Get, \
+            head: [HeadField { name: \"c\", value: \"d\" }] }\n",
+    ),
+    (
+        r#"{"do":"go","tab":1,"url":"https://a.test","head":[["",""]],"head":[]}"#,
+        "1 Go { tab: 1, url: Address { text: \"https://a.test/\", https: true, ip: false, \
+            host: \"a.test\", port: 443, path: \"/\" }, by_page: false, method: Get, \
+            head: [] }\n",
+    ),
+    (
+        r#"{"do":"go","tab":1,"url":"https://a.test","head":[["a","b"]],"head":1}"#,
+        "script line 1: bad field head",
+    ),
+    // A list is of no other form than that of a head.
+    (r#"{"do":[],"tab":1}"#, "script line 1: bad field do"),
+    (
+        r#"{"do":"close","tab":[["a","b"]]}"#,
+        "script line 1: bad field tab",
+    ),
+    (
+        r#"{"do":"set","tab":1,"area":[],"key":"k","value":"v"}"#,
+        "script line 1: bad field area",
+    ),
+    (
+        r#"{"do":"set","tab":1,"key":"k","value":[["a","b"]]}"#,
+        "script line 1: bad field value",
+    ),
+    (
+        r#"{"do":"open","tab":1,"url":"https://a.test","noopener":[]}"#,
+        "script line 1: bad field noopener",
+    ),
+    // Members that no field has, in byte order, beside lists.
+    (
+        r#"{"do":"click","z":[["a","b"],["c","d"]],"tab":1,"b":[]}"#,
+        "script line 1: bad field b",
+    ),
+    (
+        r#"{"do":"fetch","z":0,"tab":1,"url":"https://a.test","head":[["a","b"]],"y":true}"#,
+        "script line 1: bad field y",
+    ),
+    (
+        r#"{"do":"fetch","tab":1,"url":"https://a.test","head":[["a","b"]],"n":1e400}"#,
+        "script line 1: not json",
+    ),
+    (
+        r#"{"do":"fetch","tab":1,"url":"https://a.test","head":[["a","b"]]}}"#,
+        "script line 1: not json",
     ),
 ];
 

@@ -22,7 +22,7 @@ enum Answer {
     Cleared(u32),
 }
 
-const REPLIES: [(&str, Option<&str>, Answer, &str); 16] = [
+const REPLIES: [(&str, Option<&str>, Answer, &str); 18] = [
     (
         "set",
         Some("https://a.test"),
@@ -84,6 +84,18 @@ const REPLIES: [(&str, Option<&str>, Answer, &str); 16] = [
         None,
         Answer::Truth(false),
         "{\"do\":\"has\",\"is\":\"ok\",\"site\":null,\"value\":false}\n",
+    ),
+    (
+        "request",
+        Some("https://a.test"),
+        Answer::Plain("granted"),
+        "{\"do\":\"request\",\"is\":\"granted\",\"site\":\"https://a.test\"}\n",
+    ),
+    (
+        "request",
+        Some("https://a.test"),
+        Answer::Plain("no-activation"),
+        "{\"do\":\"request\",\"is\":\"no-activation\",\"site\":\"https://a.test\"}\n",
     ),
     (
         "events",

@@ -92,7 +92,7 @@ const FAULTS: [(&[u8], &[u8]); 25] = [
         b"script line 1: bad field s",
     ),
     (
-        b"{\"do\":\"has\",\"tab\":1}",
+        b"{\"do\":\"restart\",\"tab\":1}",
         b"script line 1: unknown action",
     ),
     (

@@ -7,9 +7,9 @@ use Rattle.serde_json.specs.Read.{read}
 use Rattle.origin_site.specs.Address.{PlainAddress}
 use Rattle.storage_events.specs.declared.event.AreaKind.TheVariants.{Local, Session}
 use Rattle.script_lines.specs.declared.words.Method.TheVariants as method
-use Rattle.script_lines.specs.declared.words.Prompt.TheVariants.{Grant, Deny}
+use Rattle.script_lines.specs.declared.words.Prompt.TheVariants.{Grant, Deny, Dismiss}
 use Rattle.script_lines.specs.Script.{PlainAction, Open, Close, Go, Act, Frame, Nav, Drop, Click, Fetch, Set, Get}
-use Rattle.script_lines.specs.Script.{Del, Clear, Len, Key, Events, Cookie, SetCookie, Persisted, Estimate, Persist, Evict}
+use Rattle.script_lines.specs.Script.{Del, Clear, Len, Key, Events, Cookie, SetCookie, Has, Request, Persisted, Estimate, Persist, Evict}
 use Rattle.script_lines.specs.Script.{HeadField, PlainFault, BadField, BadHeader}
 use Rattle.script_lines.specs.Fields.{then_ok}
 use Rattle.script_lines.specs.Rows.{label}
@@ -147,6 +147,30 @@ sets_a_cookie = refl
 sets_a_cookie_by_a_text : line (codes "{\"do\":\"setcookie\",\"tab\":1,\"value\":\"a=b\"}") ≡ bad (codes "text")
 unfolding table serde_json_on_literals
 sets_a_cookie_by_a_text = refl
+
+asks_for_its_access : line (codes "{\"do\":\"has\",\"tab\":1,\"frame\":2}") ≡ Ok (Act (label 1 2) Has)
+unfolding table serde_json_on_literals
+asks_for_its_access = refl
+
+has_no_answer : line (codes "{\"do\":\"has\",\"tab\":1,\"answer\":\"grant\"}") ≡ bad (codes "answer")
+unfolding table serde_json_on_literals
+has_no_answer = refl
+
+requests_in_a_frame : line (codes "{\"do\":\"request\",\"tab\":1,\"frame\":2,\"answer\":\"grant\"}") ≡ Ok (Act (label 1 2) (Request Grant))
+unfolding table serde_json_on_literals
+requests_in_a_frame = refl
+
+request_is_denied : line (codes "{\"do\":\"request\",\"tab\":1,\"answer\":\"deny\"}") ≡ Ok (Act (label 1 0) (Request Deny))
+unfolding table serde_json_on_literals
+request_is_denied = refl
+
+request_is_dismissed : line (codes "{\"do\":\"request\",\"tab\":1,\"answer\":\"dismiss\"}") ≡ Ok (Act (label 1 0) (Request Dismiss))
+unfolding table serde_json_on_literals
+request_is_dismissed = refl
+
+request_without_an_answer : line (codes "{\"do\":\"request\",\"tab\":1}") ≡ bad (codes "answer")
+unfolding table serde_json_on_literals
+request_without_an_answer = refl
 
 asks_the_mode : line (codes "{\"do\":\"persisted\",\"tab\":1}") ≡ Ok (Act (label 1 0) Persisted)
 unfolding table serde_json_on_literals

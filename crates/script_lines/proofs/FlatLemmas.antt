@@ -10,7 +10,7 @@ use Rattle.serde_json.specs.Data.{Data, object, Members, no_members, put}
 use Rattle.serde_json.specs.Find.{get_member}
 use Rattle.serde_json.proofs.Views.{get_member-put, get_member-put_other}
 use Rattle.serde_json.specs.Read.{converted, of_json, of_members}
-use Rattle.script_lines.specs.Flat.{data_of, members_of, with_member}
+use Rattle.script_lines.specs.Flat.{flat_data, members_of, with_member}
 use Rattle.script_lines.specs.declared.flat_object.Member.{Member}
 
 -- ---- members of a list
@@ -33,7 +33,7 @@ found : {A B : Type 0} (a : A) (r s : List Token) (x : Option B) (b : B) → opt
 found a r s None b e = absurd (cc)
 found a r s (Some y) b e = let same = ap (pick (y, r)) e in (ap (λ p. p.1) same, ap (λ p. Some p.0) same)
 
-converted_some : {A B : Type 0} (f : A → Option B) (o : Option (A × List Token)) (b : B) (r : List Token) → converted f o ≡ Some (b, r) → (a : A) × (o ≡ Some (a, r)) × (f a ≡ Some b)
+pub converted_some : {A B : Type 0} (f : A → Option B) (o : Option (A × List Token)) (b : B) (r : List Token) → converted f o ≡ Some (b, r) → (a : A) × (o ≡ Some (a, r)) × (f a ≡ Some b)
 converted_some f None b r e = absurd (cc)
 converted_some f (Some p) b r e = let both = found p.0 p.1 r (f p.0) b e in (p.0, ap (λ s. Some (p.0, s)) both.0, both.1)
 
@@ -84,5 +84,5 @@ found_put name k d old false other =
 
 -- a name is looked up in the last member, and then in those before it
 pub found_last : (name : List ℕ) (list : List Member) (member : Member) (same : Bool) → bytes_eq member.name.now name ≡ same
-    → get_member name (members_of (list ++ member ∷ [])) ≡ cond same (Some (data_of member.value)) (get_member name (members_of list))
-found_last name list member same is = ap (get_member name) (one_more list member) ∙ found_put name member.name.now (data_of member.value) (members_of list) same is
+    → get_member name (members_of (list ++ member ∷ [])) ≡ cond same (Some (flat_data member.value)) (get_member name (members_of list))
+found_last name list member same is = ap (get_member name) (one_more list member) ∙ found_put name member.name.now (flat_data member.value) (members_of list) same is

@@ -8,4 +8,5 @@ pub mod FaultLemmas
 pub mod NameLemmas
 pub mod FlatLemmas
 pub mod HeadLemmas
+pub mod PairLemmas
 pub mod PlaceLemmas

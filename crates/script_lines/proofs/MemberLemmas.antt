@@ -9,7 +9,7 @@ use Rattle.std.proofs.lemmas.Bool.{and_parts}
 use Rattle.serde_json.specs.Data.{Data, Members, no_members, member, put}
 use Rattle.serde_json.specs.View.{members_view}
 use Rattle.serde_json.specs.declared.value.Value.{Value}
-use Rattle.script_lines.specs.Flat.{data_of, members_of, with_member}
+use Rattle.script_lines.specs.Flat.{flat_data, members_of, with_member}
 use Rattle.script_lines.specs.Grammar.{member_names}
 use Rattle.script_lines.specs.declared.flat_object.Member.{Member}
 
@@ -52,7 +52,7 @@ all_from : (p : List ℕ → Bool) (found : Members) (list : List Member) → fi
 all_from p found [] none all = none
 all_from p found (m ∷ list) none all =
     let both = and_parts (p m.name.now) (list_all (λ m. p m.name.now) list) all in
-    all_from p (with_member found m) list (none_put (λ name. not (p name)) m.name.now (data_of m.value) found (ap not both.0) none) both.1
+    all_from p (with_member found m) list (none_put (λ name. not (p name)) m.name.now (flat_data m.value) found (ap not both.0) none) both.1
 
 -- where each name passes, none of the object's members fails
 pub all_known : (p : List ℕ → Bool) (list : List Member) → list_all (λ m. p m.name.now) list ≡ true → find (λ name. not (p name)) (member_names (members_of list)) ≡ None

@@ -32,6 +32,8 @@ names =
     ∷ (codes "events", name.Events)
     ∷ (codes "cookie", name.Cookie)
     ∷ (codes "setcookie", name.SetCookie)
+    ∷ (codes "has", name.Has)
+    ∷ (codes "request", name.Request)
     ∷ (codes "persisted", name.Persisted)
     ∷ (codes "estimate", name.Estimate)
     ∷ (codes "persist", name.Persist)

@@ -3,9 +3,9 @@
 use Rattle.std.specs.Prelude.{ℕ, false, List, [], ◌∷◌, codes, None}
 use Rattle.script_lines.specs.Script.{Tick, Open, Close, Go, Frame, Nav, Drop, Click, Fetch, Set}
 use Rattle.script_lines.specs.Script.{Get, Del, Clear, Len, Key, Events, Cookie, SetCookie}
-use Rattle.script_lines.specs.Script.{Persisted, Estimate, Persist, Evict, Act}
+use Rattle.script_lines.specs.Script.{Has, Request, Persisted, Estimate, Persist, Evict, Act}
 use Rattle.script_lines.specs.Fields.{required, defaulted, whole, any_text, truth, site_name}
-use Rattle.script_lines.specs.Fields.{loader, navigator, consent, optional}
+use Rattle.script_lines.specs.Fields.{loader, navigator, prompt_answer, consent, optional}
 use Rattle.script_lines.specs.Rows.{Row, label, document_row, area_row, name_row, tab, frame}
 use Rattle.script_lines.specs.Rows.{inner_frame, url, method_field, head, area, key}
 use Rattle.script_lines.specs.Rows.{tab_number, frame_number}
@@ -102,6 +102,15 @@ setcookie_row = record {
   action = λ (tab, (frame, (text, _))). Act (label tab frame) (SetCookie text);
 }
 
+abbrev pub has_row : Row
+has_row = document_row Has
+
+abbrev pub request_row : Row
+request_row = record {
+  fields = tab ∷ frame ∷ required (codes "answer") prompt_answer ∷ [];
+  action = λ (tab, (frame, (answer, _))). Act (label tab frame) (Request answer);
+}
+
 abbrev pub persisted_row : Row
 persisted_row = document_row Persisted
 
@@ -129,6 +138,7 @@ table =
     ∷ (codes "set", set_row) ∷ (codes "get", get_row) ∷ (codes "del", del_row)
     ∷ (codes "clear", clear_row) ∷ (codes "len", len_row) ∷ (codes "key", key_row)
     ∷ (codes "events", events_row) ∷ (codes "cookie", cookie_row)
-    ∷ (codes "setcookie", setcookie_row) ∷ (codes "persisted", persisted_row)
+    ∷ (codes "setcookie", setcookie_row) ∷ (codes "has", has_row)
+    ∷ (codes "request", request_row) ∷ (codes "persisted", persisted_row)
     ∷ (codes "estimate", estimate_row) ∷ (codes "persist", persist_row)
     ∷ (codes "evict", evict_row) ∷ []

@@ -14,7 +14,7 @@ use Rattle.origin_site.specs.Site.{PlainSite, site_of_text}
 use Rattle.storage_events.specs.declared.event.AreaKind.{AreaKind}
 use Rattle.script_lines.specs.Script.{HeadField, PlainFault, BadField, BadHeader}
 use Rattle.script_lines.specs.Words.{number_of, within, word_of, methods, areas, loaders}
-use Rattle.script_lines.specs.Words.{navigators, consents}
+use Rattle.script_lines.specs.Words.{navigators, answers, consents}
 use Rattle.script_lines.specs.Heads.{head_of_value, is_header}
 use Rattle.script_lines.specs.declared.words.Method.{Method}
 use Rattle.script_lines.specs.declared.words.Prompt.{Prompt}
@@ -38,6 +38,7 @@ pub data Kind : Type 0 where
   area_name : Kind
   loader : Kind
   navigator : Kind
+  prompt_answer : Kind
   consent : Kind
   optional : Kind → Kind
 
@@ -53,6 +54,7 @@ Meaning head_list = List HeadField
 Meaning area_name = AreaKind
 Meaning loader = Bool
 Meaning navigator = Bool
+Meaning prompt_answer = Prompt
 Meaning consent = Prompt
 Meaning (optional kind) = Option (Meaning kind)
 
@@ -68,6 +70,7 @@ meaning head_list value = head_of_value value
 meaning area_name value = word_of areas value
 meaning loader value = word_of loaders value
 meaning navigator value = word_of navigators value
+meaning prompt_answer value = word_of answers value
 meaning consent value = word_of consents value
 meaning (optional kind) value = option_map Some (meaning kind value)
 

@@ -46,6 +46,10 @@ pub data DocumentAction : Type 0 where
   Cookie : DocumentAction
   -- its script sets a cookie by this text
   SetCookie : (text : List ℕ) → DocumentAction
+  -- has it access to its unpartitioned cookies?
+  Has : DocumentAction
+  -- it requests that access, and the user answers the prompt so
+  Request : (answer : Prompt) → DocumentAction
   -- is its bucket persistent?
   Persisted : DocumentAction
   -- what does its local area weigh?

@@ -45,6 +45,12 @@ loaders = (codes "user", false) ∷ (codes "page", true) ∷ []
 abbrev pub navigators : List (List ℕ × Bool)
 navigators = (codes "parent", false) ∷ (codes "self", true) ∷ []
 
+-- what a user answers to a prompt for access to unpartitioned cookies
+abbrev pub answers : List (List ℕ × Prompt)
+answers =
+    (codes "grant", prompt.Grant) ∷ (codes "deny", prompt.Deny)
+    ∷ (codes "dismiss", prompt.Dismiss) ∷ []
+
 -- what a user answers to a prompt for persistent storage, which is not dismissed
 abbrev pub consents : List (List ℕ × Prompt)
 consents = (codes "grant", prompt.Grant) ∷ (codes "deny", prompt.Deny) ∷ []

@@ -125,6 +125,15 @@ pub enum Action {
         at: Label,
         text: String,
     },
+    /// Asks whether a document has access to its unpartitioned cookies.
+    Has {
+        at: Label,
+    },
+    /// Requests that access for a document, with the user's answer to the prompt.
+    Request {
+        at: Label,
+        answer: Prompt,
+    },
     /// Asks whether a document's bucket is persistent.
     Persisted {
         at: Label,
@@ -260,6 +269,11 @@ impl Action {
             Action::SetCookie { at, text } => Ok(Action::SetCookie {
                 at: *at,
                 text: String::from_str(alloc, text.as_str())?,
+            }),
+            Action::Has { at } => Ok(Action::Has { at: *at }),
+            Action::Request { at, answer } => Ok(Action::Request {
+                at: *at,
+                answer: *answer,
             }),
             Action::Persisted { at } => Ok(Action::Persisted { at: *at }),
             Action::Estimate { at } => Ok(Action::Estimate { at: *at }),

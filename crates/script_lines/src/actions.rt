@@ -34,13 +34,15 @@ pub enum ActionName {
     Events,
     Cookie,
     SetCookie,
+    Has,
+    Request,
     Persisted,
     Estimate,
     Persist,
     Evict,
 }
 
-const ACTIONS: [(&str, ActionName); 22] = [
+const ACTIONS: [(&str, ActionName); 24] = [
     ("tick", ActionName::Tick),
     ("open", ActionName::Open),
     ("close", ActionName::Close),
@@ -59,6 +61,8 @@ const ACTIONS: [(&str, ActionName); 22] = [
     ("events", ActionName::Events),
     ("cookie", ActionName::Cookie),
     ("setcookie", ActionName::SetCookie),
+    ("has", ActionName::Has),
+    ("request", ActionName::Request),
     ("persisted", ActionName::Persisted),
     ("estimate", ActionName::Estimate),
     ("persist", ActionName::Persist),
@@ -124,6 +128,8 @@ fn read_row(
         ActionName::Events => rows::events(alloc, line, number),
         ActionName::Cookie => rows::cookie(alloc, line, number),
         ActionName::SetCookie => rows::set_cookie(alloc, line, number),
+        ActionName::Has => rows::has(alloc, line, number),
+        ActionName::Request => rows::request(alloc, line, number),
         ActionName::Persisted => rows::persisted(alloc, line, number),
         ActionName::Estimate => rows::estimate(alloc, line, number),
         ActionName::Persist => rows::persist(alloc, line, number),

@@ -1,4 +1,5 @@
-//! Objects of the form that most lines have: texts, whole numbers and truth values alone.
+//! Objects of the form that most lines have: texts, whole numbers, truth values and lists of pairs
+//! of texts alone.
 //!
 //! Their tokens are read one after another, and no tree of values is made.
 ghost use Rattle.std.specs.Prelude.{◌≡◌, ◌<◌, ◌==◌, IfOk, IfSome, Some, false, length, slice_index};
@@ -8,24 +9,47 @@ ghost use Rattle.serde_json.specs.Data.{no_members, object, unsigned};
 ghost use Rattle.serde_json.specs.Find.{get_member};
 ghost use Rattle.serde_json.specs.Read.{converted, number_from, number_of, of_json, of_members, read};
 ghost use Rattle.serde_json.specs.View.{view};
-ghost use Rattle.script_lines.specs.Flat.{data_of, members_of};
+ghost use Rattle.script_lines.specs.Flat.{data_of, flat_data, members_of};
 
 use crate::json_value::JsonValue;
+use crate::pairs::{Pair, read_pairs, tree_of_pairs};
 use agent_base::NoMemory;
 use fast_float::Numeral;
 use json::{Reader, Scratch, Token};
 use serde_json::{Map, Value, put};
 use std::alloc::Global;
 
+/// The value of a member that is read token by token.
+#[derive(Drop)]
+pub enum FlatValue<'a> {
+    Text(&'a str),
+    Whole(u64),
+    Truth(bool),
+    Pairs(Vec<Pair<'a>>),
+}
+
 /// A member: its name and its value, which is no tree.
-#[derive(Clone, Copy)]
+#[derive(Drop)]
 pub struct Member<'a> {
     pub name: &'a str,
-    pub value: JsonValue<'a>,
+    pub value: FlatValue<'a>,
+}
+
+impl FlatValue<'_> {
+    fn shown(&self) -> JsonValue<'_>
+        ensures { data_of result ≡ flat_data self.now }
+    {
+        match self {
+            FlatValue::Text(text) => JsonValue::Text(text),
+            FlatValue::Whole(number) => JsonValue::Whole(*number),
+            FlatValue::Truth(truth) => JsonValue::Truth(*truth),
+            FlatValue::Pairs(pairs) => JsonValue::Pairs(pairs),
+        }
+    }
 }
 
 /// The value of the last member of this name.
-pub fn last_named<'a>(members: &Vec<Member<'a>>, name: &str) -> Option<JsonValue<'a>>
+pub fn last_named<'a>(members: &'a Vec<Member<'_>>, name: &str) -> Option<JsonValue<'a>>
     ensures { option_map data_of result ≡ get_member name.now (members_of members.now.items) }
 {
     let mut left = members.len();
@@ -33,7 +57,7 @@ pub fn last_named<'a>(members: &Vec<Member<'a>>, name: &str) -> Option<JsonValue
         left -= 1;
         let member = &members[left];
         if member.name == name {
-            return Some(member.value);
+            return Some(member.value.shown());
         }
     }
     None
@@ -45,20 +69,20 @@ pub fn tree_of(alloc: Global, members: &[Member<'_>]) -> Result<Value, NoMemory>
 {
     let mut tree = Map::new(alloc);
     for member in members {
-        let value = owned(alloc, member.value)?;
+        let value = owned(alloc, &member.value)?;
         put(&mut tree, alloc, member.name, value)?;
     }
     Ok(Value::Object(tree))
 }
 
-fn owned(alloc: Global, value: JsonValue<'_>) -> Result<Value, NoMemory>
-    ensures { IfOk result (λ tree. view tree ≡ data_of value.entry) }
+fn owned(alloc: Global, value: &FlatValue<'_>) -> Result<Value, NoMemory>
+    ensures { IfOk result (λ tree. view tree ≡ flat_data value.now) }
 {
     match value {
-        JsonValue::Text(text) => Ok(Value::String(String::from_str(alloc, text)?)),
-        JsonValue::Whole(number) => Ok(Value::from(number)),
-        JsonValue::Truth(truth) => Ok(Value::Bool(truth)),
-        JsonValue::Any(value) => Ok(value.clone()?),
+        FlatValue::Text(text) => Ok(Value::String(String::from_str(alloc, text)?)),
+        FlatValue::Whole(number) => Ok(Value::from(*number)),
+        FlatValue::Truth(truth) => Ok(Value::Bool(*truth)),
+        FlatValue::Pairs(pairs) => tree_of_pairs(alloc, pairs),
     }
 }
 
@@ -94,7 +118,7 @@ fn read_members<'a>(alloc: Global, reader: &mut Reader<'a>) -> Option<Vec<Member
     'members: loop {
         match reader.next_key() {
             Ok(Some(name)) => {
-                let value = read_value(reader)?;
+                let value = read_value(alloc, reader)?;
                 if found.push(Member { name, value }).is_err() {
                     return None;
                 }
@@ -105,21 +129,22 @@ fn read_members<'a>(alloc: Global, reader: &mut Reader<'a>) -> Option<Vec<Member
     }
 }
 
-fn read_value<'a>(reader: &mut Reader<'a>) -> Option<JsonValue<'a>>
+fn read_value<'a>(alloc: Global, reader: &mut Reader<'a>) -> Option<FlatValue<'a>>
     ensures value { IfSome result
-        (λ v. converted of_json (value 126 reader.old) ≡ Some (data_of v, reader.new)) }
+        (λ v. converted of_json (value 126 reader.old) ≡ Some (flat_data v, reader.new)) }
     ensures shorter { IfSome result (λ _. length reader.new < length reader.old) }
 {
     let Some(token) = reader.next() else {
         return None;
     };
     match token {
-        Token::String(text) => Some(JsonValue::Text(text)),
+        Token::String(text) => Some(FlatValue::Text(text)),
         Token::Number(text) => match whole_number(text) {
-            Some(number) => Some(JsonValue::Whole(number)),
+            Some(number) => Some(FlatValue::Whole(number)),
             None => None,
         },
-        Token::Bool(truth) => Some(JsonValue::Truth(truth)),
+        Token::Bool(truth) => Some(FlatValue::Truth(truth)),
+        Token::BeginArray => Some(FlatValue::Pairs(read_pairs(alloc, reader)?)),
         _ => None,
     }
 }

@@ -1,18 +1,20 @@
 //! The heads of responses that lines have, as lists of pairs of texts.
-ghost use Rattle.std.specs.Prelude.{◌≡◌, [], IfOk, map, option_map};
+ghost use Rattle.std.specs.Prelude.{◌≡◌, [], IfOk, map, option_and_then, option_map};
 ghost use Rattle.std.specs.List.{list_all, list_any};
 ghost use Rattle.http_header.specs.FieldName.{is_field_name};
 ghost use Rattle.http_header.specs.Token.{is_token_byte};
+ghost use Rattle.serde_json.specs.Find.{as_array};
 ghost use Rattle.serde_json.specs.View.{items_view, view};
-ghost use Rattle.script_lines.specs.Flat.{data_of};
+ghost use Rattle.script_lines.specs.Flat.{field_of_texts};
 ghost use Rattle.script_lines.specs.JsonLine.{data_of_line};
-ghost use Rattle.script_lines.specs.Fields.{defaulted, field_of, head_list};
+ghost use Rattle.script_lines.specs.Fields.{checked, defaulted, field_of, formed, head_list};
 ghost use Rattle.script_lines.specs.Heads as spec;
 ghost use Rattle.script_lines.specs.Plain.{Reads, head_field_of};
 
 use crate::fields::bad_field;
 use crate::json_line::JsonLine;
 use crate::json_value::JsonValue;
+use crate::pairs::Pair;
 use crate::{HeadField, ScriptFault};
 use agent_base::NoMemory;
 use http_header::{MAX_HEADER_NAME_LEN, is_token_char};
@@ -33,61 +35,91 @@ pub fn head(
         Reads (λ v. map head_field_of v.items)
         (field_of number field (data_of_line line.now)) result }
 {
-    let Some(value) = line.get(name) else {
-        return Ok(Vec::new(alloc));
-    };
-    match head_in(alloc, value)? {
-        Some(fields) if are_headers(&fields) => Ok(fields),
-        Some(_) => Err(ScriptFault::BadHeader(number)),
-        None => Err(bad_field(alloc, number, name)),
+    match line.get(name) {
+        Some(JsonValue::Pairs(pairs)) => head_of(alloc, pairs, number, name),
+        Some(JsonValue::Any(value)) => match pairs_in(alloc, value)? {
+            Some(pairs) => head_of(alloc, &pairs, number, name),
+            None => Err(bad_field(alloc, number, name)),
+        },
+        Some(JsonValue::Text(_) | JsonValue::Whole(_) | JsonValue::Truth(_)) => {
+            Err(bad_field(alloc, number, name))
+        }
+        None => Ok(Vec::new(alloc)),
     }
 }
 
-// The head that a value is by its form.
-fn head_in(alloc: Global, value: JsonValue<'_>) -> Result<Option<Vec<HeadField>>, NoMemory>
-    ensures { IfOk result (λ fields. option_map (λ v. map head_field_of v.items) fields
-        ≡ spec.head_of_value (data_of value.entry)) }
+// The head that pairs are, or its fault.
+fn head_of(
+    alloc: Global,
+    pairs: &[Pair<'_>],
+    number: u32,
+    name: &str,
+) -> Result<Vec<HeadField>, ScriptFault>
+    ensures { Reads (λ v. map head_field_of v.items) (checked head_list number
+        (formed number name.now (spec.few (map field_of_texts pairs.now)))) result }
 {
-    let Some(pairs) = value.as_array() else {
-        return Ok(None);
-    };
-    match each_field(alloc, pairs)? {
-        Some(fields) if fields.len() <= MOST_FIELDS => Ok(Some(fields)),
-        _ => Ok(None),
+    if pairs.len() > MOST_FIELDS {
+        return Err(bad_field(alloc, number, name));
+    }
+    if are_headers(pairs) {
+        Ok(copied(alloc, pairs)?)
+    } else {
+        Err(ScriptFault::BadHeader(number))
     }
 }
 
-fn each_field(alloc: Global, pairs: &[Value]) -> Result<Option<Vec<HeadField>>, NoMemory>
-    ensures { IfOk result (λ fields. option_map (λ v. map head_field_of v.items) fields
-        ≡ spec.fields_of_pairs (items_view pairs.now)) }
+fn copied(alloc: Global, pairs: &[Pair<'_>]) -> Result<Vec<HeadField>, NoMemory>
+    ensures { IfOk result (λ v. map head_field_of v.items ≡ map field_of_texts pairs.now) }
 {
     let mut fields = Vec::new(alloc);
     for pair in pairs {
-        match field_in(alloc, pair)? {
-            Some(field) => {
-                if fields.push(field).is_err() {
+        let field = HeadField {
+            name: String::from_str(alloc, pair.name)?,
+            value: String::from_str(alloc, pair.value)?,
+        };
+        if fields.push(field).is_err() {
+            return Err(NoMemory);
+        }
+    }
+    Ok(fields)
+}
+
+// The pairs of texts that a value is a list of.
+fn pairs_in(alloc: Global, value: &Value) -> Result<Option<Vec<Pair<'_>>>, NoMemory>
+    ensures { IfOk result (λ pairs. option_map (λ v. map field_of_texts v.items) pairs
+        ≡ option_and_then spec.fields_of_pairs (as_array (view value.now))) }
+{
+    match value.as_array() {
+        Some(items) => each_pair(alloc, items),
+        None => Ok(None),
+    }
+}
+
+fn each_pair(alloc: Global, items: &[Value]) -> Result<Option<Vec<Pair<'_>>>, NoMemory>
+    ensures { IfOk result (λ pairs. option_map (λ v. map field_of_texts v.items) pairs
+        ≡ spec.fields_of_pairs (items_view items.now)) }
+{
+    let mut pairs = Vec::new(alloc);
+    for item in items {
+        match pair_in(item) {
+            Some(pair) => {
+                if pairs.push(pair).is_err() {
                     return Err(NoMemory);
                 }
             }
             None => return Ok(None),
         }
     }
-    Ok(Some(fields))
+    Ok(Some(pairs))
 }
 
-fn field_in(alloc: Global, pair: &Value) -> Result<Option<HeadField>, NoMemory>
-    ensures { IfOk result (λ field. option_map head_field_of field
-        ≡ spec.field_of_pair (view pair.now)) }
+fn pair_in(pair: &Value) -> Option<Pair<'_>>
+    ensures { option_map field_of_texts result ≡ spec.field_of_pair (view pair.now) }
 {
-    let Some((name, value)) = two_of(pair) else {
-        return Ok(None);
-    };
+    let (name, value) = two_of(pair)?;
     match (name.as_str(), value.as_str()) {
-        (Some(name), Some(value)) => Ok(Some(HeadField {
-            name: String::from_str(alloc, name)?,
-            value: String::from_str(alloc, value)?,
-        })),
-        _ => Ok(None),
+        (Some(name), Some(value)) => Some(Pair { name, value }),
+        _ => None,
     }
 }
 
@@ -115,22 +147,22 @@ fn two_in(items: &[Value]) -> Option<(&Value, &Value)>
     }
 }
 
-fn are_headers(fields: &[HeadField]) -> bool
-    ensures { result ≡ list_all spec.is_header (map head_field_of fields.now) }
+fn are_headers(pairs: &[Pair<'_>]) -> bool
+    ensures { result ≡ list_all spec.is_header (map field_of_texts pairs.now) }
 {
-    all_headers(fields)
+    all_headers(pairs)
 }
 
-fn all_headers(fields: &[HeadField]) -> bool
-    ensures { result ≡ list_all (λ field. spec.is_header (head_field_of field)) fields.now }
+fn all_headers(pairs: &[Pair<'_>]) -> bool
+    ensures { result ≡ list_all (λ pair. spec.is_header (field_of_texts pair)) pairs.now }
 {
-    fields.iter().all(|field| is_header(field))
+    pairs.iter().all(|pair| is_header(pair))
 }
 
-fn is_header(field: &HeadField) -> bool
-    ensures { result ≡ spec.is_header (head_field_of field.now) }
+fn is_header(pair: &Pair<'_>) -> bool
+    ensures { result ≡ spec.is_header (field_of_texts pair.now) }
 {
-    is_header_name(field.name.as_bytes()) && !ends(field.value.as_bytes())
+    is_header_name(pair.name.as_bytes()) && !ends(pair.value.as_bytes())
 }
 
 #[tactic(auto, unfolding(http_header::specs::Token::is_token_byte))]

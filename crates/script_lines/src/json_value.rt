@@ -1,9 +1,9 @@
 //! The value of a member of a line.
-ghost use Rattle.std.specs.Prelude.{◌≡◌, option_and_then, option_copied, option_map};
+ghost use Rattle.std.specs.Prelude.{◌≡◌, option_and_then, option_copied};
 ghost use Rattle.serde_json.specs.Find as find;
-ghost use Rattle.serde_json.specs.View.{items_view};
 ghost use Rattle.script_lines.specs.Flat.{data_of};
 
+use crate::pairs::Pair;
 use serde_json::Value;
 
 /// The value of a member of a line: of a form that most fields have, or any.
@@ -12,6 +12,7 @@ pub enum JsonValue<'a> {
     Text(&'a str),
     Whole(u64),
     Truth(bool),
+    Pairs(&'a [Pair<'a>]),
     Any(&'a Value),
 }
 
@@ -22,7 +23,7 @@ impl<'a> JsonValue<'a> {
         match self {
             JsonValue::Text(text) => Some(text),
             JsonValue::Any(value) => value.as_str(),
-            _ => None,
+            JsonValue::Whole(_) | JsonValue::Truth(_) | JsonValue::Pairs(_) => None,
         }
     }
 
@@ -32,7 +33,7 @@ impl<'a> JsonValue<'a> {
         match self {
             JsonValue::Whole(number) => Some(number),
             JsonValue::Any(value) => value.as_u64(),
-            _ => None,
+            JsonValue::Text(_) | JsonValue::Truth(_) | JsonValue::Pairs(_) => None,
         }
     }
 
@@ -42,17 +43,7 @@ impl<'a> JsonValue<'a> {
         match self {
             JsonValue::Truth(truth) => Some(truth),
             JsonValue::Any(value) => value.as_bool(),
-            _ => None,
-        }
-    }
-
-    pub fn as_array(self) -> Option<&'a Vec<Value>>
-        ensures { option_map (λ items. items_view items.now.items) result
-            ≡ find.as_array (data_of self.entry) }
-    {
-        match self {
-            JsonValue::Any(value) => value.as_array(),
-            _ => None,
+            JsonValue::Text(_) | JsonValue::Whole(_) | JsonValue::Pairs(_) => None,
         }
     }
 }

@@ -13,6 +13,7 @@ mod heads;
 mod json_line;
 mod json_value;
 mod members;
+mod pairs;
 mod reader;
 mod rows;
 mod script;

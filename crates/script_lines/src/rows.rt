@@ -1,9 +1,9 @@
 //! The readers of the rows of the table, one a row.
 ghost use Rattle.script_lines.specs.Actions.{clear_row, click_row, close_row, cookie_row, del_row};
 ghost use Rattle.script_lines.specs.Actions.{drop_row, estimate_row, events_row, evict_row};
-ghost use Rattle.script_lines.specs.Actions.{fetch_row, frame_row, get_row, go_row, key_row, len_row};
-ghost use Rattle.script_lines.specs.Actions.{nav_row, open_row, persist_row, persisted_row, set_row};
-ghost use Rattle.script_lines.specs.Actions.{setcookie_row, tick_row};
+ghost use Rattle.script_lines.specs.Actions.{fetch_row, frame_row, get_row, go_row, has_row, key_row};
+ghost use Rattle.script_lines.specs.Actions.{len_row, nav_row, open_row, persist_row, persisted_row};
+ghost use Rattle.script_lines.specs.Actions.{request_row, set_row, setcookie_row, tick_row};
 ghost use Rattle.script_lines.specs.Grammar.{action_by_row};
 ghost use Rattle.script_lines.specs.JsonLine.{data_of_line};
 ghost use Rattle.script_lines.specs.Plain.{Reads, action_of};
@@ -15,7 +15,7 @@ use crate::fields::{
 use crate::heads::head;
 use crate::json_line::JsonLine;
 use crate::members::no_others;
-use crate::words::{AREAS, CONSENTS, LOADERS, METHODS, NAVIGATORS};
+use crate::words::{ANSWERS, AREAS, CONSENTS, LOADERS, METHODS, NAVIGATORS};
 use crate::{Action, Method, ScriptFault};
 use agent_base::Label;
 use case_tables::read_fields;
@@ -220,6 +220,22 @@ pub fn set_cookie(alloc: Global, line: &JsonLine<'_>, number: u32) -> Result<Act
     let action = read_document!((alloc, line, number); {
         text: text,
     } => SetCookie { text });
+    Ok(action)
+}
+
+pub fn has(alloc: Global, line: &JsonLine<'_>, number: u32) -> Result<Action, ScriptFault>
+    ensures { Reads action_of (action_by_row number has_row (data_of_line line.now)) result }
+{
+    let action = read_document!((alloc, line, number); {} => Has {});
+    Ok(action)
+}
+
+pub fn request(alloc: Global, line: &JsonLine<'_>, number: u32) -> Result<Action, ScriptFault>
+    ensures { Reads action_of (action_by_row number request_row (data_of_line line.now)) result }
+{
+    let action = read_document!((alloc, line, number); {
+        answer: word(&ANSWERS, None),
+    } => Request { answer });
     Ok(action)
 }
 

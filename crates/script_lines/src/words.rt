@@ -45,5 +45,12 @@ pub const LOADERS: [(&str, bool); 2] = [("user", false), ("page", true)];
 /// Who navigates a frame: whether it is the frame itself, and not its parent.
 pub const NAVIGATORS: [(&str, bool); 2] = [("parent", false), ("self", true)];
 
+/// What a user answers to a prompt for access to unpartitioned cookies.
+pub const ANSWERS: [(&str, Prompt); 3] = [
+    ("grant", Prompt::Grant),
+    ("deny", Prompt::Deny),
+    ("dismiss", Prompt::Dismiss),
+];
+
 /// What a user answers to a prompt for persistent storage, which is not dismissed.
 pub const CONSENTS: [(&str, Prompt); 2] = [("grant", Prompt::Grant), ("deny", Prompt::Deny)];

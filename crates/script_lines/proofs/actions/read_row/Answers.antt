@@ -56,6 +56,12 @@ returns-in-Cookie c = of_row c.args.number (data_of_line c.args.line.now) c.cook
 pub returns-in-SetCookie : goal.returns-in-SetCookie
 returns-in-SetCookie c = of_row c.args.number (data_of_line c.args.line.now) c.set_cookie.result c.in-SetCookie.is c.set_cookie.ensures
 
+pub returns-in-Has : goal.returns-in-Has
+returns-in-Has c = of_row c.args.number (data_of_line c.args.line.now) c.has.result c.in-Has.is c.has.ensures
+
+pub returns-in-Request : goal.returns-in-Request
+returns-in-Request c = of_row c.args.number (data_of_line c.args.line.now) c.request.result c.in-Request.is c.request.ensures
+
 pub returns-in-Persisted : goal.returns-in-Persisted
 returns-in-Persisted c = of_row c.args.number (data_of_line c.args.line.now) c.persisted.result c.in-Persisted.is c.persisted.ensures
 

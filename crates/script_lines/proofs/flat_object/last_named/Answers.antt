@@ -1,4 +1,4 @@
-use Rattle.std.proofs.Common.{◌≡◌, ◌+◌, ◌-◌, [], ◌∷◌, ◌++◌, take, true, false, bytes_eq, sym, ap, ◌∙◌, arith}
+use Rattle.std.proofs.Common.{◌≡◌, Some, ◌+◌, ◌-◌, [], ◌∷◌, ◌++◌, take, true, false, bytes_eq, sym, ap, ◌∙◌, arith}
 use Rattle.std.proofs.lemmas.List.{take_more}
 use Rattle.serde_json.specs.Find.{get_member}
 use Rattle.script_lines.specs.Flat.{members_of}
@@ -14,7 +14,7 @@ returns-then-eq c =
     let next : c.loop-left.left ≡ i + 1 = omega arith in
     let front : take c.loop-left.left list ≡ take i list ++ m ∷ [] = ap (λ k. take k list) next ∙ take_more list i m (omega arith) ∙ ap (λ y. take i list ++ y ∷ []) (sym c.index-member.ensures) in
     let same : bytes_eq m.name.now name ≡ true = grind arith in
-    sym (c.loop-left.invariant.0 ∙ ap (λ ys. get_member name (members_of ys)) front ∙ found_last name (take i list) m true same)
+    ap Some c.shown.ensures ∙ sym (c.loop-left.invariant.0 ∙ ap (λ ys. get_member name (members_of ys)) front ∙ found_last name (take i list) m true same)
 
 pub loop-left-preserved : goal.loop-left-preserved
 loop-left-preserved c =

@@ -4,7 +4,7 @@ use Rattle.json.proofs.Grammar.{read_key-shorter}
 use Rattle.serde_json.specs.Data.{put}
 use Rattle.serde_json.specs.Read.{of_members, converted}
 use Rattle.script_lines.proofs.FlatLemmas.{member_read, members_over}
-use Rattle.script_lines.specs.Flat.{data_of, members_of}
+use Rattle.script_lines.specs.Flat.{flat_data, members_of}
 use Rattle.script_lines.proofs.FlatLemmas.{one_more}
 use Rattle.script_lines.proofs.flat_object.read_members.Goals as goal
 
@@ -22,10 +22,10 @@ members-preserved c =
     let less = read_key-shorter l.reader (Some k) s named in
     let lesser = done.shorter in
     let pushed : c.push.new.self.items ≡ l.found.items ++ record { name = c.in-Ok-Some.name; value = v } ∷ [] = search rules in
-    let inserted : members_of c.push.new.self.items ≡ put k (data_of v) old = ap members_of pushed ∙ one_more l.found.items (record { name = c.in-Ok-Some.name; value = v }) in (
+    let inserted : members_of c.push.new.self.items ≡ put k (flat_data v) old = ap members_of pushed ∙ one_more l.found.items (record { name = c.in-Ok-Some.name; value = v }) in (
       n - 1,
       omega (arith, l.invariant.1),
-      l.invariant.2 ∙ member_read (value 126) old n k l.reader s r (data_of v) (omega (arith, l.invariant.1)) named done.value
+      l.invariant.2 ∙ member_read (value 126) old n k l.reader s r (flat_data v) (omega (arith, l.invariant.1)) named done.value
           ∙ ap (λ found. converted (λ ms. of_members ms found) (members (value 126) (n - 1) r)) (sym inserted),
     )
 

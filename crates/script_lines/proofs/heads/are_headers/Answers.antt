@@ -1,8 +1,8 @@
 use Rattle.std.proofs.Common.{sym, ◌∙◌}
 use Rattle.script_lines.specs.Heads.{is_header}
-use Rattle.script_lines.specs.Plain.{head_field_of}
+use Rattle.script_lines.specs.Flat.{field_of_texts}
 use Rattle.script_lines.proofs.HeadLemmas.{list_all-map}
 use Rattle.script_lines.proofs.heads.are_headers.Goals as goal
 
 pub returns : goal.returns
-returns c = c.all_headers.ensures ∙ sym (list_all-map is_header head_field_of c.args.fields.now)
+returns c = c.all_headers.ensures ∙ sym (list_all-map is_header field_of_texts c.args.pairs.now)

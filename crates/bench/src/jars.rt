@@ -80,6 +80,17 @@ fn print_all(alloc: Global, jar: &mut Jar, none: &Jar, count: u32) -> u64 {
     bytes
 }
 
+// So many copies, and how many cookies they have.
+fn copy_all(alloc: Global, jar: &Jar, count: u32) -> u64 {
+    let mut cookies: u64 = 0;
+    for _ in 0..count {
+        if let Ok(copy) = jar.copy(alloc) {
+            cookies = cookies.wrapping_add(copy.len() as u64);
+        }
+    }
+    cookies
+}
+
 fn empty_list(alloc: Global) -> Option<SuffixList> {
     let mut source = MemSource::new(Vec::new(alloc), Vec::new(alloc));
     SuffixList::read(alloc, &mut source).ok()
@@ -100,6 +111,12 @@ pub fn run(rt: &HostRuntime, count: u32, cookies: u32) -> io::Result<()> {
     let watch = Watch::start(rt)?;
     let bytes = print_all(alloc, &mut jar, &none, count);
     watch.tell(rt, "headers", count)?;
-    println!(rt; "jars: {} cookies, {steps} steps, {bytes} bytes", jar.len())?;
+    let watch = Watch::start(rt)?;
+    let copied = copy_all(alloc, &jar, count);
+    watch.tell(rt, "copies", count)?;
+    println!(rt;
+        "jars: {} cookies, {steps} steps, {bytes} bytes, {copied} copied",
+        jar.len()
+    )?;
     Ok(())
 }

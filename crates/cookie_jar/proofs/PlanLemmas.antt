@@ -17,10 +17,7 @@ use Rattle.cookie_jar.specs.NewCookie.{has_such, made_with, own_domain}
 use Rattle.cookie_jar.specs.Drops as spec
 use Rattle.cookie_jar.specs.NewCookie.{lower_domain}
 use Rattle.cookie_jar.specs.Planned.{PlainPlan, IsPlanFor, plan_of, planned, planned_with, unless_dropped}
-
-pub any_plain : (test : PlainCookie → Bool) (xs : List Cookie) → list_any (λ x. test (plain_cookie x)) xs ≡ list_any test (map plain_cookie xs)
-any_plain test [] = refl
-any_plain test (x ∷ xs) = ap (λ b. test (plain_cookie x) || b) (any_plain test xs)
+use Rattle.cookie_jar.proofs.RemovalLemmas.{any_map}
 
 -- the later rows, where each is known
 pub rows_are : (rules : List Rule) (lower own : Option (List ℕ)) (text : CookieText) (access : PlainAccess) (now : ℤ) (new : PlainCookie) (xs : List Cookie)
@@ -44,8 +41,8 @@ pub rows_are : (rules : List Rule) (lower own : Option (List ℕ)) (text : Cooki
     ∷ (b12, why.ThirdParty) ∷ [])
     ≡ spec.first_drop (spec.later_rows rules lower text access now (map plain_cookie xs))
 rows_are rules lower own text access now new xs b0 b1 b2 b3 b4 b5 b6 b7 b8 b9 b10 b11 b12 o n e0 e1 e2 e3 e4 e5 e6 e7 e8 e9 e10 e11 e12 =
-    let overlaid = e4 ∙ ap (λ b. not text.secure && (not access.https && b)) (any_plain (spec.is_live_such now (spec.is_overlaid access new)) xs) in
-    let overwrites = e10 ∙ ap (λ b. access.script && b) (any_plain (spec.is_live_such now (spec.is_same_http_only new)) xs) in
+    let overlaid = e4 ∙ ap (λ b. not text.secure && (not access.https && b)) (any_map plain_cookie (spec.is_live_such now (spec.is_overlaid access new)) xs) in
+    let overwrites = e10 ∙ ap (λ b. access.script && b) (any_map plain_cookie (spec.is_live_such now (spec.is_same_http_only new)) xs) in
     rw (e0, e1, e2, e3, overlaid, e5, e6, e7, e8, e9, overwrites, e11, e12, n, o) refl
 
 -- nothing drops the cookie

@@ -1,12 +1,13 @@
 -- What putting a cookie makes of the weight of a cell.
-use Rattle.std.proofs.Common.{◌≡◌, ℕ, ◌+◌, ◌≤◌, ◌<◌, ℤ, Bool, true, false, cond, not, List, [], ◌∷◌, ◌++◌, length, refl, ap, ◌∙◌, sym, arith}
-use Rattle.std.specs.Prelude.{nat_lt, ◌==◌}
+use Rattle.std.proofs.Common.{◌≡◌, ℕ, ◌+◌, ◌-◌, ◌≤◌, ◌<◌, ℤ, Bool, true, false, cond, not, List, [], ◌∷◌, ◌++◌, length, get_or, refl, ap, ◌∙◌, sym, arith, ⊎_elim}
+use Rattle.std.specs.Prelude.{nat_lt, ◌==◌, Some, is_some, slice_get}
 use Rattle.std.specs.List.{sum_by, count_by, list_any, range_with_len, remove}
-use Rattle.std.proofs.lemmas.Bool.{ltb-true, ltb-false, lt-ltb}
+use Rattle.std.proofs.lemmas.Bool.{false≢true, ltb-true, ltb-false}
 use Rattle.std.proofs.lemmas.Bool.Decides.{nat_tests}
 use Rattle.std.proofs.lemmas.List.{length-set, length-append}
 use Rattle.std.proofs.lemmas.List.FromFn.{length-range_with_len}
-use Rattle.std.proofs.lemmas.List.Sums.{sum_by-cons, sum_by-set, sum_by-append, prefix_len-le-length}
+use Rattle.std.proofs.lemmas.List.Sums.{get_or-le-sum_by, sum_by-cons, sum_by-set, sum_by-append, prefix_len-le-length}
+use Rattle.std.proofs.lemmas.Option.{get_or_from_slice_get, slice_get_cases}
 use Rattle.partition_limits.specs.declared.tally.CellKind.{CellKind}
 use Rattle.partition_limits.specs.declared.tally.CellKind.TheVariants.{Own, Partition}
 use Rattle.partition_limits.specs.declared.tally.Tally.{Tally}
@@ -14,7 +15,7 @@ use Rattle.partition_limits.specs.Limits.{fits}
 use Rattle.cookie_jar.specs.Cookie.{PlainCookie, IsCell, same, counted, keeps_limits, pair_bytes}
 use Rattle.cookie_jar.specs.Lifetime.{is_expired}
 use Rattle.cookie_jar.specs.Performed.{after_removals}
-use Rattle.cookie_jar.specs.Steps.{place_of, put, going, place_now, removals, removal_at, remove_step, put_step, steps, after_steps}
+use Rattle.cookie_jar.specs.Steps.{place_of, put, going, place_now, removals, put_step, steps, after_steps}
 use Rattle.cookie_jar.proofs.CellLemmas.{fits_less}
 use Rattle.cookie_jar.proofs.StepLaws.{put_there, put_last, rows_hold}
 
@@ -50,6 +51,28 @@ none_goes kind tally now fresh cs cell h =
     fits_less kind _ _ _ _ h (omega (arith, cell.cookies, put_count fresh cs)) (omega (arith, cell.bytes, put_sum (counted kind) fresh cs)) in
     rw (rows_hold kind now (put fresh cs), light) refl
 
+-- a cookie that was read at a place
+pub read_within : (cs : List PlainCookie) (place : ℕ) (old : PlainCookie) → Some old ≡ slice_get cs place → (place < length cs) × (get_or cs place old ≡ old)
+read_within cs place old e =
+    (⊎_elim (λ inside. inside.1) (λ past. absurd (false≢true (sym (ap is_some (e ∙ past.1))))) (slice_get_cases cs place).1, get_or_from_slice_get cs place old old (sym e))
+
+-- it counts for no more than the tally
+pub read_counts : (kind : CellKind) (tally : Tally) (cs : List PlainCookie) (place : ℕ) (old : PlainCookie) → IsCell kind tally cs → Some old ≡ slice_get cs place → counted kind old ≤ tally.bytes
+read_counts kind tally cs place old cell e =
+    let read = read_within cs place old e in
+    omega (arith, cell.bytes, get_or-le-sum_by (counted kind) cs place old read.0, ap (counted kind) read.1)
+
+-- no cookie goes where the tally holds one in the place of the same one
+pub none_goes_there : (kind : CellKind) (tally : Tally) (now : ℤ) (fresh : PlainCookie) (cs : List PlainCookie) (place : ℕ) (old : PlainCookie) → IsCell kind tally cs → place ≡ place_of fresh cs → Some old ≡ slice_get cs place
+    → fits kind tally.cookies (tally.bytes - counted kind old + counted kind fresh) ≡ true → going kind now fresh cs ≡ []
+none_goes_there kind tally now fresh cs place old cell here e h =
+    let read = read_within cs (place_of fresh cs) old (e ∙ ap (slice_get cs) here) in
+    let there = ap (counted kind) read.1 in
+    let light : keeps_limits kind (put fresh cs) ≡ true =
+    rw (put_there fresh cs read.0) (fits_less kind _ _ _ _ h (omega (arith, cell.cookies, length-set cs (place_of fresh cs) fresh))
+    (omega (arith, cell.bytes, there, sum_by-set (counted kind) cs (place_of fresh cs) fresh old read.0, get_or-le-sum_by (counted kind) cs (place_of fresh cs) old read.0))) in
+    rw (rows_hold kind now (put fresh cs), light) refl
+
 -- a cell's tally is small
 pub small_tally : (kind : CellKind) (tally : Tally) (cs : List PlainCookie) → IsCell kind tally cs → tally.bytes ≤ 10240
 small_tally Own tally cs cell = let none = own_sum cs in omega (arith, cell.bytes, none)
@@ -78,15 +101,15 @@ range_count n m = all (range_with_len n m) ∙ length-range_with_len n m
 pub place_stays : (place : ℕ) → place_now [] place ≡ place
 place_stays place = range_count 0 place
 
--- one removal alone
-pub removal_alone : (place : ℕ) (cs : List PlainCookie) → place < length cs → removals cs [] (place ∷ []) ≡ removal_at place cs
-removal_alone place cs lt =
-    ap (λ p. remove_step p cs ∷ []) (place_stays place) ∙ ap (λ b. cond b (remove_step place cs ∷ []) []) (sym (lt-ltb place (length cs) lt))
-
 -- removals are done alike, whichever cookie is put after them
 pub all_removed : (fresh : PlainCookie) (cs : List PlainCookie) (gone ps : List ℕ) → after_removals cs (removals cs gone ps) ≡ after_steps fresh cs (removals cs gone ps)
 all_removed fresh cs gone [] = refl
 all_removed fresh cs gone (p ∷ ps) = all_removed fresh (remove cs (place_now gone p)) (p ∷ gone) ps
+
+-- the step of storing one, where none goes
+pub steps_alone : (cs : List PlainCookie) (gone : List ℕ) (place : ℕ) → gone ≡ []
+    → put_step place cs ∷ [] ≡ removals cs [] gone ++ put_step (place_now gone place) (after_removals cs (removals cs [] gone)) ∷ []
+steps_alone cs gone place none = rw none (ap (λ p. put_step p cs ∷ []) (sym (place_stays place)))
 
 -- the steps of storing a cookie that is not expired
 pub steps_are : (kind : CellKind) (now : ℤ) (fresh : PlainCookie) (cs : List PlainCookie) (gone : List ℕ) (place : ℕ) → is_expired now fresh ≡ false

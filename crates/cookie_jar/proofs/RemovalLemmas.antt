@@ -26,16 +26,20 @@ pub left_is : (cs : List PlainCookie) (gone ps : List ℕ) → after_removals cs
 left_is cs gone [] = refl
 left_is cs gone (p ∷ ps) = left_is (remove cs (place_now gone p)) (p ∷ gone) ps
 
-count_map : (cs : List PlainCookie) → count_by (λ b. b) (map is_persistent cs) ≡ count_by is_persistent cs
-count_map [] = refl
-count_map (c ∷ cs) = let e = count_map cs in rw (sum_by-cons {X = Bool} (λ b. cond b 1 0) (is_persistent c) (map is_persistent cs), sum_by-cons (λ d. cond (is_persistent d) 1 0) c cs) (omega (arith, e))
+-- what is counted or found in a list of images
+pub count_map : {A B : Type 0} (f : A → B) (test : B → Bool) (xs : List A) → count_by (λ x. test (f x)) xs ≡ count_by test (map f xs)
+count_map f test [] = refl
+count_map f test (x ∷ xs) =
+    let e = count_map f test xs in
+    rw (sum_by-cons (λ y. cond (test (f y)) 1 0) x xs, sum_by-cons (λ y. cond (test y) 1 0) (f x) (map f xs)) (omega (arith, e))
 
-any_map : (cs : List PlainCookie) → list_any (λ b. b) (map is_persistent cs) ≡ list_any is_persistent cs
-any_map [] = refl
-any_map (c ∷ cs) = ap (λ r. is_persistent c || r) (any_map cs)
+pub any_map : {A B : Type 0} (f : A → B) (test : B → Bool) (xs : List A) → list_any (λ x. test (f x)) xs ≡ list_any test (map f xs)
+any_map f test [] = refl
+any_map f test (x ∷ xs) = ap (λ r. test (f x) || r) (any_map f test xs)
 
 pub flag_removal_is : (place : ℕ) (cs : List PlainCookie) → flag_removal place (map is_persistent cs) ≡ remove_step place cs
-flag_removal_is place cs = rw (take-map is_persistent place cs, count_map (take place cs), drop-map is_persistent place cs, take-map is_persistent 1 (drop place cs), any_map (take 1 (drop place cs))) refl
+flag_removal_is place cs =
+    rw (take-map is_persistent place cs, sym (count_map is_persistent (λ b. b) (take place cs)), drop-map is_persistent place cs, take-map is_persistent 1 (drop place cs), sym (any_map is_persistent (λ b. b) (take 1 (drop place cs)))) refl
 
 place_same : (a b : List ℕ) (p : ℕ) → ((q : ℕ) → among q a ≡ among q b) → place_now a p ≡ place_now b p
 place_same a b p h = ap (λ (f : ℕ → Bool). count_by f (range_with_len 0 p)) (fun_ext (λ q. ap not (h q)))
@@ -88,7 +92,15 @@ plan_step cs ps i d steps more flags rest place lt here pushed dropped so_far al
     )
 
 pub flag_put_is : (place : ℕ) (cs : List PlainCookie) → flag_put place (map is_persistent cs) ≡ put_step place cs
-flag_put_is place cs = rw (take-map is_persistent place cs, count_map (take place cs), drop-map is_persistent place cs, take-map is_persistent 1 (drop place cs), any_map (take 1 (drop place cs)), length-map cs is_persistent) refl
+flag_put_is place cs =
+    rw (
+      take-map is_persistent place cs,
+      sym (count_map is_persistent (λ b. b) (take place cs)),
+      drop-map is_persistent place cs,
+      take-map is_persistent 1 (drop place cs),
+      sym (any_map is_persistent (λ b. b) (take 1 (drop place cs))),
+      length-map cs is_persistent,
+    ) refl
 
 pub rows_there : (kind : CellKind) (now : ℤ) (f : PlainCookie) (cs : List PlainCookie) (place : ℕ) → place ≡ place_of f cs → place < length (map (weigh kind now) cs)
     → slice_set (map (weigh kind now) cs) place (weigh kind now f) ≡ map (weigh kind now) (put f cs)

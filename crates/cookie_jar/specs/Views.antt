@@ -1,5 +1,6 @@
 -- The public types as contracts see them.
 use Rattle.std.specs.Prelude.{string_bytes}
+use Rattle.std.specs.Rc.{rc_value}
 use Rattle.cookie_jar.specs.declared.cookie.Cookie.{Cookie}
 use Rattle.cookie_jar.specs.declared.access.Access.{Access}
 use Rattle.cookie_jar.specs.Cookie.{PlainCookie}
@@ -9,10 +10,10 @@ use Rattle.cookie_jar.specs.Access.{PlainAccess}
 abbrev pub plain_cookie : Cookie → PlainCookie
 plain_cookie c =
     record {
-      name = string_bytes c.name;
-      value = string_bytes c.value;
-      domain = string_bytes c.domain;
-      path = string_bytes c.path;
+      name = string_bytes (rc_value c.texts).name;
+      value = string_bytes (rc_value c.texts).value;
+      domain = string_bytes (rc_value c.texts).domain;
+      path = string_bytes (rc_value c.texts).path;
       host_only = c.host_only;
       secure = c.secure;
       http_only = c.http_only;

@@ -8,15 +8,15 @@ ghost use Rattle.cookie_jar.specs.Views.{plain_cookie};
 use agent_base::NoMemory;
 use partition_limits::CellKind;
 use setcookie_parse::SameSite;
-use std::alloc::{AllocError, Global};
+use std::alloc::Global;
+use std::rc::Rc;
 
 /// A cookie that is kept. Times are seconds from 1970 on.
+///
+/// A copy shares the texts, so that they stand in memory once.
 #[derive(Debug, Drop)]
 pub struct Cookie {
-    pub name: String,
-    pub value: String,
-    pub domain: String,
-    pub path: String,
+    pub texts: Rc<SharedTexts>,
     /// Whether the cookie goes to its domain alone, and not to hosts below it.
     pub host_only: bool,
     pub secure: bool,
@@ -27,6 +27,15 @@ pub struct Cookie {
     pub expiry: Option<i64>,
     /// The second of the storing or of the last sending.
     pub last: i64,
+}
+
+/// The texts of a cookie, which its copies share.
+#[derive(Debug, Drop)]
+pub struct SharedTexts {
+    pub name: String,
+    pub value: String,
+    pub domain: String,
+    pub path: String,
 }
 
 /// A cookie whose texts are borrowed.
@@ -46,21 +55,30 @@ pub struct BorrowedCookie<'a> {
 }
 
 impl Cookie {
-    /// The same cookie, over memory of its own.
-    pub fn copy(&self, alloc: Global) -> Result<Cookie, NoMemory>
+    /// The same cookie. It shares the texts, and is refused only where their count is full.
+    pub fn copy(&self) -> Result<Cookie, NoMemory>
         ensures same { IfOk result (λ c. plain_cookie c ≡ plain_cookie self.now) }
     {
-        Ok(self.borrowed().to_cookie(alloc)?)
+        Ok(Cookie {
+            texts: self.texts.clone()?,
+            host_only: self.host_only,
+            secure: self.secure,
+            http_only: self.http_only,
+            same_site: self.same_site,
+            creation: self.creation,
+            expiry: self.expiry,
+            last: self.last,
+        })
     }
 
     pub(crate) fn borrowed(&self) -> BorrowedCookie<'_>
         ensures { plain_borrowed result ≡ plain_cookie self.now }
     {
         BorrowedCookie {
-            name: self.name.as_str(),
-            value: self.value.as_str(),
-            domain: self.domain.as_str(),
-            path: self.path.as_str(),
+            name: self.texts.name.as_str(),
+            value: self.texts.value.as_str(),
+            domain: self.texts.domain.as_str(),
+            path: self.texts.path.as_str(),
             host_only: self.host_only,
             secure: self.secure,
             http_only: self.http_only,
@@ -73,14 +91,20 @@ impl Cookie {
 }
 
 impl BorrowedCookie<'_> {
-    pub(crate) fn to_cookie(&self, alloc: Global) -> Result<Cookie, AllocError>
+    pub(crate) fn to_cookie(&self, alloc: Global) -> Result<Cookie, NoMemory>
         ensures { IfOk result (λ c. plain_cookie c ≡ plain_borrowed self.now) }
     {
-        Ok(Cookie {
+        let texts = SharedTexts {
             name: String::from_str(alloc, self.name)?,
             value: String::from_str(alloc, self.value)?,
             domain: String::from_str(alloc, self.domain)?,
             path: String::from_str(alloc, self.path)?,
+        };
+        let Ok(texts) = Rc::new(alloc, texts) else {
+            return Err(NoMemory);
+        };
+        Ok(Cookie {
+            texts,
             host_only: self.host_only,
             secure: self.secure,
             http_only: self.http_only,
@@ -95,10 +119,10 @@ impl BorrowedCookie<'_> {
 pub fn is_same(new: &BorrowedCookie<'_>, cookie: &Cookie) -> bool
     ensures { result ≡ spec.same (plain_borrowed new.now) (plain_cookie cookie.now) }
 {
-    new.name == cookie.name.as_str()
-        && new.domain == cookie.domain.as_str()
+    new.name == cookie.texts.name.as_str()
+        && new.domain == cookie.texts.domain.as_str()
         && new.host_only == cookie.host_only
-        && new.path == cookie.path.as_str()
+        && new.path == cookie.texts.path.as_str()
 }
 
 pub fn cookie_at(cookies: &[Cookie], place: usize) -> Option<&Cookie>

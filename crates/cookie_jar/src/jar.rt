@@ -8,7 +8,7 @@ ghost use Rattle.cookie_jar.specs.Views.{plain_cookie};
 use crate::cookie::{Cookie, counted};
 use agent_base::NoMemory;
 use partition_limits::{CellKind, Tally};
-use std::alloc::{AllocError, Global};
+use std::alloc::Global;
 use std::marker::Model;
 
 /// One cell of cookies, within its limits. No two of its cookies are the same.
@@ -139,7 +139,7 @@ impl Jar {
         };
     }
 
-    /// The same cell, over memory of its own.
+    /// The same cell. Its cookies share the texts.
     pub fn copy(&self, alloc: Global) -> Result<Jar, NoMemory>
         ensures kind { IfOk result (λ j. j.kind ≡ self.now.kind) }
         ensures cookies { IfOk result (λ j. j.cookies ≡ self.now.cookies) }
@@ -152,12 +152,14 @@ impl Jar {
     }
 }
 
-fn copies_of(alloc: Global, cookies: &[Cookie]) -> Result<Vec<Cookie>, AllocError>
+fn copies_of(alloc: Global, cookies: &[Cookie]) -> Result<Vec<Cookie>, NoMemory>
     ensures { IfOk result (λ v. map plain_cookie v.items ≡ map plain_cookie cookies.now) }
 {
-    let mut copies = Vec::new(alloc);
+    let mut copies = Vec::with_capacity(alloc, cookies.len())?;
     for cookie in cookies {
-        copies.push(cookie.borrowed().to_cookie(alloc)?)?;
+        let Ok(()) = copies.push(cookie.copy()?) else {
+            return Err(NoMemory);
+        };
     }
     Ok(copies)
 }

@@ -21,7 +21,7 @@ mod store;
 
 pub use access::{Access, Destination};
 pub use cause::CookieDrop;
-pub use cookie::Cookie;
+pub use cookie::{Cookie, SharedTexts};
 pub use header_text::header;
 pub use jar::Jar;
 pub use key::{CellKey, destination};

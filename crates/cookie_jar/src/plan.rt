@@ -79,14 +79,14 @@ impl Plan {
         &self.fresh
     }
 
-    /// The same plan, over memory of its own.
+    /// The same plan. Its cookie shares the texts.
     pub fn copy(&self, alloc: Global) -> Result<Plan, NoMemory>
         ensures same { IfOk result (λ p. p ≡ self.now) }
     {
         Ok(Plan {
             kind: self.kind,
             steps: Vec::from_slice(alloc, &self.steps)?,
-            fresh: self.fresh.borrowed().to_cookie(alloc)?,
+            fresh: self.fresh.copy()?,
         })
     }
 }

@@ -24,9 +24,37 @@ pub fn live_steps(
         (after_removals (map plain_cookie cookies.now)
         (spec.removals (map plain_cookie cookies.now) [] gone.now)) ∷ []) }
 {
+    if gone.is_empty() {
+        return put_alone(alloc, cookies, place);
+    }
     let (mut steps, flags) = removals(alloc, cookies, gone)?;
     steps.push(put_step(&flags, place_now(gone, place)))?;
     Ok(steps)
+}
+
+// The step that puts the new cookie, where none goes.
+fn put_alone(alloc: Global, cookies: &[Cookie], place: usize) -> Result<Vec<JarStep>, AllocError>
+    ensures { IfOk result (λ v. v.items
+        ≡ spec.put_step place (map plain_cookie cookies.now) ∷ []) }
+{
+    let flags = persistent_flags(alloc, cookies)?;
+    Vec::from_slice(alloc, &[put_step(&flags, place)])
+}
+
+/// The removal of the cookie at a place alone, if one is there.
+pub fn removal_alone(
+    alloc: Global,
+    cookies: &[Cookie],
+    place: usize,
+) -> Result<Vec<JarStep>, AllocError>
+    ensures { IfOk result (λ v. v.items
+        ≡ spec.removal_at place (map plain_cookie cookies.now)) }
+{
+    if place >= cookies.len() {
+        return Ok(Vec::new(alloc));
+    }
+    let flags = persistent_flags(alloc, cookies)?;
+    Vec::from_slice(alloc, &[remove_step(&flags, place)])
 }
 
 fn place_now(gone: &[usize], place: usize) -> usize
@@ -103,9 +131,9 @@ fn persistent_flags(alloc: Global, cookies: &[Cookie]) -> Result<Vec<bool>, Allo
     cookies.iter().map(|c| c.expiry.is_some()).collect(alloc)
 }
 
-/// The removals of these places, each counted at its own step, and which of those that stay are
-/// persistent.
-pub fn removals(
+// The removals of these places, each counted at its own step, and which of those that stay are
+// persistent.
+fn removals(
     alloc: Global,
     cookies: &[Cookie],
     gone: &[usize],

@@ -1,5 +1,5 @@
 //! The steps of storing a cookie, made before any of them is done.
-ghost use Rattle.std.specs.Prelude.{◌≡◌, ◌+◌, ◌≤◌, IfOk, length, map};
+ghost use Rattle.std.specs.Prelude.{◌≡◌, ◌+◌, ◌-◌, ◌≤◌, ℤ, [], IfOk, IsTrue, length, map};
 ghost use Rattle.std.specs.List.{All};
 ghost use Rattle.partition_limits.specs.Limits.{fits};
 ghost use Rattle.cookie_jar.specs.Cookie.{IsCell, counted};
@@ -7,8 +7,8 @@ ghost use Rattle.cookie_jar.specs.Borrowed.{plain_borrowed};
 ghost use Rattle.cookie_jar.specs.Steps as spec;
 ghost use Rattle.cookie_jar.specs.Views.{plain_cookie};
 
-use crate::cookie::{BorrowedCookie, Cookie, counted, is_expired, is_same};
-use crate::removals::{live_steps, removals};
+use crate::cookie::{BorrowedCookie, Cookie, cookie_at, counted, is_expired, is_same};
+use crate::removals::{live_steps, removal_alone};
 use crate::step::JarStep;
 use agent_base::NoMemory;
 use partition_limits::{CellKind, Tally, Weighed, victims};
@@ -45,21 +45,10 @@ pub fn steps(
         ≡ spec.steps kind now (plain_borrowed fresh.now) (map plain_cookie cookies.now)) }
 {
     if is_expired(fresh.expiry, now) {
-        Ok(removal_at(alloc, cookies, place)?)
+        Ok(removal_alone(alloc, cookies, place)?)
     } else {
         let gone = going(alloc, kind, tally, cookies, fresh, place, now)?;
         Ok(live_steps(alloc, cookies, &gone, place)?)
-    }
-}
-
-fn removal_at(alloc: Global, cookies: &[Cookie], place: usize) -> Result<Vec<JarStep>, AllocError>
-    ensures { IfOk result (λ v. v.items
-        ≡ spec.removal_at place (map plain_cookie cookies.now)) }
-{
-    if place < cookies.len() {
-        Ok(removals(alloc, cookies, &[place])?.0)
-    } else {
-        Ok(Vec::new(alloc))
     }
 }
 
@@ -80,11 +69,47 @@ fn going(
     ensures { IfOk result (λ v. v.items
         ≡ spec.going kind now (plain_borrowed fresh.now) (map plain_cookie cookies.now)) }
 {
-    if holds_one_more(kind, tally, fresh) {
+    if holds_put(kind, tally, cookies, fresh, place) {
         return Ok(Vec::new(alloc));
     }
     let rows = weigh_put(alloc, kind, now, cookies, fresh, place)?;
     victims(alloc, kind, &rows, place)
+}
+
+// Whether the tally says that a cell holds its cookies with the new one put.
+fn holds_put(
+    kind: CellKind,
+    tally: Tally,
+    cookies: &[Cookie],
+    fresh: &BorrowedCookie<'_>,
+    place: usize,
+) -> bool
+    requires cell { IsCell kind tally (map plain_cookie cookies.now) }
+    requires place { place
+        ≡ spec.place_of (plain_borrowed fresh.now) (map plain_cookie cookies.now) }
+    requires small { counted kind (plain_borrowed fresh.now) ≤ 10240 }
+    ensures held { IsTrue result → (now : ℤ)
+        → spec.going kind now (plain_borrowed fresh.now) (map plain_cookie cookies.now) ≡ [] }
+{
+    match cookie_at(cookies, place) {
+        Some(old) => holds_in_place(kind, tally, old, fresh),
+        None => holds_one_more(kind, tally, fresh),
+    }
+}
+
+// Whether a cell of this tally holds a cookie in the place of an old one.
+fn holds_in_place(kind: CellKind, tally: Tally, old: &Cookie, fresh: &BorrowedCookie<'_>) -> bool
+    requires old { counted kind (plain_cookie old.now) ≤ tally.bytes }
+    requires bytes { tally.bytes ≤ 10240 }
+    requires small { counted kind (plain_borrowed fresh.now) ≤ 10240 }
+    ensures { result ≡ fits kind tally.cookies (tally.bytes
+        - counted kind (plain_cookie old.now) + counted kind (plain_borrowed fresh.now)) }
+{
+    let after = Tally {
+        cookies: tally.cookies,
+        bytes: tally.bytes - counted(kind, &old.borrowed()) + counted(kind, fresh),
+    };
+    after.fits(kind)
 }
 
 // Whether a cell of this tally holds one more cookie.

@@ -72,6 +72,8 @@ pub fn fill(block: &mut Vec<u8>, snapshot: bool, last: u64, body: &[u8]) -> Resu
 
 impl Journal {
     /// Makes room, so that one commit or checkpoint with a body of so many bytes takes no memory.
+    ///
+    /// Want of memory leaves the room that was there.
     pub fn reserve<D: Disk>(&mut self, disk: &mut D, body: usize) -> Result<(), NoMemory>
         ensures room { OnOk result (HasRoom self.new (D.view disk.new) body) }
         ensures same { self.new ≡ record self.old { room = self.new.room } }
@@ -80,6 +82,8 @@ impl Journal {
             → Stands self.new c frames }
         ensures at_rest { IsAtRest self.old (D.view disk.old)
             → IsAtRest self.new (D.view disk.new) }
+        ensures kept { OnErr result ((before : ℕ) → HasRoom self.old (D.view disk.old) before
+            → HasRoom self.new (D.view disk.new) before) }
         ensures stays { Stays (D.view disk.old) (D.view disk.new) }
         ensures faults { (D.view disk.new).faults ≡ (D.view disk.old).faults }
         ensures power { ((D.view disk.new).off ≡ (D.view disk.old).off)

@@ -176,6 +176,8 @@ fn open_store<D: Disk, R: Replay>(
     ensures refused { (why : OpenFault) → IsErrOf result why → (c : List ℕ)
         → (D.view disk.old).contents ≡ Some c
         → IsRefusal R.takes R.refuses R.empty limit digest.now c why }
+    ensures unchanged { (why : OpenFault) → IsErrOf result why → IsOfFile why
+        → (D.view disk.new).contents ≡ (D.view disk.old).contents }
     ensures device { Opens result (D.view disk.old) (D.view disk.new) }
     ensures calls { (c : List ℕ) → (D.view disk.old).contents ≡ Some c
         → Makes (opening_calls c) result (D.view disk.old) (D.view disk.new) }
@@ -235,6 +237,10 @@ impl Journal {
             → IsOfFile why
             → IsRefusal R.takes R.refuses R.empty limit digest.now c why
             → MatchResult result (λ _. ⊥) (λ w. (w ≡ why) ⊎ IsExcused w) }
+
+        // A file that is refused stays as it is.
+        ensures unchanged { (why : OpenFault) → IsErrOf result why → IsOfFile why
+            → (D.view disk.new).contents ≡ (D.view disk.old).contents }
 
         ensures device { Opens result (D.view disk.old) (D.view disk.new) }
         ensures calls { (c : List ℕ) → (D.view disk.old).contents ≡ Some c

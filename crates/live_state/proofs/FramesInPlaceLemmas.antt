@@ -1,14 +1,16 @@
 -- The open tabs after a change of one, at its place.
-use Rattle.std.proofs.Common.{◌≡◌, ◌<◌, ℕ, false, true, cond, not, List, [], length, get_or, map, set, Option, Some, refl, ap, sym, subst, ◌∙◌}
-use Rattle.std.specs.Prelude.{◌&&◌, ◌==◌, option_map}
+use Rattle.std.proofs.Common.{◌≡◌, ◌<◌, ℕ, Bool, false, true, cond, not, List, [], length, get_or, map, set, Option, Some, refl, ap, sym, subst, ◌∙◌}
+use Rattle.std.specs.Prelude.{◌&&◌, ◌==◌, None, if◌then◌else◌, option_map}
 use Rattle.std.specs.BTreeMap.{BTreeMap}
 use Rattle.std.specs.Global.{Vec}
 use Rattle.std.proofs.lemmas.Bool.{eq-eqb}
 use Rattle.agent_base.specs.declared.refusals.Label.{Label}
 use Rattle.origin_site.specs.declared.site.Site.{Site}
+use Rattle.frame_tree.specs.Calls.{consumed, flagged, with_mark}
 use Rattle.frame_tree.specs.Tree.{IsTree, PlainFrame, top_site}
+use Rattle.frame_tree.proofs.ShapeLemmas.{tree-mark}
 use Rattle.live_state.specs.ExistingQueues.{FramesStayReadyBut, PlainOpenTab}
-use Rattle.live_state.specs.FramesInPlace.{IsPutIn, IsRemade, frames_at}
+use Rattle.live_state.specs.FramesInPlace.{IsPutIn, IsRemade, frames_at, given, requested}
 use Rattle.live_state.specs.Queues.{frames_by, goes, is_among}
 use Rattle.live_state.specs.SiteTabs.{AreIndexed}
 use Rattle.live_state.specs.TabPlaces.{IsAt, IsGap}
@@ -118,3 +120,17 @@ pub frames-gap : {n : ℕ} {tabs : List PlainTab} {ts searched : List PlainOpenT
 frames-gap {n} {tabs} {ts} {searched} {place} equal gap seen =
     sym (ap (frames_at n) seen)
     ∙ ap frames_by (found-gap n (plain_of ts) place (subst (λ (l : List PlainOpenTab). IsGap n (plain_of l) place) equal gap))
+
+-- ---- the end of a request for storage access
+
+-- the frames are a tree still
+pub tree-requested : (gives consumes : Bool) (frame : ℕ) (fs : List PlainFrame) → IsTree fs → IsTree (requested gives consumes frame fs)
+tree-requested gives consumes frame fs tree = spent consumes (given gives frame fs) (got gives)
+  where
+    got : (b : Bool) → IsTree (given b frame fs)
+    got true = tree-mark (λ n. n == frame) flagged (λ f top own there. there) fs tree
+    got false = tree
+
+    spent : (b : Bool) (gs : List PlainFrame) → IsTree gs → IsTree (if b then consumed gs else gs)
+    spent true gs is = tree-mark (λ n. true) (with_mark None) (λ f top own there. there) gs is
+    spent false gs is = is

@@ -1,7 +1,8 @@
 -- The open tabs after a change of the frames of one.
--- Source: HTML, "Navigables" and "Navigation".
+-- Source: HTML, "Navigables" and "Navigation"; Storage Access API, "requestStorageAccess()".
 -- Our own choice: a tab that is not open has no frame, so a call that names one is refused.
-use Rattle.std.specs.Prelude.{◌≡◌, ℕ, List, Option, Some}
+use Rattle.std.specs.Prelude.{◌≡◌, ℕ, Bool, List, Option, Some, if◌then◌else◌}
+use Rattle.frame_tree.specs.Calls.{consumed, flagged, with_document}
 use Rattle.frame_tree.specs.Tree.{PlainFrame}
 use Rattle.live_state.specs.Queues.{frames_by}
 use Rattle.live_state.specs.Tabs.{PlainTab, made_tab, tab_at, tabs_put}
@@ -13,6 +14,17 @@ frames_at number tabs = frames_by (tab_at number tabs)
 -- the tabs are those before, with the frames that this one has now
 abbrev pub IsPutIn : ℕ → Option ℕ → (old new : List PlainTab) → Type 0
 IsPutIn number fresh old new = new ≡ tabs_put number (frames_at number new) fresh old
+
+-- the frames with storage access in the document of this one, where it is given
+abbrev pub given : (gives : Bool) → ℕ → List PlainFrame → List PlainFrame
+given gives frame frames = if gives then with_document frame flagged frames else frames
+
+-- the frames after a request for storage access of this one came to its end: its document has the
+-- access, where it is given, and no document of the tab is active, where that is consumed
+abbrev pub requested : (gives consumes : Bool) → ℕ → List PlainFrame → List PlainFrame
+requested gives consumes frame frames =
+    let with_access = given gives frame frames in
+    if consumes then consumed with_access else with_access
 
 -- a tab is the one before, with the frames that it has now
 abbrev pub IsRemade : Option ℕ → (old new : PlainTab) → Type 0

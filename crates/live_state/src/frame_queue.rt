@@ -2,7 +2,7 @@
 ghost use Rattle.std.specs.Prelude.{◌≡◌, ◌==◌, ℕ, List, OnErr, OnOk, false, filter, is_some, map, true};
 ghost use Rattle.std.specs.List.{position};
 ghost use Rattle.storage_events.specs.Event.{plain_event};
-ghost use Rattle.frame_tree.specs.Tree.{PlainFrame, has_frame};
+ghost use Rattle.frame_tree.specs.Tree.{IsTree, PlainFrame, has_frame};
 ghost use Rattle.live_state.specs.ExistingQueues.{IsChangedAt, SeenAlike, StayOfFrames, StaysReady, existing_at, plain_by, ready_by};
 ghost use Rattle.live_state.specs.Queues.{queue_told};
 ghost use Rattle.live_state.specs.Tabs.{empty_queue, is_fresh, stays};
@@ -90,7 +90,8 @@ pub fn take_events(queues: &mut Vec<FrameQueue>, frame: u8) -> (Vec<Event>, u32)
 
 /// Whether a frame is there.
 pub fn has_frame(tab: &Tab, frame: u8) -> bool
-    ensures { result ≡ has_frame frame tab.now }
+    ensures there { result ≡ has_frame frame tab.now }
+    ensures tree { IsTree tab.now }
 {
     tab.document(frame).is_some()
 }

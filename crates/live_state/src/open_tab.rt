@@ -1,22 +1,22 @@
 //! An open tab, with the queues of its documents.
-ghost use Rattle.std.specs.Prelude.{◌≡◌, ◌≢◌, ◌==◌, ◌++◌, Err, IfOk, OnErr, OnOk, None, Some, false, map, not, true};
+ghost use Rattle.std.specs.Prelude.{◌≡◌, ◌≢◌, ◌==◌, ◌++◌, Err, IfOk, OnErr, OnOk, None, Some, false, if◌then◌else◌, map, not, true};
 ghost use Rattle.agent_base.specs.Answers.{Answers};
 ghost use Rattle.storage_events.specs.Event.{plain_event};
 ghost use Rattle.storage_key.specs.Plain.{plain_key};
 ghost use Rattle.origin_site.specs.Plain.{plain_address, plain_site};
-ghost use Rattle.frame_tree.specs.Calls.{IsDoneAt, activated, added, navigated, without};
+ghost use Rattle.frame_tree.specs.Calls.{IsDoneAt, activated, added, consumed, navigated, without};
 ghost use Rattle.frame_tree.specs.Tree.{IsTree, has_frame, top_site};
 ghost use Rattle.frame_tree.specs.Plain.{plain_sandbox};
 ghost use Rattle.frame_tree.specs.declared.tab.TreeFault.{TreeFault};
 ghost use Rattle.live_state.specs.Documents.{documents_in, plain_keyed};
 ghost use Rattle.live_state.specs.ExistingQueues.{FramesStayReadyBut, changed_at};
-ghost use Rattle.live_state.specs.FramesInPlace.{IsRemade};
+ghost use Rattle.live_state.specs.FramesInPlace.{IsRemade, given, requested};
 ghost use Rattle.live_state.specs.Hearers.{hearers_in};
 ghost use Rattle.live_state.specs.Queues.{is_among, queue_told};
 ghost use Rattle.live_state.specs.Tabs.{HasQueues, empty_queue, made_tab, queue_of, stays};
 
 use crate::frame_queue::{
-    FrameQueue, keep_queues, make_queue, push_event, reserve_queue, take_events,
+    FrameQueue, has_frame, keep_queues, make_queue, push_event, reserve_queue, take_events,
 };
 use crate::listed::{list_document, list_hearer};
 use agent_base::{Label, NoMemory};
@@ -181,6 +181,24 @@ impl OpenTab {
         Ok(())
     }
 
+    /// Ends a request for storage access: its document has the access where it is given, and no
+    /// document of the tab is active where that is consumed. Every queue stays.
+    pub fn finish_request(&mut self, frame: u8, gives: bool, consumes: bool) -> Result<(), NoFrame>
+        ensures requested { IsDoneAt frame self.old.plain.frames self.new.plain.frames
+            (requested gives consumes frame self.old.plain.frames) result }
+        ensures put { OnOk result (IsRemade None self.old.plain self.new.plain) }
+        ensures unchanged { OnErr result (self.new ≡ self.old) }
+        ensures number { self.new.plain.number ≡ self.old.plain.number }
+        ensures site { top_site self.new.plain.frames ≡ top_site self.old.plain.frames }
+        ensures tree { IsTree self.new.plain.frames }
+        ensures kept { FramesStayReadyBut (λ n. not (stays None self.new.plain.frames n))
+            self.old self.new }
+    {
+        finish_request(&mut self.tab, frame, gives, consumes)?;
+        keep_queues(&mut self.queues, &self.tab, None);
+        Ok(())
+    }
+
     /// Makes room for one event in the queue of a frame that is there.
     pub fn reserve(&mut self, alloc: Global, frame: u8) -> Result<(), NoMemory>
         requires there { has_frame frame self.old.plain.frames ≡ true }
@@ -265,5 +283,39 @@ impl OpenTab {
             tab: self.number,
             frame,
         }
+    }
+}
+
+// The frames of a tab after a request for storage access came to its end.
+fn finish_request(tab: &mut Tab, frame: u8, gives: bool, consumes: bool) -> Result<(), NoFrame>
+    ensures requested { IsDoneAt frame tab.old tab.new (requested gives consumes frame tab.old)
+        result }
+    ensures site { top_site tab.new ≡ top_site tab.old }
+    ensures tree { IsTree tab.new }
+{
+    give(tab, frame, gives)?;
+    consume(tab, consumes);
+    Ok(())
+}
+
+// Gives a document storage access, where it is given.
+fn give(tab: &mut Tab, frame: u8, gives: bool) -> Result<(), NoFrame>
+    ensures given { IsDoneAt frame tab.old tab.new (given gives frame tab.old) result }
+    ensures site { top_site tab.new ≡ top_site tab.old }
+    ensures tree { IsTree tab.old }
+{
+    if !has_frame(tab, frame) {
+        return Err(NoFrame);
+    }
+    if gives { tab.set_flag(frame) } else { Ok(()) }
+}
+
+// Takes the activation of every document, where it is consumed.
+fn consume(tab: &mut Tab, consumes: bool)
+    ensures consumed { tab.new ≡ (if consumes then consumed tab.old else tab.old) }
+    ensures site { top_site tab.new ≡ top_site tab.old }
+{
+    if consumes {
+        tab.consume();
     }
 }

@@ -6,7 +6,7 @@ ghost use Rattle.frame_tree.specs.Calls.{IsDoneAt, activated, added, navigated, 
 ghost use Rattle.frame_tree.specs.Plain.{plain_sandbox};
 ghost use Rattle.frame_tree.specs.Tree.{top_site};
 ghost use Rattle.frame_tree.specs.declared.tab.TreeFault.{TreeFault};
-ghost use Rattle.live_state.specs.FramesInPlace.{IsPutIn, frames_at};
+ghost use Rattle.live_state.specs.FramesInPlace.{IsPutIn, frames_at, requested};
 ghost use Rattle.live_state.specs.Queues.{StayReadyBut, goes};
 
 use crate::Live;
@@ -118,6 +118,27 @@ impl Live {
     {
         match place_of(self.tabs.as_slice(), at.tab) {
             Ok(place) => self.tabs[place].activate(at.frame, now),
+            Err(_) => Err(NoFrame),
+        }
+    }
+
+    /// Ends a request for storage access: the document that made it has the access where it is
+    /// given, as by `Tab::set_flag`, and no document of its tab is active where that is consumed,
+    /// as by `Tab::consume`. Every queue stays.
+    pub fn finish_request(&mut self, at: Label, gives: bool, consumes: bool) -> Result<(), NoFrame>
+        ensures requested { let before = frames_at at.tab self.old.tabs in
+            IsDoneAt at.frame before (frames_at at.tab self.new.tabs)
+            (requested gives consumes at.frame before) result }
+        ensures put { OnOk result (IsPutIn at.tab None self.old.tabs self.new.tabs) }
+        ensures site { top_site (frames_at at.tab self.new.tabs)
+            ≡ top_site (frames_at at.tab self.old.tabs) }
+        ensures unchanged { OnErr result (self.new ≡ self.old) }
+        ensures room { (self.new.room ≡ self.old.room) × (self.new.sites ≡ self.old.sites) }
+        ensures kept { let made = frames_at at.tab self.new.tabs in
+            StayReadyBut (goes at.tab made None) self.old self.new }
+    {
+        match place_of(self.tabs.as_slice(), at.tab) {
+            Ok(place) => self.tabs[place].finish_request(at.frame, gives, consumes),
             Err(_) => Err(NoFrame),
         }
     }

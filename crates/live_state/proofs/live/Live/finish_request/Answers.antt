@@ -1,0 +1,39 @@
+-- The frames of the tab at the place, or of none.
+use Rattle.std.proofs.Common.{◌≡◌, None, ap, refl, rules, ◌∙◌}
+use Rattle.std.proofs.lemmas.Result.{on_ok_weaker}
+use Rattle.frame_tree.specs.Tree.{has_frame, top_site}
+use Rattle.frame_tree.specs.Calls.{IsDoneAt}
+use Rattle.live_state.specs.FramesInPlace.{requested}
+use Rattle.live_state.specs.Queues.{is_ready}
+use Rattle.live_state.proofs.FramesInPlaceLemmas.{IsWritten, framed, frames-gap, indexed-written, put-in, ready-remade, written}
+use Rattle.live_state.proofs.live.Live.finish_request.Goals as goal
+use Rattle.live_state.proofs.live.Live.finish_request.Goals.{After-self-1}
+
+changed : (c : After-self-1) → IsWritten c.args.at.tab c.args.self.now.tabs c.self.inside.tabs.items c.in-Ok.place c.index_mut.result.now c.finish_request.new.self
+changed c = written c.as_slice.ensures.value c.in-Ok.ensures.place (search rules) c.index_mut.ensures.value c.finish_request.ensures.number (ap (λ live. live.tabs) c.self.view_is)
+
+pub invariant_of-self : goal.invariant_of-self
+invariant_of-self c =
+    indexed-written (changed c) c.self.inside.sites.numbers c.self.invariant c.finish_request.ensures.tree c.finish_request.ensures.site
+
+pub returns-in-Ok-clause-requested : goal.returns-in-Ok-clause-requested
+returns-in-Ok-clause-requested c =
+    framed (changed c) (λ before after. IsDoneAt c.args.at.frame before after (requested c.args.gives c.args.consumes c.args.at.frame before) c.finish_request.result)
+    c.finish_request.ensures.requested
+
+pub returns-in-Ok-clause-put : goal.returns-in-Ok-clause-put
+returns-in-Ok-clause-put c =
+    on_ok_weaker c.finish_request.result (put-in (changed c) None) c.finish_request.ensures.put
+
+pub returns-in-Ok-clause-site : goal.returns-in-Ok-clause-site
+returns-in-Ok-clause-site c =
+    framed (changed c) (λ before after. top_site after ≡ top_site before) c.finish_request.ensures.site
+
+pub returns-in-Ok-clause-kept : goal.returns-in-Ok-clause-kept
+returns-in-Ok-clause-kept c = λ other stay ready.
+    ready-remade (changed c) None c.finish_request.ensures.kept other stay (ap (λ live. is_ready live other) c.self.view_is ∙ ready)
+
+pub returns-in-Err-clause-requested : goal.returns-in-Err-clause-requested
+returns-in-Err-clause-requested c =
+    let none = frames-gap c.as_slice.ensures.value c.in-Err.ensures.place (ap (λ live. live.tabs) c.self.view_is) in
+    (ap (has_frame c.args.at.frame) none, refl)

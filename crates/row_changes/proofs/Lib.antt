@@ -1,0 +1,9 @@
+pub mod FieldLaws
+pub mod NameLaws
+pub mod RowLaws
+pub mod CookieLaws
+pub mod ChangeLaws
+pub mod BodyLaws
+pub mod TextLemmas
+pub mod WritingLemmas
+pub mod StandardFacts

@@ -1,0 +1,9 @@
+//! The laws that tie row changes to their bytes.
+ghost use Rattle.row_changes.specs.Laws.{ReadsBack, IsOneSpelling};
+
+/// A row change reads back from its bytes, whatever stands behind them, and what is read as a row
+/// change is its bytes.
+pub fn written()
+    ensures reads_back { ReadsBack }
+    ensures one_spelling { IsOneSpelling }
+{}

@@ -1,0 +1,231 @@
+//! Fields that are names: origins, sites, domains, keys and cells.
+ghost use Rattle.std.specs.Prelude.{◌≡◌, IfOk, string_bytes};
+ghost use Rattle.origin_site.specs.Plain.{plain_address, plain_origin, plain_site};
+ghost use Rattle.origin_site.specs.Site.{site_text};
+ghost use Rattle.storage_key.specs.Plain.{plain_key};
+ghost use Rattle.cookie_jar.specs.Key.{plain_key as plain_cell};
+ghost use Rattle.row_changes.specs.Fields.{passing};
+ghost use Rattle.row_changes.specs.Names as spec;
+ghost use Rattle.row_changes.specs.Reading as reading;
+ghost use Rattle.row_changes.specs.Spelled.{keeps_bit};
+ghost use Rattle.row_changes.specs.Stops.{Gives};
+
+use crate::fields::{bit_at, byte_at, text_at};
+use crate::stop::Stop;
+use agent_base::NoMemory;
+use cookie_jar::CellKey;
+use origin_site::{Address, AddressFault, Origin, Site, domain_of, same_site, site_of};
+use std::alloc::{AllocError, Global};
+use storage_key::StorageKey;
+use suffix_list::SuffixList;
+
+const ORIGIN_LIMIT: usize = 8_192;
+
+// The origin of an address, where a text is the origin's.
+fn own_origin(alloc: Global, text: &str, address: &Address) -> Result<Origin, Stop>
+    ensures { Gives plain_origin (spec.own_origin text.now (plain_address address.now)) result }
+{
+    let origin = address.origin(alloc)?;
+    let own = origin.text(alloc)?;
+    if own.as_str() == text && text.len() <= ORIGIN_LIMIT {
+        Ok(origin)
+    } else {
+        Err(Stop::NoField)
+    }
+}
+
+// The origin that a text is.
+fn origin_of(alloc: Global, text: &str) -> Result<Origin, Stop>
+    ensures { Gives plain_origin (spec.origin_of_text text.now) result }
+{
+    match Address::read(alloc, text) {
+        Ok(address) => own_origin(alloc, text, &address),
+        Err(AddressFault::NoMemory) => Err(Stop::NoMemory),
+        Err(_) => Err(Stop::NoField),
+    }
+}
+
+// The site of an address under the list, where a text is the site's.
+fn own_site(alloc: Global, text: &str, address: &Address, list: &SuffixList) -> Result<Site, Stop>
+    ensures { Gives plain_site
+        (spec.own_site list.now.rules text.now (plain_address address.now)) result }
+{
+    let origin = address.origin(alloc)?;
+    let site = site_of(alloc, &origin, list)?;
+    let own = site.text(alloc)?;
+    if own.as_str() == text {
+        Ok(site)
+    } else {
+        Err(Stop::NoField)
+    }
+}
+
+// The site that a text is under the list.
+fn site_under(alloc: Global, text: &str, list: &SuffixList) -> Result<Site, Stop>
+    ensures { Gives plain_site (spec.site_under_list list.now.rules text.now) result }
+{
+    match Address::read(alloc, text) {
+        Ok(address) => own_site(alloc, text, &address, list),
+        Err(AddressFault::NoMemory) => Err(Stop::NoMemory),
+        Err(_) => Err(Stop::NoField),
+    }
+}
+
+fn has_domain(domain: &str, host: &str, address: &Address, list: &SuffixList) -> bool
+    ensures { result ≡ spec.has_domain list.now.rules domain.now host.now
+        (plain_address address.now) }
+{
+    address.host.as_str() == host && domain_of(host, address.ip, list) == domain
+}
+
+// `scheme://host`
+fn site_text(alloc: Global, https: bool, host: &str) -> Result<String, AllocError>
+    ensures { IfOk result
+        (λ t. string_bytes t ≡ site_text (record { https = https; host = host.now })) }
+{
+    let scheme = if https { "https" } else { "http" };
+    format!(in alloc; "{scheme}://{host}")
+}
+
+// Whether a text is a host of this scheme whose domain is this.
+fn is_host_by(
+    alloc: Global,
+    https: bool,
+    domain: &str,
+    host: &str,
+    list: &SuffixList,
+) -> Result<bool, NoMemory>
+    ensures { IfOk result (λ is. is ≡ spec.is_host_by https list.now.rules domain.now host.now) }
+{
+    let text = site_text(alloc, https, host)?;
+    match Address::read(alloc, text.as_str()) {
+        Ok(address) => Ok(has_domain(domain, host, &address, list)),
+        Err(AddressFault::NoMemory) => Err(NoMemory),
+        Err(_) => Ok(false),
+    }
+}
+
+/// Whether a text is a host whose domain under the list is this.
+pub fn is_host_of(
+    alloc: Global,
+    domain: &str,
+    host: &str,
+    list: &SuffixList,
+) -> Result<bool, NoMemory>
+    ensures { IfOk result (λ is. is ≡ spec.is_host_of list.now.rules domain.now host.now) }
+{
+    if is_host_by(alloc, true, domain, host, list)? {
+        return Ok(true);
+    }
+    is_host_by(alloc, false, domain, host, list)
+}
+
+#[tactic(auto, unfolding(crate::specs::Reading::origin_at))]
+fn origin_at(alloc: Global, bytes: &[u8]) -> Result<(Origin, &[u8]), Stop>
+    ensures { Gives (λ x. (plain_origin x.0, x.1.now)) (reading.origin_at bytes.now) result }
+{
+    let (text, rest) = text_at(bytes)?;
+    let origin = origin_of(alloc, text)?;
+    Ok((origin, rest))
+}
+
+#[tactic(auto, unfolding(crate::specs::Reading::site_at))]
+pub fn site_at<'b>(
+    alloc: Global,
+    bytes: &'b [u8],
+    list: &SuffixList,
+) -> Result<(Site, &'b [u8]), Stop>
+    ensures { Gives (λ x. (plain_site x.0, x.1.now)) (reading.site_at list.now.rules bytes.now)
+        result }
+{
+    let (text, rest) = text_at(bytes)?;
+    let site = site_under(alloc, text, list)?;
+    Ok((site, rest))
+}
+
+#[tactic(auto, unfolding(crate::specs::Reading::domain_at))]
+fn domain_at<'b>(
+    alloc: Global,
+    bytes: &'b [u8],
+    list: &SuffixList,
+) -> Result<(String, &'b [u8]), Stop>
+    ensures { Gives (λ x. (string_bytes x.0, x.1.now)) (reading.domain_at list.now.rules bytes.now)
+        result }
+{
+    let (domain, rest) = text_at(bytes)?;
+    if !is_host_of(alloc, domain, domain, list)? {
+        return Err(Stop::NoField);
+    }
+    Ok((String::from_str(alloc, domain)?, rest))
+}
+
+// The key of these parts, where its bit is that of its sites.
+fn key_of(
+    alloc: Global,
+    origin: Origin,
+    top: Site,
+    bit: bool,
+    list: &SuffixList,
+) -> Result<StorageKey, Stop>
+    ensures { Gives plain_key (passing (keeps_bit list.now.rules)
+        (reading.key_of ((plain_origin origin, plain_site top), bit))) result }
+{
+    if !bit {
+        let own = site_of(alloc, &origin, list)?;
+        if !same_site(&own, &top) {
+            return Err(Stop::NoField);
+        }
+    }
+    Ok(StorageKey { top, origin, bit })
+}
+
+#[tactic(auto, unfolding(crate::specs::Reading::key_at))]
+pub fn key_at<'b>(
+    alloc: Global,
+    bytes: &'b [u8],
+    list: &SuffixList,
+) -> Result<(StorageKey, &'b [u8]), Stop>
+    ensures { Gives (λ x. (plain_key x.0, x.1.now)) (reading.key_at list.now.rules bytes.now)
+        result }
+{
+    let (origin, rest) = origin_at(alloc, bytes)?;
+    let (top, rest) = site_at(alloc, rest, list)?;
+    let (bit, rest) = bit_at(rest)?;
+    let key = key_of(alloc, origin, top, bit, list)?;
+    Ok((key, rest))
+}
+
+// The partition of a domain under a top-level site and a bit.
+fn partition_at<'b>(
+    alloc: Global,
+    bytes: &'b [u8],
+    list: &SuffixList,
+) -> Result<(CellKey, &'b [u8]), Stop>
+    ensures { Gives (λ x. (plain_cell x.0, x.1.now))
+        (reading.cell_behind list.now.rules 1 bytes.now) result }
+{
+    let (top, rest) = site_at(alloc, bytes, list)?;
+    let (bit, rest) = bit_at(rest)?;
+    let (domain, rest) = domain_at(alloc, rest, list)?;
+    Ok((CellKey::Partition { top, bit, domain }, rest))
+}
+
+#[tactic(auto, unfolding(crate::specs::Reading::cell_at))]
+pub fn cell_at<'b>(
+    alloc: Global,
+    bytes: &'b [u8],
+    list: &SuffixList,
+) -> Result<(CellKey, &'b [u8]), Stop>
+    ensures { Gives (λ x. (plain_cell x.0, x.1.now)) (reading.cell_at list.now.rules bytes.now)
+        result }
+{
+    let (kind, rest) = byte_at(bytes)?;
+    match kind {
+        0 => {
+            let (domain, rest) = domain_at(alloc, rest, list)?;
+            Ok((CellKey::Own { domain }, rest))
+        }
+        1 => partition_at(alloc, rest, list),
+        _ => Err(Stop::NoField),
+    }
+}

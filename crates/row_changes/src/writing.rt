@@ -1,0 +1,268 @@
+//! Writing row changes.
+ghost use Rattle.std.specs.Prelude.{◌≡◌, ◌<◌, ◌++◌, ◌∷◌, [], IfOk, OnOk, length, map, pos, unwrap_or};
+ghost use Rattle.access_grants.specs.Plain.{plain_grant};
+ghost use Rattle.cookie_jar.specs.Key.{plain_key as plain_cell};
+ghost use Rattle.cookie_jar.specs.Views.{plain_cookie};
+ghost use Rattle.origin_site.specs.Plain.{plain_site};
+ghost use Rattle.origin_site.specs.Site.{site_text};
+ghost use Rattle.storage_key.specs.Plain.{plain_key};
+ghost use Rattle.row_changes.specs.Body.{changes_bytes, rows_bytes};
+ghost use Rattle.row_changes.specs.Fields as fields;
+ghost use Rattle.row_changes.specs.Plain.{plain_change};
+ghost use Rattle.row_changes.specs.Spelling as spec;
+
+use crate::Change;
+use access_grants::GrantRow;
+use agent_base::NoMemory;
+use cookie_jar::{CellKey, Cookie};
+use origin_site::Site;
+use setcookie_parse::SameSite;
+use std::alloc::Global;
+use storage_key::StorageKey;
+
+// A text behind `out`. One of 4 GiB has no room.
+fn put_text(out: &mut Vec<u8>, text: &str) -> Result<(), NoMemory>
+    ensures { OnOk result (out.new.items ≡ out.old.items ++ fields.text_bytes text.now) }
+{
+    let Ok(count) = u32::try_from(text.len()) else {
+        return Err(NoMemory);
+    };
+    out.extend_from_slice(&count.to_le_bytes())?;
+    out.extend_from_slice(text.as_bytes())?;
+    Ok(())
+}
+
+fn put_signed(out: &mut Vec<u8>, number: &i64) -> Result<(), NoMemory>
+    ensures { OnOk result (out.new.items ≡ out.old.items ++ fields.signed_bytes number.now) }
+{
+    out.extend_from_slice(&number.to_le_bytes())?;
+    Ok(())
+}
+
+fn put_byte(out: &mut Vec<u8>, byte: u8) -> Result<(), NoMemory>
+    ensures { OnOk result (out.new.items ≡ out.old.items ++ byte ∷ []) }
+{
+    if out.push(byte).is_err() {
+        return Err(NoMemory);
+    }
+    Ok(())
+}
+
+fn bit_byte(bit: bool) -> u8
+    ensures { result ≡ fields.bit_byte bit }
+{
+    if bit { 1 } else { 0 }
+}
+
+fn put_site(out: &mut Vec<u8>, site: &Site) -> Result<(), NoMemory>
+    ensures { OnOk result
+        (out.new.items ≡ out.old.items ++ fields.text_bytes (site_text (plain_site site.now))) }
+{
+    let text = site.text(*out.allocator())?;
+    put_text(out, text.as_str())
+}
+
+fn put_key(out: &mut Vec<u8>, key: &StorageKey) -> Result<(), NoMemory>
+    ensures { OnOk result (out.new.items ≡ out.old.items ++ spec.key_bytes (plain_key key.now)) }
+{
+    let origin = key.origin.text(*out.allocator())?;
+    put_text(out, origin.as_str())?;
+    put_site(out, &key.top)?;
+    put_byte(out, bit_byte(key.bit))
+}
+
+fn put_cell(out: &mut Vec<u8>, cell: &CellKey) -> Result<(), NoMemory>
+    ensures { OnOk result (out.new.items ≡ out.old.items ++ spec.cell_bytes (plain_cell cell.now)) }
+{
+    match cell {
+        CellKey::Own { domain } => {
+            put_byte(out, 0)?;
+            put_text(out, domain.as_str())
+        }
+        CellKey::Partition { top, bit, domain } => {
+            put_byte(out, 1)?;
+            put_site(out, top)?;
+            put_byte(out, bit_byte(*bit))?;
+            put_text(out, domain.as_str())
+        }
+    }
+}
+
+fn flags_byte(cookie: &Cookie) -> u8
+    ensures { result ≡ spec.flags_byte (plain_cookie cookie.now) }
+{
+    bit_byte(cookie.host_only) + (2 * bit_byte(cookie.secure) + 4 * bit_byte(cookie.http_only))
+}
+
+fn same_site_byte(same_site: SameSite) -> u8
+    ensures { result ≡ spec.same_site_byte same_site }
+{
+    match same_site {
+        SameSite::Default => 0,
+        SameSite::NoneSent => 1,
+        SameSite::Lax => 2,
+        SameSite::Strict => 3,
+    }
+}
+
+fn put_texts(out: &mut Vec<u8>, cookie: &Cookie) -> Result<(), NoMemory>
+    ensures { OnOk result
+        (out.new.items ≡ out.old.items ++ spec.cookie_texts (plain_cookie cookie.now)) }
+{
+    put_text(out, cookie.texts.name.as_str())?;
+    put_text(out, cookie.texts.value.as_str())?;
+    put_text(out, cookie.texts.domain.as_str())?;
+    put_text(out, cookie.texts.path.as_str())
+}
+
+// The expiry of a cookie, which every cookie of a row change has.
+fn put_expiry(out: &mut Vec<u8>, expiry: &Option<i64>) -> Result<(), NoMemory>
+    ensures { OnOk result (out.new.items
+        ≡ out.old.items ++ fields.signed_bytes (unwrap_or expiry.now (pos 0))) }
+{
+    match expiry {
+        Some(expiry) => put_signed(out, expiry),
+        None => put_signed(out, &0),
+    }
+}
+
+fn put_marks(out: &mut Vec<u8>, cookie: &Cookie) -> Result<(), NoMemory>
+    ensures { OnOk result
+        (out.new.items ≡ out.old.items ++ spec.cookie_marks (plain_cookie cookie.now)) }
+{
+    put_byte(out, flags_byte(cookie))?;
+    put_byte(out, same_site_byte(cookie.same_site))?;
+    put_signed(out, &cookie.creation)?;
+    put_expiry(out, &cookie.expiry)
+}
+
+fn put_cookie(out: &mut Vec<u8>, cookie: &Cookie) -> Result<(), NoMemory>
+    ensures { OnOk result
+        (out.new.items ≡ out.old.items ++ spec.cookie_bytes (plain_cookie cookie.now)) }
+{
+    put_texts(out, cookie)?;
+    put_marks(out, cookie)
+}
+
+// Two sites, one behind the other.
+fn put_sites(out: &mut Vec<u8>, top: &Site, site: &Site) -> Result<(), NoMemory>
+    ensures { OnOk result (out.new.items ≡ out.old.items
+        ++ (fields.text_bytes (site_text (plain_site top.now))
+        ++ fields.text_bytes (site_text (plain_site site.now)))) }
+{
+    put_site(out, top)?;
+    put_site(out, site)
+}
+
+fn answer_byte(granted: bool) -> u8
+    ensures { result ≡ spec.answer_byte granted }
+{
+    if granted { 1 } else { 2 }
+}
+
+fn put_grant(out: &mut Vec<u8>, row: &GrantRow) -> Result<(), NoMemory>
+    ensures { OnOk result
+        (out.new.items ≡ out.old.items ++ spec.grant_bytes (plain_grant row.now)) }
+{
+    put_sites(out, &row.top, &row.site)?;
+    put_byte(out, answer_byte(row.granted))?;
+    put_signed(out, &row.until)
+}
+
+// A code and a key.
+fn put_keyed(out: &mut Vec<u8>, code: u8, key: &StorageKey) -> Result<(), NoMemory>
+    ensures { OnOk result
+        (out.new.items ≡ out.old.items ++ code ∷ spec.key_bytes (plain_key key.now)) }
+{
+    put_byte(out, code)?;
+    put_key(out, key)
+}
+
+// A code, a cell and a place.
+fn put_placed(out: &mut Vec<u8>, code: u8, cell: &CellKey, place: u8) -> Result<(), NoMemory>
+    ensures { OnOk result (out.new.items
+        ≡ out.old.items ++ code ∷ (spec.cell_bytes (plain_cell cell.now) ++ place ∷ [])) }
+{
+    put_byte(out, code)?;
+    put_cell(out, cell)?;
+    put_byte(out, place)
+}
+
+fn put_change(out: &mut Vec<u8>, change: &Change) -> Result<(), NoMemory>
+    ensures { OnOk result
+        (out.new.items ≡ out.old.items ++ spec.change_bytes (plain_change change.now)) }
+{
+    match change {
+        Change::AreaPut { key, name, value } => {
+            put_keyed(out, 1, key)?;
+            put_text(out, name.as_str())?;
+            put_text(out, value.as_str())
+        }
+        Change::AreaRemove { key, name } => {
+            put_keyed(out, 2, key)?;
+            put_text(out, name.as_str())
+        }
+        Change::AreaClear { key } => put_keyed(out, 3, key),
+        Change::SetMode { key } => put_keyed(out, 4, key),
+        Change::CookieInsert {
+            cell,
+            place,
+            cookie,
+        } => {
+            put_placed(out, 5, cell, *place)?;
+            put_cookie(out, cookie)
+        }
+        Change::CookieReplace {
+            cell,
+            place,
+            cookie,
+        } => {
+            put_placed(out, 6, cell, *place)?;
+            put_cookie(out, cookie)
+        }
+        Change::CookieRemove { cell, place } => put_placed(out, 7, cell, *place),
+        Change::Grant { row } => {
+            put_byte(out, 8)?;
+            put_grant(out, row)
+        }
+    }
+}
+
+// Row changes one behind the other.
+fn put_rows(out: &mut Vec<u8>, changes: &[Change]) -> Result<(), NoMemory>
+    ensures { OnOk result
+        (out.new.items ≡ out.old.items ++ rows_bytes (map plain_change changes.now)) }
+{
+    for change in changes {
+        put_change(out, change)?;
+    }
+    Ok(())
+}
+
+/// The bytes of row changes one behind the other, as a snapshot has them.
+///
+/// Its time is linear in the bytes. A text of 4 GiB or more has no room in the format, and is
+/// answered as want of memory.
+pub fn write_rows(alloc: Global, changes: &[Change]) -> Result<Vec<u8>, NoMemory>
+    ensures bytes { IfOk result (λ out. out.items ≡ rows_bytes (map plain_change changes.now)) }
+{
+    let mut out = Vec::new(alloc);
+    put_rows(&mut out, changes)?;
+    Ok(out)
+}
+
+/// The bytes of one durable change: the number of its row changes, and these.
+///
+/// Refused as [`write_rows`], and where there are 4 Gi row changes or more.
+pub fn write_changes(alloc: Global, changes: &[Change]) -> Result<Vec<u8>, NoMemory>
+    requires some { 0 < length changes.now }
+    ensures bytes { IfOk result (λ out. out.items ≡ changes_bytes (map plain_change changes.now)) }
+{
+    let Ok(count) = u32::try_from(changes.len()) else {
+        return Err(NoMemory);
+    };
+    let mut out = Vec::new(alloc);
+    out.extend_from_slice(&count.to_le_bytes())?;
+    put_rows(&mut out, changes)?;
+    Ok(out)
+}

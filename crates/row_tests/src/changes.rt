@@ -1,0 +1,345 @@
+//! Row changes, written by hand field by field: each kind, and each condition on a key, a cell
+//! and a permission, just inside and outside.
+use crate::parts::Part::{Byte, Raw, Signed, Text};
+use crate::parts::{HTTP_A, HTTPS_A, Row, bytes_of, is_change, list_of, put};
+use access_grants::GrantRow;
+use origin_site::{Address, Site, site_of};
+use row_changes::{Change, read_change, write_changes, write_rows};
+use std::test::Fail;
+use storage_key::StorageKey;
+
+const KINDS: [Row; 9] = [
+    Row {
+        name: "a pair",
+        parts: &[Byte(1), HTTPS_A, HTTPS_A, Byte(0), Text("k"), Text("v")],
+        taken: true,
+    },
+    Row {
+        name: "an empty name and an empty value",
+        parts: &[Byte(1), HTTPS_A, HTTPS_A, Byte(0), Text(""), Text("")],
+        taken: true,
+    },
+    Row {
+        name: "a removal of a pair whose name is not ASCII",
+        parts: &[Byte(2), HTTPS_A, HTTPS_A, Byte(0), Text("é")],
+        taken: true,
+    },
+    Row {
+        name: "a clear",
+        parts: &[Byte(3), HTTP_A, HTTP_A, Byte(0)],
+        taken: true,
+    },
+    Row {
+        name: "a mode, of an origin with a port under another site",
+        parts: &[Byte(4), Text("http://x.w.test:8080"), HTTPS_A, Byte(1)],
+        taken: true,
+    },
+    Row {
+        name: "an unpartitioned cookie at the last place, with times before 1970",
+        parts: &[
+            Byte(5),
+            Byte(0),
+            Text("a.test"),
+            Byte(255),
+            Text(""),
+            Text("v"),
+            Text("x.a.test"),
+            Text("/p"),
+            Byte(0),
+            Byte(0),
+            Signed(-1),
+            Signed(i64::MIN),
+        ],
+        taken: true,
+    },
+    Row {
+        name: "a partitioned cookie in the place of another",
+        parts: &[
+            Byte(6),
+            Byte(1),
+            HTTPS_A,
+            Byte(1),
+            Text("w.test"),
+            Byte(0),
+            Text("n"),
+            Text("1"),
+            Text("w.test"),
+            Text("/"),
+            Byte(7),
+            Byte(3),
+            Signed(1),
+            Signed(2),
+        ],
+        taken: true,
+    },
+    Row {
+        name: "a cookie that goes",
+        parts: &[Byte(7), Byte(1), HTTPS_A, Byte(0), Text("w.test"), Byte(3)],
+        taken: true,
+    },
+    Row {
+        name: "a denial",
+        parts: &[Byte(8), HTTPS_A, Text("https://w.test"), Byte(2), Signed(9)],
+        taken: true,
+    },
+];
+
+const KEYS: [Row; 16] = [
+    Row {
+        name: "the code 0",
+        parts: &[Byte(0), HTTPS_A, HTTPS_A, Byte(0)],
+        taken: false,
+    },
+    Row {
+        name: "the code 9",
+        parts: &[Byte(9), HTTPS_A, HTTPS_A, Byte(0)],
+        taken: false,
+    },
+    Row {
+        name: "a bit of 2",
+        parts: &[Byte(3), HTTPS_A, HTTPS_A, Byte(2)],
+        taken: false,
+    },
+    Row {
+        name: "the bit clear under another site",
+        parts: &[Byte(3), HTTPS_A, Text("https://b.test"), Byte(0)],
+        taken: false,
+    },
+    Row {
+        name: "the bit clear under the other scheme",
+        parts: &[Byte(3), HTTP_A, HTTPS_A, Byte(0)],
+        taken: false,
+    },
+    Row {
+        name: "the bit set under the own site",
+        parts: &[Byte(3), HTTPS_A, HTTPS_A, Byte(1)],
+        taken: true,
+    },
+    Row {
+        name: "an origin below the site",
+        parts: &[Byte(3), Text("https://x.a.test"), HTTPS_A, Byte(0)],
+        taken: true,
+    },
+    Row {
+        name: "an origin with a path",
+        parts: &[Byte(3), Text("https://a.test/"), HTTPS_A, Byte(0)],
+        taken: false,
+    },
+    Row {
+        name: "an origin with its default port",
+        parts: &[Byte(3), Text("https://a.test:443"), HTTPS_A, Byte(0)],
+        taken: false,
+    },
+    Row {
+        name: "an origin in upper case",
+        parts: &[Byte(3), Text("https://A.test"), HTTPS_A, Byte(0)],
+        taken: false,
+    },
+    Row {
+        name: "an origin of another scheme",
+        parts: &[Byte(3), Text("ftp://a.test"), HTTPS_A, Byte(1)],
+        taken: false,
+    },
+    Row {
+        name: "a top-level site that is no domain of the list",
+        parts: &[Byte(3), HTTPS_A, Text("https://x.a.test"), Byte(1)],
+        taken: false,
+    },
+    Row {
+        name: "a top-level site with a port",
+        parts: &[Byte(3), HTTPS_A, Text("https://a.test:8443"), Byte(1)],
+        taken: false,
+    },
+    Row {
+        name: "a public suffix as the top-level site",
+        parts: &[Byte(3), HTTPS_A, Text("https://co.uk"), Byte(1)],
+        taken: true,
+    },
+    Row {
+        name: "an IP address as both",
+        parts: &[
+            Byte(3),
+            Text("https://192.0.2.7:1"),
+            Text("https://192.0.2.7"),
+            Byte(0),
+        ],
+        taken: true,
+    },
+    Row {
+        name: "a name that is not UTF-8",
+        parts: &[Byte(2), HTTPS_A, HTTPS_A, Byte(0), Raw(&[1, 0, 0, 0, 0xff])],
+        taken: false,
+    },
+];
+
+const CELLS: [Row; 12] = [
+    Row {
+        name: "a cell of the kind 2",
+        parts: &[Byte(7), Byte(2), Text("a.test"), Byte(0)],
+        taken: false,
+    },
+    Row {
+        name: "a domain",
+        parts: &[Byte(7), Byte(0), Text("a.co.uk"), Byte(0)],
+        taken: true,
+    },
+    Row {
+        name: "a public suffix",
+        parts: &[Byte(7), Byte(0), Text("co.uk"), Byte(0)],
+        taken: true,
+    },
+    Row {
+        name: "a host below its domain",
+        parts: &[Byte(7), Byte(0), Text("x.a.co.uk"), Byte(0)],
+        taken: false,
+    },
+    Row {
+        name: "a domain with a port",
+        parts: &[Byte(7), Byte(0), Text("a.test:80"), Byte(0)],
+        taken: false,
+    },
+    Row {
+        name: "an empty domain",
+        parts: &[Byte(7), Byte(0), Text(""), Byte(0)],
+        taken: false,
+    },
+    Row {
+        name: "an IPv6 address",
+        parts: &[Byte(7), Byte(0), Text("[2001:db8::1]"), Byte(0)],
+        taken: true,
+    },
+    Row {
+        name: "an IPv4 address in a short form",
+        parts: &[Byte(7), Byte(0), Text("192.0.519"), Byte(0)],
+        taken: false,
+    },
+    Row {
+        name: "a bit of 2 in a partition",
+        parts: &[Byte(7), Byte(1), HTTPS_A, Byte(2), Text("w.test"), Byte(0)],
+        taken: false,
+    },
+    Row {
+        name: "a permission of an http site",
+        parts: &[Byte(8), HTTPS_A, Text("http://w.test"), Byte(1), Signed(9)],
+        taken: false,
+    },
+    Row {
+        name: "a permission under an http site",
+        parts: &[Byte(8), HTTP_A, Text("https://w.test"), Byte(1), Signed(9)],
+        taken: false,
+    },
+    Row {
+        name: "a permission that says 0",
+        parts: &[Byte(8), HTTPS_A, Text("https://w.test"), Byte(0), Signed(9)],
+        taken: false,
+    },
+];
+
+#[test]
+fn each_kind_and_condition(rt: HostRuntime) -> Result<(), Fail> {
+    let alloc = rt.alloc();
+    let list = list_of(alloc, b"co.uk")?;
+    for rows in [KINDS.as_slice(), KEYS.as_slice(), CELLS.as_slice()] {
+        for row in rows {
+            let bytes = bytes_of(alloc, row.parts)?;
+            let taken = is_change(alloc, &list, bytes.as_slice())?;
+            assert!(rt; taken == row.taken, "{}", row.name);
+        }
+    }
+    Ok(())
+}
+
+#[test]
+fn no_front_of_a_row_change_is_one(rt: HostRuntime) -> Result<(), Fail> {
+    let alloc = rt.alloc();
+    let list = list_of(alloc, b"")?;
+    for row in &KINDS {
+        let bytes = bytes_of(alloc, row.parts)?;
+        for count in 0..bytes.len() {
+            let found = read_change(alloc, &bytes[..count], &list)?;
+            assert!(rt; found.is_none(), "{} cut to {count}", row.name);
+        }
+    }
+    Ok(())
+}
+
+/// `v` under `k` in the local area of `https://a.test`: a durable change of one row change.
+const WORKED: &[u8] = b"\x01\x00\x00\x00\
+    \x01\x0e\x00\x00\x00https://a.test\x0e\x00\x00\x00https://a.test\x00\
+    \x01\x00\x00\x00k\x01\x00\x00\x00v";
+
+#[test]
+fn the_worked_body(rt: HostRuntime) -> Result<(), Fail> {
+    let alloc = rt.alloc();
+    let list = list_of(alloc, b"")?;
+    let origin = Address::read(alloc, "https://a.test/")?.origin(alloc)?;
+    let top = site_of(alloc, &origin, &list)?;
+    let mut changes = Vec::new(alloc);
+    changes.push(Change::AreaPut {
+        key: StorageKey {
+            top,
+            origin,
+            bit: false,
+        },
+        name: String::from_str(alloc, "k")?,
+        value: String::from_str(alloc, "v")?,
+    })?;
+    assert_eq!(rt; WORKED.len(), 52);
+    let body = write_changes(alloc, changes.as_slice())?;
+    assert_eq!(rt; body.as_slice(), WORKED);
+    let rows = write_rows(alloc, changes.as_slice())?;
+    assert_eq!(rt; rows.as_slice(), &WORKED[4..]);
+    assert!(rt; is_change(alloc, &list, &WORKED[4..])?);
+    Ok(())
+}
+
+#[test]
+fn what_stands_behind_is_left(rt: HostRuntime) -> Result<(), Fail> {
+    let alloc = rt.alloc();
+    let list = list_of(alloc, b"")?;
+    let mut bytes = Vec::new(alloc);
+    for row in &KINDS {
+        for part in row.parts {
+            put(&mut bytes, *part)?;
+        }
+    }
+    let mut changes = Vec::new(alloc);
+    let mut rest = bytes.as_slice();
+    for _ in 0..KINDS.len() {
+        let Some((change, behind)) = read_change(alloc, rest, &list)? else {
+            assert!(rt; false, "{} bytes are no row change", rest.len());
+            return Ok(());
+        };
+        changes.push(change.copy(alloc)?)?;
+        rest = behind;
+    }
+    assert!(rt; rest.is_empty());
+    let again = write_rows(alloc, changes.as_slice())?;
+    assert_eq!(rt; again.as_slice(), bytes.as_slice());
+    Ok(())
+}
+
+#[test]
+fn a_row_of_two_sites(rt: HostRuntime) -> Result<(), Fail> {
+    let alloc = rt.alloc();
+    let mut changes = Vec::new(alloc);
+    changes.push(Change::Grant {
+        row: GrantRow {
+            top: Site::read(alloc, "https://a.test")?,
+            site: Site::read(alloc, "https://w.test")?,
+            granted: true,
+            until: 1_769_817_600,
+        },
+    })?;
+    let bytes = write_rows(alloc, changes.as_slice())?;
+    let parts = [
+        Byte(8),
+        HTTPS_A,
+        Text("https://w.test"),
+        Byte(1),
+        Raw(&[0x00, 0x46, 0x7d, 0x69, 0, 0, 0, 0]),
+    ];
+    let want = bytes_of(alloc, &parts)?;
+    assert_eq!(rt; bytes.as_slice(), want.as_slice());
+    Ok(())
+}

@@ -2,12 +2,15 @@
 use Rattle.std.proofs.Common.{◌≡◌, ℕ, Bool, true, false, cond, List, Option, Some, None, Ok, Err, refl}
 use Rattle.std.specs.Prelude.{Result, nat_lt, codes}
 use Rattle.agent_base.specs.declared.refusals.Label.{Label}
+use Rattle.suffix_list.specs.Suffix.{Rule}
+use Rattle.origin_site.specs.Site.{PlainSite}
 use Rattle.storage_key.specs.Key.{PlainKey}
 use Rattle.frame_tree.specs.Calls.{is_https_chain}
 use Rattle.frame_tree.specs.declared.tab.TreeFault.{TreeFault}
 use Rattle.frame_tree.specs.Document.{PlainDocument}
 use Rattle.frame_tree.specs.Keys.{key_of_document}
 use Rattle.frame_tree.specs.Tree.{PlainFrame, document_of, has_frame}
+use Rattle.access_grants.specs.declared.outcome.Outcome.{Outcome}
 use Rattle.local_area.specs.Area.{Pair, quota, area_get, area_put, area_weight}
 use Rattle.local_area.specs.Put.{PlainPut, same, added, changed, put_answer}
 use Rattle.storage_events.specs.declared.event.AreaKind.{AreaKind}
@@ -22,6 +25,7 @@ use Rattle.agent_model.specs.AreaActions.{pairs_of, change_event, write, store, 
 use Rattle.agent_model.specs.Buckets.{is_persistent, is_grant, persist_by, persist}
 use Rattle.agent_model.specs.Frames.{on_frames, frames_removed, frames_clicked, remove_frame, click}
 use Rattle.agent_model.specs.Queues.{take_queue, take_events}
+use Rattle.agent_model.specs.StorageAccess.{access_facts, answer_of, done_by, embedded_site, outcome_of, request_access, tell_access}
 
 -- what was done, with other shared cells
 abbrev pub with_cells : SharedCells → Done → Done
@@ -105,3 +109,19 @@ drop_apart at tab = frames_apart at.tab tab None (λ frames. answers ok) (frames
 
 pub click_apart : (now : ℕ) (at : Label) (tab : PlainTab) → IsApart (click now at tab)
 click_apart now at tab = frames_apart at.tab tab None (λ frames. answers ok) (frames_clicked now at tab.frames) (λ frames cells held. refl)
+
+-- ---- storage access
+
+pub has_apart : (rules : List Rule) (now : ℕ) (at : Label) (tab : PlainTab) → IsApart (tell_access rules now at tab)
+has_apart rules now at tab = document_apart (document_of at.frame tab.frames) _ (λ document cells held. refl)
+
+done_apart : (outcome : Option Outcome) (at : Label) (tab : PlainTab) (top site : PlainSite) → IsApart (done_by outcome at tab top site)
+done_apart None at tab top site cells held = refl
+done_apart (Some outcome) at tab top site cells held = refl
+
+pub request_apart : (rules : List Rule) (now : ℕ) (top : PlainSite) (at : Label) (answer : Prompt) (tab : PlainTab) → IsApart (request_access rules now top at answer tab)
+request_apart rules now top at answer tab =
+    document_apart (document_of at.frame tab.frames) _
+    (λ document cells held.
+    let site = embedded_site rules document in
+    done_apart (outcome_of top site (access_facts rules now at.frame tab.frames document) (answer_of answer) now held.grants) at tab top site cells held)

@@ -12,16 +12,17 @@ use Rattle.frame_tree.specs.Keys.{key_of_document}
 use Rattle.frame_tree.specs.Tree.{PlainFrame, document_of}
 use Rattle.live_state.specs.Tabs.{PlainTab}
 use Rattle.script_lines.specs.Script.{DocumentAction, HeadField, Frame, Nav, Drop, Click, Fetch, Set, Get, Del, Clear, Len, Key}
-use Rattle.script_lines.specs.Script.{Events, Cookie, SetCookie, Persisted, Estimate, Persist}
+use Rattle.script_lines.specs.Script.{Events, Cookie, SetCookie, Has, Request, Persisted, Estimate, Persist}
 use Rattle.agent_model.specs.CookieCells.{domain_order}
 use Rattle.agent_model.specs.Done.{SharedCells, Effect, no_shared_cells, answers}
 use Rattle.agent_model.specs.Documents.{Keyed, by_document, by_key, with_key}
-use Rattle.agent_model.specs.CookieUse.{CookieUse, consulted_by, fetch_use, frame_use, nav_use, script_use}
+use Rattle.agent_model.specs.CookieUse.{CookieUse, consulted_by}
+use Rattle.agent_model.specs.CookieUses.{fetch_use, frame_use, nav_use, script_use}
 use Rattle.agent_model.specs.Cookies.{read_cookies, request, set_cookie}
 use Rattle.agent_model.specs.Frames.{on_frames, frames_added, frames_navigated, refused_by}
 use Rattle.agent_model.specs.SiteStep.{act_in}
 use Rattle.agent_model.specs.Consults.{by_script, names_in, unless_refused, where_there}
-use Rattle.agent_model.proofs.ApartLemmas.{IsApart, with_cells, clear_apart, click_apart, drop_apart, events_apart, key_apart, persist_apart, remove_apart, set_apart}
+use Rattle.agent_model.proofs.ApartLemmas.{IsApart, with_cells, clear_apart, click_apart, drop_apart, events_apart, has_apart, key_apart, persist_apart, remove_apart, request_apart, set_apart}
 use Rattle.agent_model.proofs.CookieCellsLemmas.{none_left}
 use Rattle.agent_model.proofs.CookieLemmas.{IsLocal, among, read_local, request_local, set_local}
 
@@ -39,23 +40,23 @@ apart_local does apart cells held =
 
 module _ (rules : List Rule) (now : ℕ) (site : PlainSite) where
   frames_local : (number : ℕ) (tab : PlainTab) (replaced : Option ℕ) (how : CookieUse) (head : List HeadField) (after : Result (List PlainFrame) TreeFault)
-      → IsLocal (unless_refused (consulted_by how) after) (on_frames number tab replaced (λ frames. request rules now how head) after)
+      → IsLocal (unless_refused (consulted_by rules how) after) (on_frames number tab replaced (λ frames. request rules now how head) after)
   frames_local number tab replaced how head (Ok frames) cells held = request_local rules now how head cells _
   frames_local number tab replaced how head (Err why) cells held = apart_local (answers (refused_by why)) (λ all kept. refl) cells held
 
   fetch_local : (how : CookieUse) (head : List HeadField) (found : Option PlainDocument)
-      → IsLocal (where_there (consulted_by how) found) (by_document found (λ document. request rules now how head))
+      → IsLocal (where_there (consulted_by rules how) found) (by_document found (λ document. request rules now how head))
   fetch_local how head None = apart_local _ (λ cells held. refl)
   fetch_local how head (Some document) = request_local rules now how head
 
   module _ (at : Label) (tab : PlainTab) where
-    script_local : (does : Keyed → Effect) → ((own : Keyed) → IsLocal (consulted_by (script_use site own)) (does own)) → (found : Option PlainDocument)
-        → IsLocal (by_script site (option_and_then (λ document. option_map (λ key. record { at = at; document = document; key = key }) (key_of_document at.frame tab.frames document)) found))
+    script_local : (does : Keyed → Effect) → ((own : Keyed) → IsLocal (consulted_by rules (script_use site own)) (does own)) → (found : Option PlainDocument)
+        → IsLocal (by_script rules site (option_and_then (λ document. option_map (λ key. record { at = at; document = document; key = key }) (key_of_document at.frame tab.frames document)) found))
         (by_document found (λ document. by_key at document (key_of_document at.frame tab.frames document) does))
     script_local does each None = apart_local _ (λ cells held. refl)
     script_local does each (Some document) = by (key_of_document at.frame tab.frames document)
       where
-        by : (key : Option PlainKey) → IsLocal (by_script site (option_map (λ key. record { at = at; document = document; key = key }) key)) (by_key at document key does)
+        by : (key : Option PlainKey) → IsLocal (by_script rules site (option_map (λ key. record { at = at; document = document; key = key }) key)) (by_key at document key does)
         by None = apart_local _ (λ cells held. refl)
         by (Some key) = each (record { at = at; document = document; key = key })
 
@@ -67,10 +68,12 @@ module _ (rules : List Rule) (now : ℕ) (site : PlainSite) where
     act_local (Frame parent url sandbox deny head) =
         frames_local at.tab tab None (frame_use rules site parent tab.frames url) head (frames_added rules at parent url sandbox deny tab.frames)
     act_local (Nav url by_self method head) =
-        frames_local at.tab tab (Some at.frame) (nav_use rules site at.frame tab.frames url by_self method) head (frames_navigated rules at url tab.frames)
+        frames_local at.tab tab (Some at.frame) (nav_use rules site at.frame tab.frames url by_self method) head (frames_navigated rules at url by_self tab.frames)
     act_local (Fetch url method head) = fetch_local (fetch_use rules site at.frame tab.frames url method) head (document_of at.frame tab.frames)
     act_local Cookie = script_local (read_cookies rules now site) (read_local rules now site) (document_of at.frame tab.frames)
     act_local (SetCookie text) = script_local (set_cookie rules now site text) (set_local rules now site text) (document_of at.frame tab.frames)
+    act_local Has = apart_local _ (has_apart rules now at tab)
+    act_local (Request answer) = apart_local _ (request_apart rules now site at answer tab)
     act_local Drop = apart_local _ (drop_apart at tab)
     act_local Click = apart_local _ (click_apart now at tab)
     act_local (Set area key value) = keyed_apart _ (set_apart area key value)

@@ -5,7 +5,8 @@ use Rattle.stored_cookie.specs.StoredCookie.{PlainCookie}
 use Rattle.cookie_jar.specs.Sending.{joined}
 use Rattle.reply_lines.specs.Reply.{PlainBody, Load}
 use Rattle.script_lines.specs.declared.words.Method.TheVariants as method
-use Rattle.agent_model.specs.CookieUse.{CookieUse, consulted_by, fetch_use, frame_use, key_of, nav_use, script_use, top_use}
+use Rattle.agent_model.specs.CookieUse.{CookieUse, consulted_by, key_of}
+use Rattle.agent_model.specs.CookieUses.{fetch_use, frame_use, nav_use, script_use, top_use}
 use Rattle.agent_model.specs.CookieStore.{BothCells, both_marked, cookie_texts, header_text, sent, store_text, store_texts}
 use Rattle.agent_model.specs.Partition.{Holdings, no_holdings}
 use Rattle.agent_model.specs.Done.{SharedCells, no_shared_cells}
@@ -17,40 +18,40 @@ use Rattle.agent_model.proofs.CookieRunFacts.{cookie, http_a, http_site, nothing
 -- ---- what is consulted
 
 -- a load of a top document consults its domain, over https and over http
-top_asks : consulted_by (top_use (site a) (address a) method.Get true) ≡ a ∷ []
+top_asks : consulted_by [] (top_use (site a) (address a) method.Get true) ≡ a ∷ []
 top_asks = refl
 
-http_asks : consulted_by (top_use http_site http_a method.Get true) ≡ a ∷ []
+http_asks : consulted_by [] (top_use http_site http_a method.Get true) ≡ a ∷ []
 http_asks = refl
 
 -- so does a script of the top document
-script_asks : consulted_by (script_use (site a) reader) ≡ a ∷ []
+script_asks : consulted_by [] (script_use (site a) reader) ≡ a ∷ []
 script_asks = refl
 
 -- a document of another site consults none, whatever it requests, and its own cell is partitioned
-widget_asks : consulted_by (fetch_use [] (site a) 1 (shown a None) (address widget) method.Get) ≡ []
+widget_asks : consulted_by [] (fetch_use [] (site a) 1 (shown a None) (address widget) method.Get) ≡ []
 widget_asks = refl
 
-widget_asks_top : consulted_by (fetch_use [] (site a) 1 (shown a None) (address a) method.Get) ≡ []
+widget_asks_top : consulted_by [] (fetch_use [] (site a) 1 (shown a None) (address a) method.Get) ≡ []
 widget_asks_top = refl
 
 widget_key : key_of [] (fetch_use [] (site a) 1 (shown a None) (address widget) method.Get) ≡ record { top = site a; bit = true; domain = widget }
 widget_key = refl
 
 -- the top document that requests another site does not either, and requests its own
-other_asks : consulted_by (fetch_use [] (site a) 0 (shown a None) (address b) method.Get) ≡ []
+other_asks : consulted_by [] (fetch_use [] (site a) 0 (shown a None) (address b) method.Get) ≡ []
 other_asks = refl
 
-own_asks : consulted_by (fetch_use [] (site a) 0 (shown a None) (address a) method.Get) ≡ a ∷ []
+own_asks : consulted_by [] (fetch_use [] (site a) 0 (shown a None) (address a) method.Get) ≡ a ∷ []
 own_asks = refl
 
 -- a frame of the top-level site is first party where its parent is
-frame_asks : consulted_by (frame_use [] (site a) 0 (shown a None) (address a)) ≡ a ∷ []
+frame_asks : consulted_by [] (frame_use [] (site a) 0 (shown a None) (address a)) ≡ a ∷ []
 frame_asks = refl
 
 -- a frame that goes to the top-level site is so too, whoever starts it; only where its parent starts
 -- it is the load same-site
-nav_asks : consulted_by (nav_use [] (site a) 1 (shown a None) (address a) true method.Get) ≡ a ∷ []
+nav_asks : consulted_by [] (nav_use [] (site a) 1 (shown a None) (address a) true method.Get) ≡ a ∷ []
 nav_asks = refl
 
 by_widget : (nav_use [] (site a) 1 (shown a None) (address a) true method.Get).same_site ≡ false

@@ -14,7 +14,8 @@ use Rattle.agent_model.specs.PartitionedCells.{partitioned_order}
 use Rattle.agent_model.specs.Partition.{Holdings}
 use Rattle.agent_model.specs.Done.{SharedCells, Done, Effect}
 use Rattle.agent_model.specs.Documents.{Keyed}
-use Rattle.agent_model.specs.CookieUse.{CookieUse, consulted_by, own_domain, key_of, script_use}
+use Rattle.agent_model.specs.CookieUse.{CookieUse, consulted_by, cookie_domain, key_of, uses_own}
+use Rattle.agent_model.specs.CookieUses.{script_use}
 use Rattle.agent_model.specs.CookieStore.{BothCells, StoredText, StoredTexts, both_marked, cookie_texts, header_text, sent, store_text, store_texts}
 use Rattle.agent_model.specs.Cookies.{leaves, own_found, own_left, read_cookies, request, set_cookie}
 use Rattle.agent_model.proofs.ApartLemmas.{with_cells}
@@ -30,44 +31,44 @@ IsLocal names does = (cells : SharedCells) (held : Holdings)
     → does cells held
     ≡ with_cells (merge_cells domain_order (among names) (does (restrict_cells domain_order (among names) cells) held).cells cells) (does (restrict_cells domain_order (among names) cells) held)
 
-module _ (how : CookieUse) (cells : SharedCells) where
+module _ (rules : List Rule) (how : CookieUse) (cells : SharedCells) where
   -- the cells that it consults
   abbrev names : List Domain
-  names = consulted_by how
+  names = consulted_by rules how
 
   abbrev seen : SharedCells
   seen = restrict_cells domain_order (among names) cells
 
-  itself : bytes_eq (own_domain how) (own_domain how) ≡ true
-  itself = (bytes_eq-Decides (own_domain how) (own_domain how)).1 refl
+  itself : bytes_eq (cookie_domain rules how) (cookie_domain rules how) ≡ true
+  itself = (bytes_eq-Decides (cookie_domain rules how) (cookie_domain rules how)).1 refl
 
   -- it finds the same cookies among them
-  found_seen : own_found how cells ≡ own_found how seen
-  found_seen = by how.context.first refl
+  found_seen : own_found rules how cells ≡ own_found rules how seen
+  found_seen = by (uses_own how) refl
     where
-      by : (first : Bool) → how.context.first ≡ first
-          → cond first (get_cell domain_order cells (own_domain how)) [] ≡ cond first (get_cell domain_order seen (own_domain how)) []
+      by : (own : Bool) → uses_own how ≡ own
+          → cond own (get_cell domain_order cells (cookie_domain rules how)) [] ≡ cond own (get_cell domain_order seen (cookie_domain rules how)) []
       by true is =
-          let d = own_domain how in
+          let d = cookie_domain rules how in
           sym (get_restrict (among names) cells d
-          ∙ ap (λ first. cond (among (cond first (d ∷ []) []) d) (get_cell domain_order cells d) []) is
+          ∙ ap (λ own. cond (among (cond own (d ∷ []) []) d) (get_cell domain_order cells d) []) is
           ∙ ap (λ b. cond (cond b true false) (get_cell domain_order cells d) []) itself)
       by false is = refl
 
   -- and leaves the same in all
-  left_seen : (cookies : Cookies) → own_left how cookies cells ≡ merge_cells domain_order (among names) (own_left how cookies seen) cells
-  left_seen cookies = by how.context.first refl
+  left_seen : (cookies : Cookies) → own_left rules how cookies cells ≡ merge_cells domain_order (among names) (own_left rules how cookies seen) cells
+  left_seen cookies = by (uses_own how) refl
     where
       d : Domain
-      d = own_domain how
+      d = cookie_domain rules how
 
       there : (b : Bool) (x y z : Cookies) → cond b x y ≡ cond (cond b true false) (cond b x z) y
       there true x y z = refl
       there false x y z = refl
 
-      by : (first : Bool) → how.context.first ≡ first
-          → cond first (set_cell domain_order d cookies cells) cells
-          ≡ merge_cells domain_order (among (cond first (d ∷ []) [])) (cond first (set_cell domain_order d cookies seen) seen) cells
+      by : (own : Bool) → uses_own how ≡ own
+          → cond own (set_cell domain_order d cookies cells) cells
+          ≡ merge_cells domain_order (among (cond own (d ∷ []) [])) (cond own (set_cell domain_order d cookies seen) seen) cells
       by true is =
           same_cells _ _ (λ c.
           get_set c d cookies cells
@@ -78,13 +79,13 @@ module _ (how : CookieUse) (cells : SharedCells) where
 
 module _ (rules : List Rule) (now : ℕ) where
   -- what a use finds and leaves is the same in all cells as among those that it consults
-  pub request_local : (how : CookieUse) (head : List HeadField) → IsLocal (consulted_by how) (request rules now how head)
+  pub request_local : (how : CookieUse) (head : List HeadField) → IsLocal (consulted_by rules how) (request rules now how head)
   request_local how head cells held = λ i.
       record {
-        held = (request_from (found_seen how cells i)).held;
-        cells = (left_seen how cells (request_own (own_found how cells)) ∙ ap (λ own. merge_cells domain_order (among (consulted_by how)) (own_left how (request_own own) (seen how cells)) cells) (found_seen how cells)) i;
+        held = (request_from (found_seen rules how cells i)).held;
+        cells = (left_seen rules how cells (request_own (own_found rules how cells)) ∙ ap (λ own. merge_cells domain_order (among (consulted_by rules how)) (own_left rules how (request_own own) (seen rules how cells)) cells) (found_seen rules how cells)) i;
         changes = [];
-        body = (request_from (found_seen how cells i)).body;
+        body = (request_from (found_seen rules how cells i)).body;
       }
     where
       both : Cookies → BothCells
@@ -99,13 +100,13 @@ module _ (rules : List Rule) (now : ℕ) where
       request_from : Cookies → Done
       request_from own = leaves rules how (stored own).both (Load (header_text (sent now how (both own))) (stored own).words) cells held
 
-  pub set_local : (site : PlainSite) (text : List ℕ) (writer : Keyed) → IsLocal (consulted_by (script_use site writer)) (set_cookie rules now site text writer)
+  pub set_local : (site : PlainSite) (text : List ℕ) (writer : Keyed) → IsLocal (consulted_by rules (script_use site writer)) (set_cookie rules now site text writer)
   set_local site text writer cells held = λ i.
       record {
-        held = (set_from (found_seen how cells i)).held;
-        cells = (left_seen how cells (set_own (own_found how cells)) ∙ ap (λ own. merge_cells domain_order (among (consulted_by how)) (own_left how (set_own own) (seen how cells)) cells) (found_seen how cells)) i;
+        held = (set_from (found_seen rules how cells i)).held;
+        cells = (left_seen rules how cells (set_own (own_found rules how cells)) ∙ ap (λ own. merge_cells domain_order (among (consulted_by rules how)) (own_left rules how (set_own own) (seen rules how cells)) cells) (found_seen rules how cells)) i;
         changes = [];
-        body = (set_from (found_seen how cells i)).body;
+        body = (set_from (found_seen rules how cells i)).body;
       }
     where
       how : CookieUse
@@ -124,13 +125,13 @@ module _ (rules : List Rule) (now : ℕ) where
       set_from own = leaves rules how (stored own).both (SetOne (stored own).word) cells held
 
   -- a script's reading leaves all cells
-  pub read_local : (site : PlainSite) (reader : Keyed) → IsLocal (consulted_by (script_use site reader)) (read_cookies rules now site reader)
+  pub read_local : (site : PlainSite) (reader : Keyed) → IsLocal (consulted_by rules (script_use site reader)) (read_cookies rules now site reader)
   read_local site reader cells held = λ i.
       record {
         held = held;
         cells = sym merged i;
         changes = [];
-        body = Cookie (joined (sent now how (both (found_seen how cells i))));
+        body = Cookie (joined (sent now how (both (found_seen rules how cells i))));
       }
     where
       how : CookieUse
@@ -143,9 +144,9 @@ module _ (rules : List Rule) (now : ℕ) where
       at true x = refl
       at false x = refl
 
-      merged : merge_cells domain_order (among (consulted_by how)) (seen how cells) cells ≡ cells
+      merged : merge_cells domain_order (among (consulted_by rules how)) (seen rules how cells) cells ≡ cells
       merged =
           same_cells _ _ (λ c.
-          get_merge (among (consulted_by how)) (seen how cells) cells c
-          ∙ ap (λ x. cond (among (consulted_by how) c) x (get_cell domain_order cells c)) (get_restrict (among (consulted_by how)) cells c)
-          ∙ at (among (consulted_by how) c) (get_cell domain_order cells c))
+          get_merge (among (consulted_by rules how)) (seen rules how cells) cells c
+          ∙ ap (λ x. cond (among (consulted_by rules how) c) x (get_cell domain_order cells c)) (get_restrict (among (consulted_by rules how)) cells c)
+          ∙ at (among (consulted_by rules how) c) (get_cell domain_order cells c))

@@ -28,7 +28,7 @@ use Rattle.agent_model.specs.Partition.{empty_partition, no_holdings}
 use Rattle.agent_model.specs.Done.{SharedCells}
 use Rattle.agent_model.specs.Documents.{Keyed}
 use Rattle.agent_model.specs.SiteEvent.{SiteEvent, Acts, Arrives, Opens}
-use Rattle.agent_model.specs.CookieUse.{top_use}
+use Rattle.agent_model.specs.CookieUses.{top_use}
 use Rattle.agent_model.specs.CookieStore.{both_marked, cookie_texts, store_texts}
 use Rattle.agent_model.specs.SiteStep.{site_step}
 use Rattle.agent_model.specs.Consults.{names_at}

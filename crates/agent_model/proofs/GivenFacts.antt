@@ -1,5 +1,5 @@
 -- What two sites are given of one short script, and what can be left out of it, worked out by hand.
-use Rattle.std.proofs.Common.{◌≡◌, ℕ, Bool, true, false, not, cond, List, [], ◌∷◌, ◌++◌, Option, Some, refl, ap, ◌∙◌}
+use Rattle.std.proofs.Common.{◌≡◌, ℕ, true, false, not, cond, List, [], ◌∷◌, ◌++◌, Option, Some, refl, ap, ◌∙◌}
 use Rattle.std.proofs.lemmas.List.{map-append}
 use Rattle.std.specs.Prelude.{codes, map}
 use Rattle.std.specs.Cmp.{nat_cmp_total}
@@ -19,7 +19,7 @@ use Rattle.agent_model.specs.Lines.{AgentWorld, Places, no_places, placed, site_
 use Rattle.agent_model.specs.Rest.{rest_after}
 use Rattle.agent_model.specs.TheMachine.{machine}
 use Rattle.agent_model.specs.Given.{SiteEntry, entry_given, events_given, given, given_going}
-use Rattle.agent_model.specs.LocalScripts.{is_apart, is_at_domain}
+use Rattle.agent_model.specs.Groups.{is_apart, is_at}
 use Rattle.agent_model.proofs.StandardFacts.{address, site, at_frame, stores, a, b}
 use Rattle.agent_model.proofs.GivenLemmas.{gives_exactly}
 
@@ -79,16 +79,15 @@ given_b =
     given_all (site b) [] world lines
     ∙ (λ i. given (is_of (site b) (second_at i)) 5 (Acts (at_frame 2 0) Click) ++ (given (is_of (site b) (first_at i)) 8 (Acts (at_frame 1 0) Click) ++ (event_at 8 Evicts ∷ [])))
 
--- for `https://a.test` the click in tab 2 and the eviction are left out, and for `http://a.test` too,
--- for which the click at the other site of its domain stays
-left_a : (https : Bool) → lines_without (machine []) (λ w l. is_apart (record { https = https; host = a }) w.rest l) world lines ≡ Tick 3 ∷ Act (at_frame 1 0) Click ∷ []
+-- for the sites of `a.test` the click in tab 2 and the eviction are left out
+left_a : lines_without (machine []) (λ w l. is_apart (a ∷ []) w.rest l) world lines ≡ Tick 3 ∷ Act (at_frame 1 0) Click ∷ []
 unfolding world_step machine rest_after
-left_a https =
-    (λ i. cond (not (is_at_domain (site a) (second_at i))) (later (site_at 1 both)) (Act (at_frame 2 0) Click ∷ later (site_at 1 both)))
+left_a =
+    (λ i. cond (not (is_at (a ∷ []) (second_at i))) (later (site_at 1 both)) (Act (at_frame 2 0) Click ∷ later (site_at 1 both)))
     ∙ ap later first_at
   where
     later : Option PlainSite → List PlainAction
-    later place = Tick 3 ∷ cond (not (is_at_domain (site a) place)) [] (Act (at_frame 1 0) Click ∷ [])
+    later place = Tick 3 ∷ cond (not (is_at (a ∷ []) place)) [] (Act (at_frame 1 0) Click ∷ [])
 
 -- a tab that the user sends from `https://a.test` to `https://b.test`: the one is given that it
 -- leaves, and the other that it arrives, and not from where

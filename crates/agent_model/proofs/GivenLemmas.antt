@@ -17,7 +17,8 @@ use Rattle.agent_model.specs.CookieCells.{Domain, Cookies, domain_order}
 use Rattle.agent_model.specs.Partition.{tab_named}
 use Rattle.agent_model.specs.Done.{SharedCells}
 use Rattle.agent_model.specs.SiteEvent.{SiteEvent, Acts, Closes, Copies, Leaves, Arrives, Goes, TimedEvent}
-use Rattle.agent_model.specs.CookieUse.{consulted_by, top_use}
+use Rattle.agent_model.specs.CookieUse.{consulted_by}
+use Rattle.agent_model.specs.CookieUses.{top_use}
 use Rattle.agent_model.specs.Consults.{event_names}
 use Rattle.agent_model.specs.Sessions.{has_session}
 use Rattle.agent_model.specs.Lines.{AgentWorld, SiteOccurrence, Starter, Page, occurs, opener_of, opening, going, goer_of, is_same_site, site_at, timed, main_event}
@@ -113,8 +114,8 @@ module _ (rules : List Rule) (w : AgentWorld) where
       event_names rules ((after_sides (machine rules) w l).partition a.site) a.event.event ≡ event_names rules (w.partition a.site) a.event.event
 
   load_names : (l : PlainAction) (tab : ℕ) (url : PlainAddress) (method : Method) (same_site : Bool) (s : PlainSite)
-      → consulted_by (top_use ((after_sides (machine rules) w l).partition s).site url method same_site) ≡ consulted_by (top_use (w.partition s).site url method same_site)
-  load_names l tab url method same_site s = ap (λ site. consulted_by (top_use site url method same_site)) (beside_site rules w l s)
+      → consulted_by rules (top_use ((after_sides (machine rules) w l).partition s).site url method same_site) ≡ consulted_by rules (top_use (w.partition s).site url method same_site)
+  load_names l tab url method same_site s = ap (λ site. consulted_by rules (top_use site url method same_site)) (beside_site rules w l s)
 
   open_names : (l : PlainAction) (tab : ℕ) (url : PlainAddress) (method : Method) (head : List HeadField) (starter : Option Starter) (here : Option PlainSite)
       → SameNames l (opening rules w tab url method head starter here)

@@ -9,14 +9,18 @@ pub mod ApartLemmas
 pub mod PartitionedLemmas
 pub mod CookieLemmas
 pub mod CookieActionLemmas
+-- What holds of the frames of each tab.
+pub mod TopKeptLemmas
+pub mod EachTabLemmas
 -- The law.
 pub mod Isolated
 mod NoCookieLemmas
 mod SiteRunLemmas
 pub mod GivenLemmas
 pub mod OwnLemmas
+pub mod UnaskedLemmas
+mod StandApartLemmas
 pub mod LocalScriptLemmas
-mod HoldsLemmas
 -- Values worked out by hand.
 pub mod StandardFacts
 mod OpenerFacts
@@ -27,3 +31,6 @@ pub mod GivenFacts
 mod CookieCellFacts
 pub mod CookieRunFacts
 mod CookieFacts
+mod StorageAccessFacts
+pub mod GrantRunFacts
+mod GrantGroupFacts

@@ -1,8 +1,10 @@
 -- How little a local script holds.
 use Rattle.std.proofs.Common.{◌≡◌, ℕ, Bool, true, false, not, ◌&&◌, ◌||◌, List, [], ◌∷◌, ◌++◌, Option, Some, None, refl, sym, ap, ◌∙◌}
+use Rattle.std.proofs.lemmas.Slice.Eq.{bytes_eq-Decides}
 use Rattle.std.specs.Prelude.{is_some, map, option_map}
 use Rattle.unwinding.specs.World.{world_step}
 use Rattle.unwinding.specs.LocalEntries.{line_touched, local_entries}
+use Rattle.unwinding.proofs.HoldsOnly.{none_holds}
 use Rattle.unwinding.proofs.OthersOut.{left_out}
 use Rattle.suffix_list.specs.Suffix.{Rule}
 use Rattle.origin_site.specs.Address.{PlainAddress}
@@ -18,7 +20,8 @@ use Rattle.agent_model.specs.Lines.{AgentWorld, User, Page, occurs, opening, goi
 use Rattle.agent_model.specs.TheMachine.{IsSound, machine, beginning}
 use Rattle.agent_model.specs.Isolation.{local_script, site_run, lines_alone}
 use Rattle.agent_model.specs.Given.{given, given_opening, where_free, given_going, given_closing, events_given, entry_given}
-use Rattle.agent_model.specs.LocalScripts.{shares_domain, RefusedGivesNone, IsOfOthers, AreOfOthers, OthersGiveNone, without_others, OthersLeftOut, LinesWithoutOthers}
+use Rattle.agent_model.specs.Groups.{group_of, without_others}
+use Rattle.agent_model.specs.LocalScripts.{RefusedGivesNone, IsOfOthers, AreOfOthers, OthersGiveNone, OthersLeftOut, LinesWithoutOthers, HoldsOnlyChanged}
 use Rattle.agent_model.proofs.Isolated.{begins_sound, facts, has_isolated_lines}
 use Rattle.agent_model.proofs.GivenLemmas.{never, gives_exactly}
 use Rattle.agent_model.proofs.OwnLemmas.{own_facts, apart_at, apart_facts}
@@ -121,12 +124,22 @@ others_give_none rules s start lines away = others_entries rules s [] (beginning
 
 pub others_left_out : OthersLeftOut
 unfolding local_script
-others_left_out rules s start lines =
+others_left_out rules domains s start lines member group =
     ap (λ script. record { rules = rules; script = script })
-    (left_out (machine rules) shares_domain IsSound (facts rules) (own_facts rules) s (apart_at s) (apart_facts rules s) (beginning start) lines (begins_sound start))
+    (left_out (machine rules) IsSound (facts rules) (group_of domains) (own_facts rules domains) s member (apart_at rules domains) (apart_facts rules domains) (beginning start) lines (begins_sound start) group)
 
 pub lines_without_others : LinesWithoutOthers
-lines_without_others rules s start lines =
+lines_without_others rules domains s start lines member group =
     has_isolated_lines rules s start lines
-    ∙ ap (λ given. lines_alone s (site_run s given)) (others_left_out rules s start lines)
-    ∙ sym (has_isolated_lines rules s start (without_others rules s start lines))
+    ∙ ap (λ given. lines_alone s (site_run s given)) (others_left_out rules domains s start lines member group)
+    ∙ sym (has_isolated_lines rules s start (without_others rules domains start lines))
+
+-- ---- which cookies an entry holds
+
+own_home : (rules : List Rule) (s : PlainSite) → (machine rules).is_home s s.host ≡ true
+unfolding machine
+own_home rules s = (bytes_eq-Decides s.host s.host).1 refl
+
+pub holds_only_changed : HoldsOnlyChanged
+unfolding local_script
+holds_only_changed rules s start lines leave = none_holds (machine rules) IsSound (facts rules) s s.host (own_home rules s) [] refl (beginning start) lines leave

@@ -15,14 +15,15 @@ use Rattle.live_state.specs.Tabs.{PlainTab, made_tab}
 use Rattle.cookie_jar.specs.Sending.{marked}
 use Rattle.script_lines.specs.declared.words.Method.{Method}
 use Rattle.script_lines.specs.Script.{DocumentAction, HeadField, Frame, Nav, Drop, Click, Fetch, Set, Get, Del, Clear, Len, Key}
-use Rattle.script_lines.specs.Script.{Events, Cookie, SetCookie, Persisted, Estimate, Persist}
+use Rattle.script_lines.specs.Script.{Events, Cookie, SetCookie, Has, Request, Persisted, Estimate, Persist}
 use Rattle.script_lines.specs.Script.{PlainAction, Tick, Open, Close, Go, Evict, Act}
 use Rattle.agent_model.specs.CookieCells.{Cookies, Domain, domain_order}
 use Rattle.agent_model.specs.PartitionedCells.{partitioned_order}
 use Rattle.agent_model.specs.Partition.{Holdings, Partition, tab_named, with_tab}
 use Rattle.agent_model.specs.Done.{Effect, no_shared_cells}
 use Rattle.agent_model.specs.Documents.{by_document, by_key}
-use Rattle.agent_model.specs.CookieUse.{CookieUse, fetch_use, frame_use, key_of, nav_use, own_domain, top_use}
+use Rattle.agent_model.specs.CookieUse.{CookieUse, cookie_domain, key_of, uses_own}
+use Rattle.agent_model.specs.CookieUses.{fetch_use, frame_use, nav_use, top_use}
 use Rattle.agent_model.specs.CookieStore.{BothCells, both_marked, cookie_texts, own_places, store_texts}
 use Rattle.agent_model.specs.Cookies.{both_found, own_left, read_cookies, request}
 use Rattle.agent_model.specs.Frames.{on_frames, frames_added, frames_navigated}
@@ -60,23 +61,23 @@ local_none does local held = ap (λ d. d.cells) (local no_shared_cells held) ∙
 module _ (rules : List Rule) (now : ℕ) where
   request_none : (how : CookieUse) (head : List HeadField) → cookie_texts head ≡ [] → LeavesNone (request rules now how head)
   request_none how head none held =
-      ap (λ texts. own_left how (store_texts rules now how (both_marked now how (both_found rules how no_shared_cells held)) texts).both.own no_shared_cells) none
-      ∙ ap (λ own. own_left how (marked (own_places now how (both own)) (pos now) own) no_shared_cells) (found how.context.first)
-      ∙ left how.context.first
+      ap (λ texts. own_left rules how (store_texts rules now how (both_marked now how (both_found rules how no_shared_cells held)) texts).both.own no_shared_cells) none
+      ∙ ap (λ own. own_left rules how (marked (own_places now how (both own)) (pos now) own) no_shared_cells) (found (uses_own how))
+      ∙ left (uses_own how)
     where
       both : Cookies → BothCells
       both own = record { own = own; partition = get_cell partitioned_order held.cookies (key_of rules how) }
 
-      found : (first : Bool) → cond first (get_cell domain_order no_shared_cells (own_domain how)) [] ≡ []
-      found true = get_none (own_domain how)
+      found : (own : Bool) → cond own (get_cell domain_order no_shared_cells (cookie_domain rules how)) [] ≡ []
+      found true = get_none (cookie_domain rules how)
       found false = refl
 
       set_none : (c : Domain) (b : Bool) → cond b [] (get_cell domain_order no_shared_cells c) ≡ get_cell domain_order no_shared_cells c
       set_none c true = sym (get_none c)
       set_none c false = refl
 
-      left : (first : Bool) → cond first (set_cell domain_order (own_domain how) [] no_shared_cells) no_shared_cells ≡ no_shared_cells
-      left true = same_cells _ _ (λ c. get_set c (own_domain how) [] no_shared_cells ∙ set_none c (bytes_eq c (own_domain how)))
+      left : (own : Bool) → cond own (set_cell domain_order (cookie_domain rules how) [] no_shared_cells) no_shared_cells ≡ no_shared_cells
+      left true = same_cells _ _ (λ c. get_set c (cookie_domain rules how) [] no_shared_cells ∙ set_none c (bytes_eq c (cookie_domain rules how)))
       left false = refl
 
   frames_none : (number : ℕ) (tab : PlainTab) (replaced : Option ℕ) (how : CookieUse) (head : List HeadField) (after : Result (List PlainFrame) TreeFault) → cookie_texts head ≡ []
@@ -99,10 +100,12 @@ module _ (rules : List Rule) (now : ℕ) where
 
     act_none : (action : DocumentAction) → ActsWithout action → LeavesNone (act_in rules now site at action tab)
     act_none (Frame parent url sandbox deny head) none = frames_none at.tab tab None (frame_use rules site parent tab.frames url) head (frames_added rules at parent url sandbox deny tab.frames) none
-    act_none (Nav url by_self method head) none = frames_none at.tab tab (Some at.frame) (nav_use rules site at.frame tab.frames url by_self method) head (frames_navigated rules at url tab.frames) none
+    act_none (Nav url by_self method head) none = frames_none at.tab tab (Some at.frame) (nav_use rules site at.frame tab.frames url by_self method) head (frames_navigated rules at url by_self tab.frames) none
     act_none (Fetch url method head) none = fetch_none (fetch_use rules site at.frame tab.frames url method) head (document_of at.frame tab.frames) none
     act_none (SetCookie text) none = absurd none
     act_none Cookie none = read_none (document_of at.frame tab.frames)
+    act_none Has none = local_none _ (act_local rules now site at tab Has)
+    act_none (Request answer) none = local_none _ (act_local rules now site at tab (Request answer))
     act_none Drop none = local_none _ (act_local rules now site at tab Drop)
     act_none Click none = local_none _ (act_local rules now site at tab Click)
     act_none (Set area key value) none = local_none _ (act_local rules now site at tab (Set area key value))

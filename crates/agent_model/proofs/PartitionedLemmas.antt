@@ -1,5 +1,4 @@
 -- The order of partitioned cells, whose keys tie exactly where they are equal.
-use Rattle.std.proofs.Common.{◌≡◌}
 use Rattle.std.specs.Cmp.{IsTotalOrder, then_total, on_total, bool_cmp_total}
 use Rattle.std.specs.FinMap.{IsAntisymmetric}
 use Rattle.std.specs.Ordering.{bool_cmp}

@@ -146,7 +146,7 @@ absent : key_of_frame 2 (shown a None) ≡ None
 absent = refl
 
 -- the top document neither navigates nor is dropped
-top_stays : frames_navigated [] (at_frame 1 0) (address b) (shown a None) ≡ Err NoFrame
+top_stays : frames_navigated [] (at_frame 1 0) (address b) false (shown a None) ≡ Err NoFrame
 top_stays = refl
 
 top_kept : frames_removed (at_frame 1 0) (shown a None) ≡ Err NoFrame

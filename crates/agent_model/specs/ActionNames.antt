@@ -2,7 +2,7 @@
 -- Our own choice: the name is that of the line's member `do`.
 use Rattle.std.specs.Prelude.{ℕ, List, codes}
 use Rattle.script_lines.specs.Script.{DocumentAction, Frame, Nav, Drop, Click, Fetch, Set, Get, Del}
-use Rattle.script_lines.specs.Script.{Clear, Len, Key, Events, Cookie, SetCookie}
+use Rattle.script_lines.specs.Script.{Clear, Len, Key, Events, Cookie, SetCookie, Has, Request}
 use Rattle.script_lines.specs.Script.{Persisted, Estimate, Persist}
 use Rattle.script_lines.specs.Script.{PlainAction, Tick, Open, Close, Go, Evict, Act}
 use Rattle.agent_model.specs.SiteEvent.{TopLoad, Opens, Goes}
@@ -23,6 +23,8 @@ document_action_name (Key area n) = codes "key"
 document_action_name Events = codes "events"
 document_action_name Cookie = codes "cookie"
 document_action_name (SetCookie text) = codes "setcookie"
+document_action_name Has = codes "has"
+document_action_name (Request answer) = codes "request"
 document_action_name Persisted = codes "persisted"
 document_action_name Estimate = codes "estimate"
 document_action_name (Persist answer) = codes "persist"

@@ -13,13 +13,13 @@ use Rattle.frame_tree.specs.Keys.{key_of_document}
 use Rattle.frame_tree.specs.Tree.{PlainFrame, document_of}
 use Rattle.live_state.specs.Tabs.{PlainTab}
 use Rattle.script_lines.specs.Script.{DocumentAction, Frame, Nav, Drop, Click, Fetch, Set, Get, Del}
-use Rattle.script_lines.specs.Script.{Clear, Len, Key, Events, Cookie, SetCookie}
+use Rattle.script_lines.specs.Script.{Clear, Len, Key, Events, Cookie, SetCookie, Has, Request}
 use Rattle.script_lines.specs.Script.{Persisted, Estimate, Persist}
 use Rattle.agent_model.specs.CookieCells.{Domain}
 use Rattle.agent_model.specs.Partition.{Partition, tab_named}
 use Rattle.agent_model.specs.Documents.{Keyed}
-use Rattle.agent_model.specs.CookieUse.{consulted_by, fetch_use, frame_use, nav_use}
-use Rattle.agent_model.specs.CookieUse.{script_use, top_use}
+use Rattle.agent_model.specs.CookieUse.{consulted_by}
+use Rattle.agent_model.specs.CookieUses.{fetch_use, frame_use, nav_use, script_use, top_use}
 use Rattle.agent_model.specs.Frames.{frames_added, frames_navigated}
 use Rattle.agent_model.specs.SiteEvent.{SiteEvent, Acts, Arrives, Leaves, Copies, Closes, Evicts}
 
@@ -43,23 +43,25 @@ keyed_at at tab =
     (key_of_document at.frame tab.frames document)) (document_of at.frame tab.frames)
 
 -- those of a script, whose document has a storage key
-abbrev pub by_script : PlainSite → Option Keyed → List Domain
-by_script site None = []
-by_script site (Some own) = consulted_by (script_use site own)
+abbrev pub by_script : List Rule → PlainSite → Option Keyed → List Domain
+by_script rules site None = []
+by_script rules site (Some own) = consulted_by rules (script_use site own)
 
 -- those of an action of a document in an open tab at this site
 abbrev pub names_in : List Rule → PlainSite → Label → DocumentAction → PlainTab → List Domain
 names_in rules site at (Frame parent url sandbox deny head) tab =
-    unless_refused (consulted_by (frame_use rules site parent tab.frames url))
+    unless_refused (consulted_by rules (frame_use rules site parent tab.frames url))
     (frames_added rules at parent url sandbox deny tab.frames)
 names_in rules site at (Nav url by_self method head) tab =
-    unless_refused (consulted_by (nav_use rules site at.frame tab.frames url by_self method))
-    (frames_navigated rules at url tab.frames)
+    unless_refused (consulted_by rules (nav_use rules site at.frame tab.frames url by_self method))
+    (frames_navigated rules at url by_self tab.frames)
 names_in rules site at (Fetch url method head) tab =
-    where_there (consulted_by (fetch_use rules site at.frame tab.frames url method))
+    where_there (consulted_by rules (fetch_use rules site at.frame tab.frames url method))
     (document_of at.frame tab.frames)
-names_in rules site at Cookie tab = by_script site (keyed_at at tab)
-names_in rules site at (SetCookie text) tab = by_script site (keyed_at at tab)
+names_in rules site at Cookie tab = by_script rules site (keyed_at at tab)
+names_in rules site at (SetCookie text) tab = by_script rules site (keyed_at at tab)
+names_in rules site at Has tab = []
+names_in rules site at (Request answer) tab = []
 names_in rules site at Drop tab = []
 names_in rules site at Click tab = []
 names_in rules site at (Set area key value) tab = []
@@ -85,7 +87,7 @@ abbrev pub event_names : List Rule → Partition → SiteEvent → List Domain
 event_names rules own (Acts at action) =
     names_at rules own.site at action (tab_named at.tab own.held)
 event_names rules own (Arrives load tab url method same_site head) =
-    consulted_by (top_use own.site url method same_site)
+    consulted_by rules (top_use own.site url method same_site)
 event_names rules own (Leaves tab) = []
 event_names rules own (Copies from to) = []
 event_names rules own (Closes tab) = []

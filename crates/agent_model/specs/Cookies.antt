@@ -19,27 +19,28 @@ use Rattle.agent_model.specs.PartitionedCells.{partitioned_order}
 use Rattle.agent_model.specs.Partition.{Holdings}
 use Rattle.agent_model.specs.Done.{SharedCells, Effect, answers}
 use Rattle.agent_model.specs.Documents.{Keyed, with_document}
-use Rattle.agent_model.specs.CookieUse.{CookieUse, own_domain, key_of, fetch_use, script_use}
+use Rattle.agent_model.specs.CookieUse.{CookieUse, cookie_domain, key_of, uses_own}
+use Rattle.agent_model.specs.CookieUses.{fetch_use, script_use}
 use Rattle.agent_model.specs.CookieStore.{BothCells, both_marked, cookie_texts, header_text, sent}
 use Rattle.agent_model.specs.CookieStore.{store_text, store_texts}
 
--- the unpartitioned cookies that a use finds: those of the domain, where it is first party
-abbrev pub own_found : CookieUse → SharedCells → Cookies
-own_found how cells =
-    if how.context.first then get_cell domain_order cells (own_domain how) else []
+-- the unpartitioned cookies that a use finds: those of the domain, where it uses them
+abbrev pub own_found : List Rule → CookieUse → SharedCells → Cookies
+own_found rules how cells =
+    if uses_own how then get_cell domain_order cells (cookie_domain rules how) else []
 
 -- both cells that it finds
 abbrev pub both_found : List Rule → CookieUse → SharedCells → Holdings → BothCells
 both_found rules how cells held =
     record {
-      own = own_found how cells;
+      own = own_found rules how cells;
       partition = get_cell partitioned_order held.cookies (key_of rules how);
     }
 
 -- the shared cells that it leaves
-abbrev pub own_left : CookieUse → Cookies → SharedCells → SharedCells
-own_left how cookies cells =
-    if how.context.first then set_cell domain_order (own_domain how) cookies cells else cells
+abbrev pub own_left : List Rule → CookieUse → Cookies → SharedCells → SharedCells
+own_left rules how cookies cells =
+    if uses_own how then set_cell domain_order (cookie_domain rules how) cookies cells else cells
 
 -- both cells are left so, and this is answered
 abbrev pub leaves : List Rule → CookieUse → BothCells → PlainBody → Effect
@@ -48,7 +49,7 @@ leaves rules how both body cells held =
       held = record held {
         cookies = set_cell partitioned_order (key_of rules how) both.partition held.cookies;
       };
-      cells = own_left how both.own cells;
+      cells = own_left rules how both.own cells;
       changes = [];
       body = body;
     }

@@ -1,9 +1,10 @@
 -- Actions on the frames of a tab.
--- Source: HTML, "Navigables", "Navigation" and "Tracking user activation".
+-- Source: HTML, "Navigables", "Navigation" and "Tracking user activation"; Storage Access API,
+-- "Changes to navigation" (the document that replaces another of its origin keeps the access).
 -- Our own choice: an action that names a frame that is not there is refused, and sends nothing. A
 -- load goes by the frames of the tab before it. The top document is replaced by `go` and goes by
 -- `close`, and by nothing else.
-use Rattle.std.specs.Prelude.{ℕ, ◌==◌, Bool, false, pos, List, [], Option, Some, None}
+use Rattle.std.specs.Prelude.{ℕ, ◌==◌, Bool, pos, List, [], Option, Some, None}
 use Rattle.std.specs.Prelude.{Result, Ok, Err, codes, if◌then◌else◌}
 use Rattle.suffix_list.specs.Suffix.{Rule}
 use Rattle.agent_base.specs.declared.refusals.Label.{Label}
@@ -20,7 +21,7 @@ use Rattle.script_lines.specs.Script.{HeadField}
 use Rattle.reply_lines.specs.Reply.{PlainBody, Plain}
 use Rattle.agent_model.specs.Partition.{with_tab}
 use Rattle.agent_model.specs.Done.{Effect, answers, ok}
-use Rattle.agent_model.specs.CookieUse.{frame_use, nav_use}
+use Rattle.agent_model.specs.CookieUses.{frame_use, is_granted_nav, nav_use}
 use Rattle.agent_model.specs.Cookies.{request}
 
 -- ---- every action on frames
@@ -63,11 +64,13 @@ add_frame rules now site at parent url sandbox deny head tab =
     (λ frames. request rules now (frame_use rules site parent tab.frames url) head)
     (frames_added rules at parent url sandbox deny tab.frames)
 
--- the frames after one went to an address, or why it is refused
-abbrev pub frames_navigated : List Rule → Label → PlainAddress → List PlainFrame
-    → Result (List PlainFrame) TreeFault
-frames_navigated rules at url frames =
-    where_below at.frame (navigated rules at.frame url false frames)
+-- The frames after one went to an address, or why it is refused. Its new document has storage
+-- access where access was granted to its load.
+abbrev pub frames_navigated : List Rule → Label → PlainAddress → (by_self : Bool)
+    → List PlainFrame → Result (List PlainFrame) TreeFault
+frames_navigated rules at url by_self frames =
+    let keep_flag = is_granted_nav by_self at.frame frames url in
+    where_below at.frame (navigated rules at.frame url keep_flag frames)
 
 -- a frame goes to an address: a request below its parent, which its own document starts or its
 -- parent's
@@ -76,7 +79,7 @@ abbrev pub navigate_frame : List Rule → ℕ → PlainSite → Label → PlainA
 navigate_frame rules now site at url by_self method head tab =
     on_frames at.tab tab (Some at.frame)
     (λ frames. request rules now (nav_use rules site at.frame tab.frames url by_self method) head)
-    (frames_navigated rules at url tab.frames)
+    (frames_navigated rules at url by_self tab.frames)
 
 -- ---- removals and clicks
 

@@ -8,10 +8,12 @@ pub mod AreaActions
 pub mod Buckets
 pub mod Queues
 pub mod CookieUse
+pub mod CookieUses
 pub mod CookieWords
 pub mod CookieStore
 pub mod Cookies
 pub mod Frames
+pub mod StorageAccess
 pub mod Sessions
 pub mod SiteEvent
 pub mod ActionNames
@@ -25,4 +27,5 @@ pub mod Isolation
 pub mod StoresNone
 pub mod SiteRuns
 pub mod Given
+pub mod Groups
 pub mod LocalScripts

@@ -1,13 +1,13 @@
 -- How little a local script holds: which events a line gives a site, and what can be left out.
 -- Source: none; these are the words of the promise.
 -- Our own choice: of other sites' lines those stay that open, move or close a tab, since the places
--- of tabs are no site's own. Those of the site's domain over the other scheme stay too, since the
--- two share the domain's cookies.
-use Rattle.std.specs.Prelude.{◌≡◌, ℕ, Bool, false, not, List, [], ◌∷◌, bytes_eq, Option, Some, None}
+-- of tabs are no site's own; and those of all sites whose unpartitioned cookies the site shares: of
+-- its domain over the other scheme, and of domains that share cookies by granted storage access.
+use Rattle.std.specs.Prelude.{◌≡◌, ℕ, true, false, List, [], ◌∷◌, None}
 use Rattle.unwinding.specs.World.{world_step}
 use Rattle.unwinding.specs.LocalEntries.{line_entries}
-use Rattle.unwinding.specs.LeftOut.{IsAlike, lines_without}
-use Rattle.unwinding.specs.HeldOnly.{OthersLeaveCell}
+use Rattle.unwinding.specs.LeftOut.{ConsultsWithin, IsAlike}
+use Rattle.unwinding.specs.HeldOnly.{NoneHolds, OthersLeaveCell}
 use Rattle.suffix_list.specs.Suffix.{Rule}
 use Rattle.origin_site.specs.Site.{PlainSite, same_plain_site, site_of_address}
 use Rattle.storage_key.specs.Context.{is_of}
@@ -16,9 +16,10 @@ use Rattle.agent_model.specs.CookieCells.{Domain}
 use Rattle.agent_model.specs.Partition.{Partition}
 use Rattle.agent_model.specs.Sessions.{has_session}
 use Rattle.agent_model.specs.Lines.{AgentWorld, Rest, site_at, main_event}
-use Rattle.agent_model.specs.TheMachine.{IsSound, machine, beginning}
+use Rattle.agent_model.specs.TheMachine.{machine, beginning}
 use Rattle.agent_model.specs.Isolation.{local_script, lines_of_site, replies_to}
-use Rattle.agent_model.specs.Given.{SiteEntry, opener_place, entries_given}
+use Rattle.agent_model.specs.Given.{opener_place, entries_given}
+use Rattle.agent_model.specs.Groups.{StandApart, group_of, is_among, without_others}
 
 -- ---- what a line gives a site
 
@@ -29,20 +30,20 @@ GivesExactly = (rules : List Rule) (site : PlainSite) (touched : List Domain) (w
     → line_entries (machine rules) site touched w line
     ≡ entries_given rules site (w.partition site) w.rest touched w.cells line
 
--- two sites are of one domain: they are one, or they differ in the scheme alone
-abbrev pub shares_domain : PlainSite → PlainSite → Bool
-shares_domain site other = bytes_eq site.host other.host
+-- ---- what it is a function of
 
--- Two worlds with the same partitions of the sites of a site's domain, the same cookies of the
--- domain, the same places and the same clock give the site the same of each line, and agree in
--- these afterwards.
+-- Two worlds with the same partitions of the sites of some domains, the same cookies of these, the
+-- same places and the same clock give such a site the same of each line that uses cookies within
+-- these domains or apart from them, and agree in all these afterwards.
 abbrev pub GivesByOwn : Type 0
-GivesByOwn = (rules : List Rule) (site : PlainSite) (touched : List Domain) (v w : AgentWorld)
-    (line : PlainAction) → IsSound v → IsSound w
-    → IsAlike (machine rules) shares_domain site v w
+GivesByOwn = (rules : List Rule) (domains : List Domain) (site : PlainSite) (touched : List Domain)
+    (v w : AgentWorld) (line : PlainAction) → is_among domains site ≡ true
+    → IsAlike (machine rules) (group_of domains) v w
+    → ConsultsWithin (machine rules) (group_of domains) v line (main_event rules v line)
+    → ConsultsWithin (machine rules) (group_of domains) w line (main_event rules w line)
     → (line_entries (machine rules) site touched v line
     ≡ line_entries (machine rules) site touched w line)
-    × IsAlike (machine rules) shares_domain site (world_step (machine rules) v line)
+    × IsAlike (machine rules) (group_of domains) (world_step (machine rules) v line)
     (world_step (machine rules) w line)
 
 -- a `tick` and a line that is refused, which have no main event, give no site an entry
@@ -83,49 +84,28 @@ OthersGiveNone = (rules : List Rule) (site : PlainSite) (start : ℕ) (lines : L
 
 -- ---- which cookies an entry holds
 
--- no entry holds a cookie
-abbrev pub HoldNone : List SiteEntry → Type 0
-HoldNone [] = Unit {0}
-HoldNone (entry ∷ entries) = (entry.held ≡ []) × HoldNone entries
-
 -- where no event of another site leaves the cookies of a site's domain different, no entry of the
--- site holds a cookie: it knows its own
+-- site holds them: it knows its own
 abbrev pub HoldsOnlyChanged : Type 0
 HoldsOnlyChanged = (rules : List Rule) (site : PlainSite) (start : ℕ) (lines : List PlainAction)
     → OthersLeaveCell (machine rules) site site.host (beginning start) lines
-    → HoldNone (local_script rules site start lines).script.entries
+    → NoneHolds (machine rules) site.host (local_script rules site start lines).script.entries
 
 -- ---- what can be left out
 
--- a tab is at a site of this site's domain
-abbrev pub is_at_domain : PlainSite → Option PlainSite → Bool
-is_at_domain site None = false
-is_at_domain site (Some here) = shares_domain site here
-
--- a line that acts in a tab which is at no site of the site's domain, or evicts none of these
-abbrev pub is_apart : PlainSite → Rest → PlainAction → Bool
-is_apart site rest (Act at action) = not (is_at_domain site (site_at at.tab rest.places))
-is_apart site rest (Evict named) = not (shares_domain site named)
-is_apart site rest (Tick s) = false
-is_apart site rest (Open tab url opener noopener method head) = false
-is_apart site rest (Go tab url by_page method head) = false
-is_apart site rest (Close tab) = false
-
--- the lines of a run without those that act in tabs at other domains or evict sites of these. They
--- are those that open, move or close a tab or move the clock, and the lines of the site's domain.
-abbrev pub without_others : List Rule → PlainSite → ℕ → List PlainAction → List PlainAction
-without_others rules site start lines =
-    lines_without (machine rules) (λ w line. is_apart site w.rest line) (beginning start) lines
-
--- what documents do in tabs at other domains can be left out: the site's local script is the same
+-- what documents do in tabs at other domains can be left out, where the domains stand apart: the
+-- local script of each of their sites is the same
 abbrev pub OthersLeftOut : Type 0
-OthersLeftOut = (rules : List Rule) (site : PlainSite) (start : ℕ) (lines : List PlainAction)
+OthersLeftOut = (rules : List Rule) (domains : List Domain) (site : PlainSite) (start : ℕ)
+    (lines : List PlainAction)
+    → is_among domains site ≡ true → StandApart rules domains start lines
     → local_script rules site start lines
-    ≡ local_script rules site start (without_others rules site start lines)
+    ≡ local_script rules site start (without_others rules domains start lines)
 
 -- and so are the lines of the site in the transcript
 abbrev pub LinesWithoutOthers : Type 0
-LinesWithoutOthers = (rules : List Rule) (site : PlainSite) (start : ℕ)
+LinesWithoutOthers = (rules : List Rule) (domains : List Domain) (site : PlainSite) (start : ℕ)
     (lines : List PlainAction)
+    → is_among domains site ≡ true → StandApart rules domains start lines
     → lines_of_site site (replies_to rules start lines)
-    ≡ lines_of_site site (replies_to rules start (without_others rules site start lines))
+    ≡ lines_of_site site (replies_to rules start (without_others rules domains start lines))

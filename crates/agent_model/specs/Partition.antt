@@ -1,9 +1,10 @@
 -- What one site has: its open tabs, and the storage under it.
 -- Source: Storage Standard, "Model" (sheds, shelves, buckets and their modes); HTML, "Navigables"
--- and "Web storage", where an area belongs to a storage key.
+-- and "Web storage", where an area belongs to a storage key; Storage Access API, "Permissions
+-- Integration", where a permission belongs to a top-level site.
 -- Our own choice: storage is divided by the site of the top document first. A storage key has that
 -- site, so that the areas under a site are those whose key has it.
-use Rattle.std.specs.Prelude.{ℕ, Bool, List, Option}
+use Rattle.std.specs.Prelude.{ℕ, Bool, List, [], Option}
 use Rattle.std.specs.Ordering.{nat_cmp, ordering_then}
 use Rattle.std.specs.declared.cmp.Ordering.{Ordering}
 use Rattle.std.specs.FinMap as map
@@ -11,6 +12,7 @@ use Rattle.unwinding.specs.FiniteCells.{Full, get_cell, set_cell}
 use Rattle.origin_site.specs.Site.{PlainSite, same_plain_site}
 use Rattle.storage_key.specs.Key.{PlainKey, key_order}
 use Rattle.local_area.specs.Area.{Pair}
+use Rattle.access_grants.specs.Grant.{PlainGrant}
 use Rattle.storage_events.specs.declared.event.AreaKind.{AreaKind}
 use Rattle.storage_events.specs.declared.event.AreaKind.TheVariants.{Local, Session}
 use Rattle.live_state.specs.Tabs.{PlainTab}
@@ -55,14 +57,15 @@ Tabs = map.FinMap nat_cmp PlainTab
 
 -- ---- what is held
 
--- open tabs, and storage: local areas with the modes of their buckets, session areas, and the
--- partitioned cells of cookies
+-- open tabs, and storage: local areas with the modes of their buckets, session areas, the
+-- partitioned cells of cookies, and the permissions of storage access in the order of their pairs
 pub record Holdings : Type 0 where
   pub tabs : Tabs
   pub areas : Areas
   pub persistent : Keys
   pub sessions : SessionAreas
   pub cookies : PartitionedCells
+  pub grants : List PlainGrant
 
 -- nothing at all
 unfoldable pub no_holdings : Holdings
@@ -73,6 +76,7 @@ no_holdings =
       persistent = map.empty;
       sessions = map.empty;
       cookies = no_partitioned_cells;
+      grants = [];
     }
 
 -- the open tab of a number

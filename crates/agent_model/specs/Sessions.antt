@@ -17,7 +17,7 @@ use Rattle.script_lines.specs.declared.words.Method.{Method}
 use Rattle.script_lines.specs.Script.{HeadField}
 use Rattle.agent_model.specs.Partition.{SessionKey, Holdings, is_under, with_tab, without_tab}
 use Rattle.agent_model.specs.Done.{Effect}
-use Rattle.agent_model.specs.CookieUse.{top_use}
+use Rattle.agent_model.specs.CookieUses.{top_use}
 use Rattle.agent_model.specs.Cookies.{request}
 
 -- a tab shows this address alone, whatever it showed before

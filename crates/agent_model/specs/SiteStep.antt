@@ -8,12 +8,13 @@ use Rattle.suffix_list.specs.Suffix.{Rule}
 use Rattle.origin_site.specs.Site.{PlainSite}
 use Rattle.live_state.specs.Tabs.{PlainTab}
 use Rattle.script_lines.specs.Script.{DocumentAction, Frame, Nav, Drop, Click, Fetch, Set, Get, Del}
-use Rattle.script_lines.specs.Script.{Clear, Len, Key, Events, Cookie, SetCookie}
+use Rattle.script_lines.specs.Script.{Clear, Len, Key, Events, Cookie, SetCookie, Has, Request}
 use Rattle.script_lines.specs.Script.{Persisted, Estimate, Persist}
 use Rattle.agent_model.specs.Partition.{Partition, tab_named, without_tab}
 use Rattle.agent_model.specs.Done.{SharedCells, Effect, answers, ok}
 use Rattle.agent_model.specs.Documents.{with_key}
 use Rattle.agent_model.specs.Cookies.{fetch, read_cookies, set_cookie}
+use Rattle.agent_model.specs.StorageAccess.{request_access, tell_access}
 use Rattle.agent_model.specs.Frames.{add_frame, navigate_frame, remove_frame, click}
 use Rattle.agent_model.specs.AreaActions.{set_item, remove_item, clear_area}
 use Rattle.agent_model.specs.AreaActions.{get_item, get_name, get_length}
@@ -43,6 +44,8 @@ act_in rules now site at (Key area n) tab = with_key at tab (get_name area n)
 act_in rules now site at Events tab = take_events at tab
 act_in rules now site at Cookie tab = with_key at tab (read_cookies rules now site)
 act_in rules now site at (SetCookie text) tab = with_key at tab (set_cookie rules now site text)
+act_in rules now site at Has tab = tell_access rules now at tab
+act_in rules now site at (Request answer) tab = request_access rules now site at answer tab
 act_in rules now site at Persisted tab = with_key at tab get_mode
 act_in rules now site at Estimate tab = with_key at tab get_usage
 act_in rules now site at (Persist answer) tab = with_key at tab (persist tab answer)

@@ -4,7 +4,7 @@
 use Rattle.std.specs.Prelude.{◌≡◌, List, [], ◌∷◌}
 use Rattle.script_lines.specs.Script.{PlainAction, Tick, Open, Close, Go, Evict, Act}
 use Rattle.script_lines.specs.Script.{DocumentAction, Frame, Nav, Drop, Click, Fetch, Set, Get, Del}
-use Rattle.script_lines.specs.Script.{Clear, Len, Key, Events, Cookie, SetCookie}
+use Rattle.script_lines.specs.Script.{Clear, Len, Key, Events, Cookie, SetCookie, Has, Request}
 use Rattle.script_lines.specs.Script.{Persisted, Estimate, Persist}
 use Rattle.agent_model.specs.CookieStore.{cookie_texts}
 
@@ -15,6 +15,8 @@ ActsWithout (Nav url by_self method head) = cookie_texts head ≡ []
 ActsWithout (Fetch url method head) = cookie_texts head ≡ []
 ActsWithout (SetCookie text) = ⊥
 ActsWithout Cookie = Unit {0}
+ActsWithout Has = Unit {0}
+ActsWithout (Request answer) = Unit {0}
 ActsWithout Drop = Unit {0}
 ActsWithout Click = Unit {0}
 ActsWithout (Set area key value) = Unit {0}

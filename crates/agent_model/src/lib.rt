@@ -7,7 +7,9 @@
 
 ghost use Rattle.agent_model.specs.Isolation.{IsIsolated, HasIsolatedLines};
 ghost use Rattle.agent_model.specs.SiteRuns.{AreRunReplies, AreSiteAnswers};
-ghost use Rattle.agent_model.specs.LocalScripts.{GivesExactly, GivesByOwn, RefusedGivesNone};
+ghost use Rattle.agent_model.specs.Groups.{EachStandsApart};
+ghost use Rattle.agent_model.specs.LocalScripts.{GivesExactly, GivesByOwn};
+ghost use Rattle.agent_model.specs.LocalScripts.{RefusedGivesNone};
 ghost use Rattle.agent_model.specs.LocalScripts.{OthersGiveNone, OthersLeftOut};
 ghost use Rattle.agent_model.specs.LocalScripts.{LinesWithoutOthers, HoldsOnlyChanged};
 
@@ -23,13 +25,15 @@ pub fn site_runs()
     ensures answers { AreSiteAnswers }
 {}
 
-/// A site is given its own events alone. What documents do in tabs at other domains can be left
-/// out, and a cookie is held only where another site has left it different.
+/// A site is given its own events alone. What documents do in tabs at domains that share no cookies
+/// with its own can be left out, and a cookie of its domain is held only where another site has
+/// left it different. Domains share none where no document has asked for storage access.
 pub fn local_scripts()
     ensures exact { GivesExactly }
     ensures own { GivesByOwn }
     ensures refused { RefusedGivesNone }
     ensures others { OthersGiveNone }
+    ensures apart { EachStandsApart }
     ensures left_out { OthersLeftOut }
     ensures lines { LinesWithoutOthers }
     ensures held { HoldsOnlyChanged }

@@ -5,10 +5,10 @@ use Rattle.suffix_list.specs.Suffix.{Rule}
 use Rattle.origin_site.specs.Site.{PlainSite, same_plain_site}
 use Rattle.live_state.specs.Tabs.{PlainTab}
 use Rattle.script_lines.specs.Script.{DocumentAction, Frame, Nav, Drop, Click, Fetch, Set, Get, Del, Clear, Len, Key}
-use Rattle.script_lines.specs.Script.{Events, Cookie, SetCookie, Persisted, Estimate, Persist}
+use Rattle.script_lines.specs.Script.{Events, Cookie, SetCookie, Has, Request, Persisted, Estimate, Persist}
 use Rattle.agent_model.specs.Partition.{Holdings, tab_named}
 use Rattle.agent_model.specs.Done.{SharedCells, answers, ok}
-use Rattle.agent_model.specs.CookieUse.{fetch_use, frame_use, nav_use}
+use Rattle.agent_model.specs.CookieUses.{fetch_use, frame_use, nav_use}
 use Rattle.agent_model.specs.Cookies.{read_cookies, request, set_cookie}
 use Rattle.agent_model.specs.Frames.{frames_added, frames_navigated, frames_removed, frames_clicked}
 use Rattle.agent_model.specs.AreaActions.{set_item, remove_item, clear_area, get_item, get_name, get_length}
@@ -20,6 +20,7 @@ use Rattle.one_store.proofs.AreaLemmas.{set_item_unseen, remove_item_unseen, cle
 use Rattle.one_store.proofs.BucketLemmas.{get_mode_seen, get_usage_seen, persist_seen, persist_unseen}
 use Rattle.one_store.proofs.CookieLemmas.{read_seen, request_seen, request_unseen, set_seen, set_unseen}
 use Rattle.one_store.proofs.DocumentLemmas.{with_document_seen, with_document_unseen, with_key_seen, with_key_unseen}
+use Rattle.one_store.proofs.GrantLemmas.{request_access_seen, request_access_unseen}
 use Rattle.one_store.proofs.PlacedLemmas.{is_there}
 use Rattle.one_store.proofs.TabLemmas.{on_frames_seen, on_frames_unseen, take_events_seen, take_events_unseen}
 
@@ -33,7 +34,7 @@ module _ (rules : List Rule) (now : ℕ) (site : PlainSite) (here : ℕ → Bool
       on_frames_seen site here cells held at.tab tab None (λ frames. request rules now (frame_use rules site parent tab.frames url) head) (frames_added rules at parent url sandbox deny tab.frames) is
       (λ frames all. request_seen site here all rules now cells (frame_use rules site parent tab.frames url) head (is_there site))
   act_seen (Nav url by_self method head) =
-      on_frames_seen site here cells held at.tab tab (Some at.frame) (λ frames. request rules now (nav_use rules site at.frame tab.frames url by_self method) head) (frames_navigated rules at url tab.frames) is
+      on_frames_seen site here cells held at.tab tab (Some at.frame) (λ frames. request rules now (nav_use rules site at.frame tab.frames url by_self method) head) (frames_navigated rules at url by_self tab.frames) is
       (λ frames all. request_seen site here all rules now cells (nav_use rules site at.frame tab.frames url by_self method) head (is_there site))
   act_seen (Fetch url method head) =
       with_document_seen site here cells held at tab (λ document. request rules now (fetch_use rules site at.frame tab.frames url method) head)
@@ -41,6 +42,8 @@ module _ (rules : List Rule) (now : ℕ) (site : PlainSite) (here : ℕ → Bool
   act_seen Cookie = with_key_seen site here cells held keyed at tab is found (read_cookies rules now site) (λ reader under. read_seen site here held rules now cells site reader (is_there site))
   act_seen (SetCookie text) =
       with_key_seen site here cells held keyed at tab is found (set_cookie rules now site text) (λ writer under. set_seen site here held rules now cells site writer text (is_there site))
+  act_seen Has = with_document_seen site here cells held at tab _ (λ document there. refl)
+  act_seen (Request answer) = request_access_seen rules now site cells held at tab answer here is
   act_seen Drop = on_frames_seen site here cells held at.tab tab None (λ frames. answers ok) (frames_removed at tab.frames) is (λ frames all. refl)
   act_seen Click = on_frames_seen site here cells held at.tab tab None (λ frames. answers ok) (frames_clicked now at tab.frames) is (λ frames all. refl)
   act_seen (Set area key value) =
@@ -64,7 +67,7 @@ module _ (rules : List Rule) (now : ℕ) (site : PlainSite) (here : ℕ → Bool
         on_frames_unseen other there cells held at.tab tab None (λ frames. request rules now (frame_use rules site parent tab.frames url) head) (frames_added rules at parent url sandbox deny tab.frames) isnt
         (λ frames all. request_unseen other there all rules now cells (frame_use rules site parent tab.frames url) head apart)
     act_unseen (Nav url by_self method head) =
-        on_frames_unseen other there cells held at.tab tab (Some at.frame) (λ frames. request rules now (nav_use rules site at.frame tab.frames url by_self method) head) (frames_navigated rules at url tab.frames) isnt
+        on_frames_unseen other there cells held at.tab tab (Some at.frame) (λ frames. request rules now (nav_use rules site at.frame tab.frames url by_self method) head) (frames_navigated rules at url by_self tab.frames) isnt
         (λ frames all. request_unseen other there all rules now cells (nav_use rules site at.frame tab.frames url by_self method) head apart)
     act_unseen (Fetch url method head) =
         with_document_unseen other there cells held at tab (λ document. request rules now (fetch_use rules site at.frame tab.frames url method) head)
@@ -72,6 +75,8 @@ module _ (rules : List Rule) (now : ℕ) (site : PlainSite) (here : ℕ → Bool
     act_unseen Cookie = with_key_unseen site here cells held keyed at tab is found (read_cookies rules now site) other there apart (λ reader under. refl)
     act_unseen (SetCookie text) =
         with_key_unseen site here cells held keyed at tab is found (set_cookie rules now site text) other there apart (λ writer under. set_unseen other there held rules now cells site writer text apart)
+    act_unseen Has = with_document_unseen other there cells held at tab _ (λ document at_it. refl)
+    act_unseen (Request answer) = request_access_unseen rules now site cells held at tab answer other there apart isnt
     act_unseen Drop =
         on_frames_unseen other there cells held at.tab tab None (λ frames. answers ok) (frames_removed at tab.frames) isnt (λ frames all. refl)
     act_unseen Click =

@@ -11,7 +11,8 @@ use Rattle.agent_model.specs.PartitionedCells.{PartitionedKey, partitioned_order
 use Rattle.agent_model.specs.Partition.{Holdings, is_cell_under}
 use Rattle.agent_model.specs.Done.{SharedCells, Done, answers}
 use Rattle.agent_model.specs.Documents.{Keyed}
-use Rattle.agent_model.specs.CookieUse.{CookieUse, key_of, script_use}
+use Rattle.agent_model.specs.CookieUse.{CookieUse, key_of}
+use Rattle.agent_model.specs.CookieUses.{script_use}
 use Rattle.agent_model.specs.CookieStore.{BothCells, StoredText, StoredTexts, both_marked, cookie_texts, header_text, sent, store_text, store_texts}
 use Rattle.agent_model.specs.Cookies.{leaves, own_found, read_cookies, request, set_cookie}
 use Rattle.agent_model.proofs.KeptLemmas as kept
@@ -50,7 +51,7 @@ module _ (site : PlainSite) (here : ℕ → Bool) (held : Holdings) where
 module _ (site : PlainSite) (here : ℕ → Bool) (held : Holdings) (rules : List Rule) (now : ℕ) (cells : SharedCells) where
   module _ (how : CookieUse) (head : List HeadField) where
     abbrev both : Cookies → BothCells
-    both found = record { own = own_found how cells; partition = found }
+    both found = record { own = own_found rules how cells; partition = found }
 
     abbrev stored : Cookies → StoredTexts
     stored found = store_texts rules now how (both_marked now how (both found)) (cookie_texts head)
@@ -64,7 +65,7 @@ module _ (site : PlainSite) (here : ℕ → Bool) (held : Holdings) (rules : Lis
 
   module _ (top : PlainSite) (own : Keyed) where
     abbrev found_by : Cookies → BothCells
-    found_by found = record { own = own_found (script_use top own) cells; partition = found }
+    found_by found = record { own = own_found rules (script_use top own) cells; partition = found }
 
     -- a script reads
     pub read_seen : same_plain_site site top ≡ true → read_cookies rules now top own cells (held_at site here held) ≡ done_at site here (read_cookies rules now top own cells held)

@@ -6,8 +6,8 @@ pub mod TabLemmas
 pub mod BucketLemmas
 pub mod SessionLemmas
 pub mod CookieLemmas
+pub mod GrantLemmas
 pub mod TopLemmas
-pub mod TopKeptLemmas
 -- What a line makes of the world.
 pub mod PlacedLemmas
 pub mod ActLemmas

@@ -2,7 +2,6 @@
 use Rattle.std.proofs.Common.{◌≡◌, ℕ, Bool, true, false, cond, ◌||◌, List, [], ◌∷◌, map, reverse, Option, Some, None, refl, sym, ap, subst, ◌∙◌}
 use Rattle.std.proofs.lemmas.Bool.{true≢false, eq-eqb}
 use Rattle.std.specs.Prelude.{is_some}
-use Rattle.std.specs.Option.{option_map}
 use Rattle.std.specs.Cmp.{nat_cmp_total}
 use Rattle.std.specs.Ordering.{nat_cmp, eq_by_cmp}
 use Rattle.std.specs.FinMap as finite
@@ -15,11 +14,13 @@ use Rattle.frame_tree.specs.Tree.{PlainFrame, IsTree, chain_of, has_frame, top_s
 use Rattle.frame_tree.proofs.ShapeLemmas.{chain-begins, has-reversed}
 use Rattle.frame_tree.proofs.TopLemmas.{top-of-chain}
 use Rattle.live_state.specs.Tabs.{PlainTab}
-use Rattle.agent_model.specs.Partition.{Holdings, tab_named, with_tab}
+use Rattle.agent_model.specs.Partition.{Holdings, tab_named}
 use Rattle.agent_model.specs.Lines.{Places, site_at}
 use Rattle.one_store.specs.HeldAt.{IsKeyed}
 use Rattle.one_store.specs.WholeWorld.{IsPlacedAt, IsPlaced}
+use Rattle.agent_model.proofs.EachTabLemmas.{each_by_tabs}
 use Rattle.agent_model.proofs.KeptLemmas as kept
+use Rattle.agent_model.proofs.UnaskedLemmas.{at_site}
 use Rattle.one_store.proofs.TopLemmas.{keyed_by_tops}
 
 -- ---- the top of a tab has a site
@@ -76,11 +77,6 @@ module _ (places : Places) (held : Holdings) (placed_all : IsPlaced places held)
       at None none = cc (not_open none)
       at (Some site) is = (site, is)
 
--- a tab at a site
-pub at_site : (site : PlainSite) (place : Option PlainSite) → is_of site place ≡ true → place ≡ Some site
-at_site site None is = cc
-at_site site (Some here) is = ap Some (sym ((same_plain_site-Decides site here).0 is))
-
 pub is_there : (site : PlainSite) → is_of site (Some site) ≡ true
 is_there site = (same_plain_site-Decides site site).1 refl
 
@@ -95,18 +91,7 @@ keyed_at places held placed_all site =
 
 -- where tabs are is a matter of the tabs alone
 pub placed_by_tabs : (places : Places) (held other : Holdings) → other.tabs ≡ held.tabs → IsPlaced places held → IsPlaced places other
-placed_by_tabs places held other same placed_all number = subst (λ tabs. IsPlacedAt (site_at number places) (finite.get tabs number)) (sym same) (placed_all number)
-
--- each tab has other queues
-pub placed_mapped : (places : Places) (held : Holdings) (f : ℕ → PlainTab → PlainTab) → ((number : ℕ) (tab : PlainTab) → (f number tab).frames ≡ tab.frames)
-    → IsPlaced places held → IsPlaced places (record held { tabs = kept.mapped f held.tabs })
-placed_mapped places held f same placed_all number =
-    subst (IsPlacedAt (site_at number places)) (sym (kept.get_mapped nat_cmp nat_cmp_total nat_cmp-IsAntisymmetric f held.tabs number))
-    (at (tab_named number held) (placed_all number))
-  where
-    at : (tab : Option PlainTab) → IsPlacedAt (site_at number places) tab → IsPlacedAt (site_at number places) (option_map (f number) tab)
-    at None is = is
-    at (Some tab) is = subst (λ frames. IsTree frames × (top_site frames ≡ site_at number places)) (sym (same number tab)) is
+placed_by_tabs places = each_by_tabs (λ number. IsPlacedAt (site_at number places))
 
 -- a tab, and where it is, are changed together
 module _ (places after : Places) (held : Holdings) (number : ℕ) (place : Option PlainSite) (tab : Option PlainTab) where
@@ -120,9 +105,3 @@ module _ (places after : Places) (held : Holdings) (number : ℕ) (place : Optio
       at : (b : Bool) → IsPlacedAt (cond b place (finite.get places q)) (cond b tab (finite.get held.tabs q))
       at true = is
       at false = placed_all q
-
--- a tab that stays where it is
-pub placed_with : (places : Places) (held : Holdings) (number : ℕ) (tab : PlainTab) → IsPlacedAt (site_at number places) (Some tab) → IsPlaced places held → IsPlaced places (with_tab number tab held)
-placed_with places held number tab is =
-    placed_changed places places held number (site_at number places) (Some tab)
-    (sym (kept.unchanged nat_cmp nat_cmp_total nat_cmp-IsAntisymmetric places number)) is

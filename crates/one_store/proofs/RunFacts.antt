@@ -21,7 +21,8 @@ use Rattle.script_lines.specs.Script as script
 use Rattle.cookie_jar.specs.Sending.{joined}
 use Rattle.agent_model.specs.CookieCells.{Cookies, domain_order}
 use Rattle.agent_model.specs.PartitionedCells.{PartitionedKey, partitioned_order}
-use Rattle.agent_model.specs.CookieUse.{CookieUse, script_use, top_use}
+use Rattle.agent_model.specs.CookieUse.{CookieUse}
+use Rattle.agent_model.specs.CookieUses.{script_use, top_use}
 use Rattle.agent_model.specs.CookieStore.{BothCells, both_marked, cookie_texts, header_text, sent, store_texts}
 use Rattle.agent_model.specs.Partition.{Holdings, no_holdings, tab_named, area_of}
 use Rattle.agent_model.specs.Done.{SharedCells, Done, no_shared_cells, ok}

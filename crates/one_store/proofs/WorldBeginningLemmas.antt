@@ -1,5 +1,5 @@
 -- The world in which a run begins, from what is held for all sites then.
-use Rattle.std.proofs.Common.{◌≡◌, ℕ, sym, subst}
+use Rattle.std.proofs.Common.{◌≡◌, ℕ, [], sym, subst}
 use Rattle.std.specs.Cmp.{nat_cmp_total}
 use Rattle.std.specs.Ordering.{nat_cmp}
 use Rattle.std.specs.FinMap.{nat_cmp-IsAntisymmetric, get-empty}
@@ -30,6 +30,7 @@ beginning_whole start = λ i. record { partition = λ site. record { site = site
           persistent = kept.kept_nothing key_order key_order_total key_order_same (is_under site) i;
           sessions = kept.kept_nothing session_order session_order_total session_order_same (λ key. is_under site key.1) i;
           cookies = kept.kept_nothing partitioned_order partitioned_order_total partitioned_order_same (is_cell_under site) i;
+          grants = [];
         }
 
 -- and no tab is anywhere

@@ -23,7 +23,8 @@ use Rattle.agent_model.specs.SideEvents.{where_so, leaves, side_event}
 use Rattle.agent_model.specs.Rest.{rest_after, places_after}
 use Rattle.one_store.specs.WholeWorld.{partition_at, whole_world, IsPlaced}
 use Rattle.agent_model.specs.CookieCells.{Domain, domain_order}
-use Rattle.agent_model.specs.CookieUse.{CookieUse, consulted_by, top_use}
+use Rattle.agent_model.specs.CookieUse.{CookieUse, consulted_by}
+use Rattle.agent_model.specs.CookieUses.{top_use}
 use Rattle.agent_model.specs.Cookies.{request}
 use Rattle.agent_model.specs.TheMachine.{machine}
 use Rattle.agent_model.proofs.ApartLemmas.{with_cells}
@@ -33,7 +34,7 @@ use Rattle.agent_model.proofs.KeptLemmas.{AgreesBut}
 use Rattle.one_store.proofs.CookieLemmas.{request_seen, request_unseen}
 use Rattle.one_store.proofs.PlacedLemmas.{is_there, placed_changed}
 use Rattle.one_store.proofs.TabLemmas.{show_seen, show_gone, show_unseen}
-use Rattle.one_store.proofs.TopKeptLemmas.{opened_top}
+use Rattle.agent_model.proofs.TopKeptLemmas.{opened_top}
 use Rattle.one_store.proofs.WorldLemmas.{LineMakes, told_at, after_event, beside, line_consults, outcome_of}
 
 -- ---- a tab arrives
@@ -79,7 +80,7 @@ module _ (rules : List Rule) (places : Places) (tab : ℕ) (url : PlainAddress) 
 
     -- the shared cells that it consults, and what is done with them alone
     abbrev asks : Domain → Bool
-    asks = among (consulted_by how)
+    asks = among (consulted_by rules how)
 
     abbrev seen : SharedCells
     seen = restrict_cells domain_order asks cells
@@ -101,7 +102,7 @@ module _ (rules : List Rule) (places : Places) (tab : ℕ) (url : PlainAddress) 
       asked : (p : Partition) → p ≡ partition_at places before target → consulted (machine rules) target p event ≡ asks
       unfolding machine
       asked p here =
-          ap {B = Domain → Bool} (λ (q : Partition) domain. is_in bytes_eq domain (consulted_by (top_use q.site url method same_site)) || false) here
+          ap {B = Domain → Bool} (λ (q : Partition) domain. is_in bytes_eq domain (consulted_by rules (top_use q.site url method same_site)) || false) here
           ∙ λ i domain. or_none (asks domain) i
 
       -- the site's own event does the same

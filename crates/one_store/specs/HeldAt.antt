@@ -7,13 +7,15 @@ use Rattle.std.specs.Prelude.{◌≡◌, ℕ, Bool, true, Some}
 use Rattle.std.specs.FinMap as finite
 use Rattle.origin_site.specs.Site.{PlainSite}
 use Rattle.storage_key.specs.Key.{PlainKey}
+use Rattle.access_grants.specs.Part.{grants_under}
 use Rattle.live_state.specs.Tabs.{PlainTab}
 use Rattle.frame_tree.specs.Keys.{key_of_frame}
 use Rattle.agent_model.specs.Partition.{Holdings, is_cell_under, is_under, tab_named}
 use Rattle.agent_model.specs.Done.{Done}
 
--- what one site has of what is held for all: the tabs that are at it, and the storage whose key has
--- it. `here` is whether the tab of a number is at the site.
+-- what one site has of what is held for all: the tabs that are at it, the storage whose key has it,
+-- and the permissions under it, in their order. `here` is whether the tab of a number is at the
+-- site.
 abbrev pub held_at : PlainSite → (here : ℕ → Bool) → Holdings → Holdings
 held_at site here held =
     record {
@@ -22,6 +24,7 @@ held_at site here held =
       persistent = finite.retain_keys held.persistent (is_under site);
       sessions = finite.retain_keys held.sessions (λ key. is_under site key.1);
       cookies = finite.retain_keys held.cookies (is_cell_under site);
+      grants = grants_under site held.grants;
     }
 
 -- what an action did at a site, from what it did for all: what is held is the site's. The shared

@@ -82,7 +82,7 @@ fn a_new_cookie_is_planned_last(rt: HostRuntime) -> Result<(), Fail> {
         plan.steps(),
         [JarStep::Insert { place: 0, rank: 0 }].as_slice()
     );
-    assert_eq!(rt; plan.fresh().path.as_str(), "/foo/bar");
+    assert_eq!(rt; plan.fresh().texts.path.as_str(), "/foo/bar");
     let copy = jar.copy(alloc)?;
     assert_eq!(rt;
         copy.pick(alloc, &access_of("www.host.test", "/"), 1)?.len(),
@@ -261,10 +261,12 @@ fn a_cookie_is_added_replaced_and_removed(rt: HostRuntime) -> Result<(), Fail> {
         assert_eq!(rt; stored.kind, *kind, "{text}");
         assert_eq!(rt; stored.steps.as_slice(), [*step].as_slice(), "{text}");
     }
+    let before = jar.copy(alloc)?;
     jar.mark(&[0], 9);
-    let Some(cookie) = jar.cookie(0) else {
+    let (Some(cookie), Some(copy)) = (jar.cookie(0), before.cookie(0)) else {
         return Err(Fail::new("no cookie"));
     };
     assert_eq!(rt; (cookie.creation, cookie.last), (1, 9));
+    assert_eq!(rt; (copy.texts.value.as_str(), copy.last), ("2", 3));
     Ok(())
 }

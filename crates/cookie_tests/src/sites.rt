@@ -18,22 +18,32 @@ fn list_of(alloc: Global) -> Result<SuffixList, Fail> {
     Ok(SuffixList::read(alloc, &mut source)?)
 }
 
-// Who uses cookies: an address, the top-level site, whether it is first party, and whether a script.
-type Who = (&'static str, &'static str, bool, bool);
+// Who uses cookies: an address, the top-level site, and of what kind the use is.
+type Who = (&'static str, &'static str, Kind);
 
-const A: Who = ("https://www.a.test/", "https://a.test", true, false);
+#[derive(Clone, Copy, PartialEq, Eq)]
+enum Kind {
+    FirstParty,
+    FirstPartyScript,
+    ThirdParty,
+    Granted,
+}
 
-const A_HTTP: Who = ("http://a.test/", "http://a.test", true, false);
+const A: Who = ("https://www.a.test/", "https://a.test", Kind::FirstParty);
 
-const A_SCRIPT: Who = ("https://a.test/", "https://a.test", true, true);
+const A_HTTP: Who = ("http://a.test/", "http://a.test", Kind::FirstParty);
 
-const B: Who = ("https://b.test/", "https://b.test", true, false);
+const A_SCRIPT: Who = ("https://a.test/", "https://a.test", Kind::FirstPartyScript);
 
-const W: Who = ("https://w.test/", "https://w.test", true, false);
+const B: Who = ("https://b.test/", "https://b.test", Kind::FirstParty);
 
-const W_IN_A: Who = ("https://w.test/", "https://a.test", false, false);
+const W: Who = ("https://w.test/", "https://w.test", Kind::FirstParty);
 
-const W_IN_B: Who = ("https://w.test/", "https://b.test", false, false);
+const W_IN_A: Who = ("https://w.test/", "https://a.test", Kind::ThirdParty);
+
+const W_IN_B: Who = ("https://w.test/", "https://b.test", Kind::ThirdParty);
+
+const W_GRANTED_IN_A: Who = ("https://w.test/", "https://a.test", Kind::Granted);
 
 // A response with these texts, which stand between bars, in fields of this name.
 fn head_of(alloc: Global, name: &str, texts: &str) -> Result<Vec<HeadField>, Fail> {
@@ -59,7 +69,9 @@ fn answer(
 ) -> Result<ReplyBody, Fail>
     requires now { now ≤ 253402300799 }
 {
-    let (address, site, first, script) = who;
+    let (address, site, kind) = who;
+    let script = kind == Kind::FirstPartyScript;
+    let first = script || kind == Kind::FirstParty;
     let url = Address::read(alloc, address)?;
     let top = Site::read(alloc, site)?;
     let how = CookieUse {
@@ -70,6 +82,7 @@ fn answer(
         top_load: false,
         safe: true,
         script,
+        granted: kind == Kind::Granted,
     };
     if !script {
         let head = head_of(alloc, name, texts)?;
@@ -142,7 +155,23 @@ const STEPS: &[Step] = &[
         "p=3",
         &["removed", "added", "replaced"],
     ),
-    (W, "Cookie", "", "p=5", &[]),
+    (
+        W,
+        "Set-Cookie",
+        "g=1; Secure; SameSite=None",
+        "p=5",
+        &["added"],
+    ),
+    (
+        W_GRANTED_IN_A,
+        "Set-Cookie",
+        "h=1; Secure; SameSite=None|i=1; Secure",
+        "g=1; p=1",
+        &["added", "same-site"],
+    ),
+    (W_IN_A, "Cookie", "", "p=1", &[]),
+    (A, "Cookie", "", "s=2", &[]),
+    (W, "Cookie", "", "p=5; g=1; h=1", &[]),
 ];
 
 #[test]
@@ -174,9 +203,13 @@ fn fill(
     Ok(())
 }
 
-const AT_X: Who = ("https://www.a.test/x", "https://a.test", true, false);
+const AT_X: Who = ("https://www.a.test/x", "https://a.test", Kind::FirstParty);
 
-const SCRIPT_AT_X: Who = ("https://www.a.test/x", "https://a.test", true, true);
+const SCRIPT_AT_X: Who = (
+    "https://www.a.test/x",
+    "https://a.test",
+    Kind::FirstPartyScript,
+);
 
 // What goes out to `/x`, where a full cell had its first cookie used by this one before one more.
 fn left_by(rt: &impl Abort, alloc: Global, user: Who, want: &str) -> Result<(), Fail> {
@@ -203,7 +236,7 @@ fn left_by(rt: &impl Abort, alloc: Global, user: Who, want: &str) -> Result<(), 
         "l=1; Path=/z",
     )?;
     let body = answer(alloc, &mut cookies, &list, 4, AT_X, "Cookie", "")?;
-    assert!(rt; is_answer(&body, want, &[]), "used by {}", user.3);
+    assert!(rt; is_answer(&body, want, &[]), "used at {}", user.0);
     Ok(())
 }
 

@@ -3,7 +3,7 @@ use Rattle.std.proofs.Common.{◌≡◌, Bool, true, false, cond, [], ◌∷◌,
 use Rattle.std.specs.Prelude.{Result, Ok, Err, OnOk, OnErr, IfSome, is_some, option_copied, unwrap_or}
 use Rattle.std.specs.FinMap.{get-empty}
 use Rattle.std.specs.Ordering.{eq_by_cmp}
-use Rattle.unwinding.specs.FiniteCells.{get_cell, set_cell, list_of}
+use Rattle.unwinding.specs.FiniteCells.{get_cell, list_of}
 use Rattle.unwinding.proofs.FiniteCellsLemmas as cells
 use Rattle.key_map.specs.Entries.{map_get, map_put}
 use Rattle.partition_limits.specs.declared.tally.CellKind.{CellKind}

@@ -3,7 +3,6 @@ use Rattle.std.proofs.Common.{◌≡◌, Bool, true, false, cond, [], Option, So
 use Rattle.std.specs.Prelude.{IfSome, is_some}
 use Rattle.std.specs.Ordering.{eq_by_cmp}
 use Rattle.key_map.specs.Entries.{map_get, map_set}
-use Rattle.partition_limits.specs.declared.tally.CellKind.{CellKind}
 use Rattle.cookie_jar.specs.declared.key.CellKey.{CellKey}
 use Rattle.cookie_jar.specs.Cookie.{PlainJar}
 use Rattle.cookie_jar.specs.Key.{PlainKey, plain_key}

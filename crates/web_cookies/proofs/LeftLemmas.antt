@@ -7,17 +7,17 @@ use Rattle.suffix_list.specs.Suffix.{Rule}
 use Rattle.cookie_jar.specs.Key.{PlainKey, OwnCell}
 use Rattle.reply_lines.specs.Reply.{PlainBody}
 use Rattle.std.specs.Prelude.{List}
-use Rattle.agent_model.specs.CookieCells.{Cookies, Domain, domain_order}
+use Rattle.agent_model.specs.CookieCells.{Domain, domain_order}
 use Rattle.agent_model.specs.PartitionedCells.{PartitionedKey, partitioned_order}
 use Rattle.agent_model.specs.Partition.{Holdings}
 use Rattle.agent_model.specs.Done.{Effect}
-use Rattle.agent_model.specs.CookieUse.{CookieUse, key_of, own_domain}
+use Rattle.agent_model.specs.CookieUse.{CookieUse, cookie_domain, key_of, uses_own}
 use Rattle.agent_model.specs.CookieStore.{BothCells}
 use Rattle.agent_model.specs.Cookies.{both_found, leaves, own_left}
 use Rattle.agent_model.proofs.CookieCellsLemmas.{domain_order_total, domain_order_same, same_cells}
 use Rattle.agent_model.proofs.PartitionedLemmas.{partitioned_order_total, partitioned_order_same}
 use Rattle.web_cookies.specs.Stored.{Entries, IsDoneBy, held_with, shared_in, partitioned_in}
-use Rattle.web_cookies.specs.Cells.{cell_key, cell_order, cookies_at}
+use Rattle.web_cookies.specs.Cells.{cell_key, cookies_at}
 use Rattle.web_cookies.specs.Found.{HoldSame, cookies_if, found, is_key, left_at, own_key, partition_key}
 use Rattle.web_cookies.proofs.CellLemmas.{shared_at, partitioned_at}
 
@@ -33,8 +33,8 @@ partitioned_same old new same =
     (λ k. partitioned_at k new ∙ same (cell_key k) ∙ sym (partitioned_at k old))
 
 module _ (rules : List Rule) (how : CookieUse) where
-  own_same : (old new : Entries) → HoldSame old new → cookies_if (own_key how) new ≡ cookies_if (own_key how) old
-  own_same old new same = at (own_key how)
+  own_same : (old new : Entries) → HoldSame old new → cookies_if (own_key rules how) new ≡ cookies_if (own_key rules how) old
+  own_same old new same = at (own_key rules how)
     where
       at : (key : Option PlainKey) → cookies_if key new ≡ cookies_if key old
       at None = refl
@@ -47,12 +47,12 @@ module _ (rules : List Rule) (how : CookieUse) where
   -- ---- what a use finds
 
   own_is : (entries : Entries)
-      → cond how.context.first (get_cell domain_order (shared_in entries) (own_domain how)) [] ≡ cookies_if (own_key how) entries
-  own_is entries = at how.context.first
+      → cond (uses_own how) (get_cell domain_order (shared_in entries) (cookie_domain rules how)) [] ≡ cookies_if (own_key rules how) entries
+  own_is entries = at (uses_own how)
     where
       at : (first : Bool)
-          → cond first (get_cell domain_order (shared_in entries) (own_domain how)) [] ≡ cookies_if (cond first (Some (OwnCell (own_domain how))) None) entries
-      at true = shared_at (own_domain how) entries
+          → cond first (get_cell domain_order (shared_in entries) (cookie_domain rules how)) [] ≡ cookies_if (cond first (Some (OwnCell (cookie_domain rules how))) None) entries
+      at true = shared_at (cookie_domain rules how) entries
       at false = refl
 
   pub found_is : (entries : Entries) (held : Holdings) → both_found rules how (shared_in entries) (held_with entries held) ≡ found rules how entries
@@ -65,24 +65,24 @@ module _ (rules : List Rule) (how : CookieUse) where
   IsLeft both old new = (key : PlainKey) → cookies_at key new ≡ left_at rules how both key (cookies_at key old)
 
   module _ (both : BothCells) (old new : Entries) (left : IsLeft both old new) where
-    pub shared_left : shared_in new ≡ own_left how both.own (shared_in old)
-    shared_left = at how.context.first (λ d. shared_at d new ∙ left (OwnCell d) ∙ ap (λ r. cond (is_key (OwnCell d) (own_key how)) both.own r) (sym (shared_at d old)))
+    pub shared_left : shared_in new ≡ own_left rules how both.own (shared_in old)
+    shared_left = at (uses_own how) (λ d. shared_at d new ∙ left (OwnCell d) ∙ ap (λ r. cond (is_key (OwnCell d) (own_key rules how)) both.own r) (sym (shared_at d old)))
       where
         at : (first : Bool)
-            → ((d : Domain) → get_cell domain_order (shared_in new) d ≡ cond (is_key (OwnCell d) (cond first (Some (OwnCell (own_domain how))) None)) both.own (get_cell domain_order (shared_in old) d))
-            → shared_in new ≡ cond first (set_cell domain_order (own_domain how) both.own (shared_in old)) (shared_in old)
-        at true is = same_cells _ _ (λ d. is d ∙ sym (cells.get_set domain_order domain_order_total domain_order_same d (own_domain how) both.own (shared_in old)))
+            → ((d : Domain) → get_cell domain_order (shared_in new) d ≡ cond (is_key (OwnCell d) (cond first (Some (OwnCell (cookie_domain rules how))) None)) both.own (get_cell domain_order (shared_in old) d))
+            → shared_in new ≡ cond first (set_cell domain_order (cookie_domain rules how) both.own (shared_in old)) (shared_in old)
+        at true is = same_cells _ _ (λ d. is d ∙ sym (cells.get_set domain_order domain_order_total domain_order_same d (cookie_domain rules how) both.own (shared_in old)))
         at false is = same_cells _ _ is
 
     pub partitioned_left : partitioned_in new ≡ set_cell partitioned_order (key_of rules how) both.partition (partitioned_in old)
     partitioned_left =
         cells.same_cells partitioned_order partitioned_order_total partitioned_order_same _ _
         (λ k. partitioned_at k new ∙ left (cell_key k)
-        ∙ ap (λ b. cond (eq_by_cmp partitioned_order k (key_of rules how)) both.partition (cond b both.own (cookies_at (cell_key k) old))) (none k how.context.first)
+        ∙ ap (λ b. cond (eq_by_cmp partitioned_order k (key_of rules how)) both.partition (cond b both.own (cookies_at (cell_key k) old))) (none k (uses_own how))
         ∙ ap (λ r. cond (eq_by_cmp partitioned_order k (key_of rules how)) both.partition r) (sym (partitioned_at k old))
         ∙ sym (cells.get_set partitioned_order partitioned_order_total partitioned_order_same k (key_of rules how) both.partition (partitioned_in old)))
       where
-        none : (k : PartitionedKey) (first : Bool) → is_key (cell_key k) (cond first (Some (OwnCell (own_domain how))) None) ≡ false
+        none : (k : PartitionedKey) (first : Bool) → is_key (cell_key k) (cond first (Some (OwnCell (cookie_domain rules how))) None) ≡ false
         none k true = refl
         none k false = refl
 

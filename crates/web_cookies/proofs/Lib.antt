@@ -9,3 +9,5 @@ pub mod HeaderLemmas
 pub mod PreparedLemmas
 -- Texts that are stored.
 pub mod TextLemmas
+-- Values of the definitions.
+mod StandardFacts

@@ -14,7 +14,7 @@ use Rattle.script_lines.specs.Script.{HeadField}
 use Rattle.agent_model.specs.CookieCells.{Cookies}
 use Rattle.agent_model.specs.Partition.{Holdings}
 use Rattle.agent_model.specs.Done.{Effect, answers}
-use Rattle.agent_model.specs.CookieUse.{CookieUse, own_domain}
+use Rattle.agent_model.specs.CookieUse.{CookieUse, cookie_domain, uses_own}
 use Rattle.agent_model.specs.CookieStore.{BothCells, both_marked, cookie_texts, header_text, own_places, partition_places, sent, store_text, store_texts}
 use Rattle.agent_model.specs.Cookies.{leaves, read_cookies_by, request, set_cookie_by}
 use Rattle.web_cookies.specs.Stored.{Entries, IsDoneBy, held_with, shared_in}
@@ -68,16 +68,16 @@ module _ (rules : List Rule) (how : CookieUse) (entries : Entries) (prepared : P
     done = λ new after. done_leaves rules how both entries new (λ key. after key ∙ left key) does (body_of prepared.body) is;
   }
 
-  not_own : is_key (partition_key rules how) (own_key how) ≡ false
-  not_own = at how.context.first
+  not_own : is_key (partition_key rules how) (own_key rules how) ≡ false
+  not_own = at (uses_own how)
     where
-      at : (first : Bool) → is_key (partition_key rules how) (cond first (Some (OwnCell (own_domain how))) None) ≡ false
+      at : (first : Bool) → is_key (partition_key rules how) (cond first (Some (OwnCell (cookie_domain rules how))) None) ≡ false
       at true = refl
       at false = refl
 
   -- both cells become those of jars
   pub stored_left : (both : BothCells)
-      → IsChange (own_key how) (λ cookies. both.own) prepared.own
+      → IsChange (own_key rules how) (λ cookies. both.own) prepared.own
       → IsChange (Some (partition_key rules how)) (λ cookies. both.partition) (Some prepared.partition)
       → LeavesBoth rules how both entries prepared
   stored_left both own partition = λ key.
@@ -86,7 +86,7 @@ module _ (rules : List Rule) (how : CookieUse) (entries : Entries) (prepared : P
 
   -- cookies are marked in both cells
   module _ (now : ℕ) (own_at partition_at : List ℕ)
-      (own : IsChange (own_key how) (marked own_at (pos now)) prepared.own)
+      (own : IsChange (own_key rules how) (marked own_at (pos now)) prepared.own)
       (partition : IsChange (Some (partition_key rules how)) (marked partition_at (pos now)) (Some prepared.partition))
       (are_own : own_at ≡ own_places now how (found rules how entries))
       (are_partition : partition_at ≡ partition_places now how (found rules how entries)) where
@@ -104,7 +104,7 @@ module _ (rules : List Rule) (how : CookieUse) (entries : Entries) (prepared : P
         ∙ ap (λ b. cond b (marked partition_at (pos now) (changed_if prepared.own key cookies)) (changed_if prepared.own key cookies)) (own_tie key)
         ∙ ap (marked partition_at (pos now)) (own key cookies ∙ ap (λ b. cond b (marked own_at (pos now) cookies) cookies) not_own)
         ∙ ap (λ places. marked places (pos now) cookies) are_partition
-        ∙ sym (ap (λ b. cond b (both_marked now how (found rules how entries)).partition (cond (is_key key (own_key how)) (both_marked now how (found rules how entries)).own cookies)) (own_tie key))
+        ∙ sym (ap (λ b. cond b (both_marked now how (found rules how entries)).partition (cond (is_key key (own_key rules how)) (both_marked now how (found rules how entries)).own cookies)) (own_tie key))
 
     own_cookies : (key : PlainKey) (own : Option PlainKey) (b : Bool) → is_key key own ≡ b
         → cond b (marked own_at (pos now) (cookies_at key entries)) (cookies_at key entries)
@@ -119,9 +119,9 @@ module _ (rules : List Rule) (how : CookieUse) (entries : Entries) (prepared : P
         partition key (changed_if prepared.own key cookies)
         ∙ ap (λ b. cond b (marked partition_at (pos now) (changed_if prepared.own key cookies)) (changed_if prepared.own key cookies)) apart
         ∙ own key cookies
-        ∙ own_cookies key (own_key how) (is_key key (own_key how)) refl
-        ∙ ap (λ places. cond (is_key key (own_key how)) (marked places (pos now) (cookies_if (own_key how) entries)) cookies) are_own
-        ∙ sym (ap (λ b. cond b (both_marked now how (found rules how entries)).partition (cond (is_key key (own_key how)) (both_marked now how (found rules how entries)).own cookies)) apart)
+        ∙ own_cookies key (own_key rules how) (is_key key (own_key rules how)) refl
+        ∙ ap (λ places. cond (is_key key (own_key rules how)) (marked places (pos now) (cookies_if (own_key rules how) entries)) cookies) are_own
+        ∙ sym (ap (λ b. cond b (both_marked now how (found rules how entries)).partition (cond (is_key key (own_key rules how)) (both_marked now how (found rules how entries)).own cookies)) apart)
 
     pub marked_left : LeavesBoth rules how (both_marked now how (found rules how entries)) entries prepared
     marked_left = λ key. at key (eq_by_cmp cell_order key (partition_key rules how)) refl
@@ -194,7 +194,7 @@ module _ (rules : List Rule) (now : ℕ) (how : CookieUse) where
   -- a request whose response stores nothing
   pub marking_prepared : (entries : Entries) (head : List HeadField) (prepared : Prepared) (own : Option PlainKey) (partition : PlainKey)
       (own_at partition_at : List ℕ) (header : Option (List ℕ))
-      → own ≡ own_key how → partition ≡ partition_key rules how
+      → own ≡ own_key rules how → partition ≡ partition_key rules how
       → IsChange own (marked own_at (pos now)) prepared.own
       → IsChange (Some partition) (marked partition_at (pos now)) (Some prepared.partition)
       → own_at ≡ own_places now how (found rules how entries) → partition_at ≡ partition_places now how (found rules how entries)

@@ -1,5 +1,5 @@
 -- Texts that are stored one after another.
-use Rattle.std.proofs.Common.{◌≡◌, ◌⊎◌, inl, inr, ℕ, ℤ, pos, sym, Option, Some, None, Bool, true, false, ◌||◌, cond, List, [], ◌∷◌, ◌++◌, map, filter, refl, ap, ◌∙◌}
+use Rattle.std.proofs.Common.{◌≡◌, inl, inr, ℕ, ℤ, pos, sym, Option, Some, None, Bool, true, false, ◌||◌, cond, List, [], ◌∷◌, ◌++◌, map, filter, refl, ap, ◌∙◌}
 use Rattle.std.specs.Prelude.{codes, Result, Ok, Err, IfOk, OnErr}
 use Rattle.agent_base.specs.Answers.{Answers}
 use Rattle.setcookie_parse.specs.SetCookie.{CookieText, Kept}

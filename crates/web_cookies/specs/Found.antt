@@ -5,8 +5,8 @@ use Rattle.std.specs.Ordering.{eq_by_cmp}
 use Rattle.suffix_list.specs.Suffix.{Rule}
 use Rattle.cookie_jar.specs.Cookie.{PlainJar}
 use Rattle.cookie_jar.specs.Key.{PlainKey, OwnCell, plain_key}
-use Rattle.agent_model.specs.CookieCells.{Cookies}
-use Rattle.agent_model.specs.CookieUse.{CookieUse, key_of, own_domain}
+use Rattle.agent_model.specs.CookieCells.{Cookies, Domain}
+use Rattle.agent_model.specs.CookieUse.{CookieUse, cookie_domain, key_of, uses_own}
 use Rattle.cookie_jar.specs.Sending.{joined}
 use Rattle.agent_model.specs.CookieStore.{BothCells, own_places, partition_places, sent}
 use Rattle.web_cookies.specs.Stored.{Entries}
@@ -18,9 +18,13 @@ use Rattle.web_cookies.specs.declared.keys.UseKeys.{UseKeys}
 use Rattle.web_cookies.specs.declared.prepared.Prepared.{Prepared}
 use Rattle.web_cookies.specs.declared.sending.Sending.{Sending}
 
--- the key of the unpartitioned cell, where the context is first party
-abbrev pub own_key : CookieUse → Option PlainKey
-own_key how = if how.context.first then Some (OwnCell (own_domain how)) else None
+-- the key of the unpartitioned cell of a domain, where a use has one
+abbrev pub own_key_at : Domain → CookieUse → Option PlainKey
+own_key_at domain how = if uses_own how then Some (OwnCell domain) else None
+
+-- the key of its unpartitioned cell, which is that of its domain
+abbrev pub own_key : List Rule → CookieUse → Option PlainKey
+own_key rules how = own_key_at (cookie_domain rules how) how
 
 -- the key of the partitioned cell
 abbrev pub partition_key : List Rule → CookieUse → PlainKey
@@ -28,7 +32,7 @@ partition_key rules how = cell_key (key_of rules how)
 
 -- the keys of a use
 pub record AreKeysOf (rules : List Rule) (how : CookieUse) (keys : UseKeys) : Type 0 where
-  pub own : option_map plain_key keys.own ≡ own_key how
+  pub own : option_map plain_key keys.own ≡ own_key rules how
   pub partition : plain_key keys.partition ≡ partition_key rules how
 
 -- the cookies of a key that there may be
@@ -40,7 +44,7 @@ cookies_if (Some key) entries = cookies_at key entries
 abbrev pub found : List Rule → CookieUse → Entries → BothCells
 found rules how entries =
     record {
-      own = cookies_if (own_key how) entries;
+      own = cookies_if (own_key rules how) entries;
       partition = cookies_at (partition_key rules how) entries;
     }
 
@@ -57,7 +61,7 @@ is_key key (Some other) = eq_by_cmp cell_order key other
 abbrev pub left_at : List Rule → CookieUse → BothCells → PlainKey → Cookies → Cookies
 left_at rules how both key cookies =
     if eq_by_cmp cell_order key (partition_key rules how) then both.partition
-    else (if is_key key (own_key how) then both.own else cookies)
+    else (if is_key key (own_key rules how) then both.own else cookies)
 
 -- what was prepared leaves both cells of a use so
 abbrev pub LeavesBoth : List Rule → CookieUse → BothCells → Entries → Prepared → Type 0

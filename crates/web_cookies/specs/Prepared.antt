@@ -1,7 +1,7 @@
 -- What was prepared for an effect on cookies: done to the cookies as they stand, it makes of them
 -- what the effect does.
 -- Source: none.
-use Rattle.std.specs.Prelude.{◌≡◌, ⊤, Bool, true, Option, Some, None, is_some, if◌then◌else◌}
+use Rattle.std.specs.Prelude.{◌≡◌, ⊤, true, Option, Some, None, is_some, if◌then◌else◌}
 use Rattle.std.specs.Ordering.{eq_by_cmp}
 use Rattle.cookie_jar.specs.Key.{PlainKey, plain_key}
 use Rattle.reply_lines.specs.Plain.{body_of}

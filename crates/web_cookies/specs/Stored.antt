@@ -2,7 +2,7 @@
 -- the partitioned cells. And what it is that an effect of that machine is done to them.
 -- Source: RFC 6265bis, "Storage Model"; CHIPS, "Partitioning model".
 -- Our own choice: a cell that is empty and one that is absent are the same.
-use Rattle.std.specs.Prelude.{◌≡◌, ℕ, Bool, List, [], ◌∷◌}
+use Rattle.std.specs.Prelude.{◌≡◌, List, [], ◌∷◌}
 use Rattle.unwinding.specs.FiniteCells.{set_cell}
 use Rattle.cookie_jar.specs.declared.key.CellKey.{CellKey}
 use Rattle.cookie_jar.specs.Cookie.{PlainJar}

@@ -16,4 +16,5 @@ plain_use how =
       top_load = how.top_load;
       safe = how.safe;
       script = how.script;
+      granted = how.granted;
     }

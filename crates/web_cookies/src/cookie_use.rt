@@ -13,7 +13,7 @@ use storage_key::Context;
 pub struct CookieUse<'a> {
     /// The address whose cookies are used; of a script, that of its document.
     pub url: &'a Address,
-    /// The top-level site. The unpartitioned cookies of a first party are those of its domain.
+    /// The top-level site.
     pub top: &'a Site,
     pub context: Context,
     /// Whether the request is same-site; of a script, whether its document is first party.
@@ -24,6 +24,8 @@ pub struct CookieUse<'a> {
     pub safe: bool,
     /// Whether a script reads or sets.
     pub script: bool,
+    /// Whether storage access is granted.
+    pub granted: bool,
 }
 
 /// A use in the words of `cookie_jar`.
@@ -40,6 +42,6 @@ pub fn access_of<'a>(how: &CookieUse<'a>) -> Access<'a>
         top_load: how.top_load,
         safe: how.safe,
         script: how.script,
-        granted: false,
+        granted: how.granted,
     }
 }

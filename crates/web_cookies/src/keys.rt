@@ -11,7 +11,8 @@ use origin_site::domain_of;
 use std::alloc::Global;
 use suffix_list::SuffixList;
 
-/// The keys of the cells of a use. Only a first party has an unpartitioned one.
+/// The keys of the cells of a use. There is an unpartitioned one for a first party and where access
+/// is granted.
 #[derive(Debug, Drop)]
 pub struct UseKeys {
     pub own: Option<CellKey>,
@@ -24,7 +25,7 @@ pub fn keys_of(alloc: Global, list: &SuffixList, how: &CookieUse<'_>) -> Result<
 {
     let domain = domain_of(how.url.host.as_str(), how.url.ip, list);
     Ok(UseKeys {
-        own: own_key(alloc, how)?,
+        own: own_key(alloc, how, domain)?,
         partition: CellKey::Partition {
             top: how.top.copy(alloc)?,
             bit: how.context.bit,
@@ -33,13 +34,13 @@ pub fn keys_of(alloc: Global, list: &SuffixList, how: &CookieUse<'_>) -> Result<
     })
 }
 
-fn own_key(alloc: Global, how: &CookieUse<'_>) -> Result<Option<CellKey>, NoMemory>
-    ensures { IfOk result (λ key. option_map plain_key key ≡ spec.own_key (plain_use how.now)) }
+fn own_key(alloc: Global, how: &CookieUse<'_>, domain: &str) -> Result<Option<CellKey>, NoMemory>
+    ensures { IfOk result (λ key. option_map plain_key key
+        ≡ spec.own_key_at domain.now (plain_use how.now)) }
 {
-    if !how.context.first {
+    if !how.context.first && !how.granted {
         return Ok(None);
     }
-    Ok(Some(CellKey::Own {
-        domain: String::from_str(alloc, how.top.host.as_str())?,
-    }))
+    let domain = String::from_str(alloc, domain)?;
+    Ok(Some(CellKey::Own { domain }))
 }

@@ -1,9 +1,8 @@
 -- One field more, and all of them.
-use Rattle.std.proofs.Common.{◌≡◌, ◌++◌, ◌∷◌, ◌+◌, [], List, map, take, length, refl, sym, ap, arith, ◌∙◌}
+use Rattle.std.proofs.Common.{◌≡◌, ◌++◌, ◌∷◌, ◌+◌, [], map, take, refl, sym, ap, ◌∙◌}
 use Rattle.std.proofs.lemmas.List.{map-append, take_all, take_more}
 use Rattle.script_lines.specs.Plain.{head_field_of}
-use Rattle.script_lines.specs.Script.{HeadField}
-use Rattle.agent_model.specs.CookieStore.{BothCells, StoredTexts, cookie_texts, store_texts}
+use Rattle.agent_model.specs.CookieStore.{cookie_texts, store_texts}
 use Rattle.web_cookies.specs.Uses.{plain_use}
 use Rattle.web_cookies.proofs.TextLemmas.{texts_step}
 use Rattle.web_cookies.proofs.both.BothJars.store_all.Goals as goal

@@ -2,9 +2,7 @@
 use Rattle.std.proofs.Common.{ap, sym, subst, ◌∙◌}
 use Rattle.std.specs.Prelude.{is_some}
 use Rattle.std.specs.Option.{option_copied_mut}
-use Rattle.key_map.specs.Entries.{map_set}
 use Rattle.web_cookies.specs.Cells.{HaveKinds, cookies_at, jar_at}
-use Rattle.web_cookies.proofs.OrderOfCells.{order}
 use Rattle.web_cookies.proofs.ChangeLemmas.{change_none, change_set, kept_set, kind_set}
 use Rattle.web_cookies.proofs.PreparedLemmas.{kinds_set}
 use Rattle.web_cookies.proofs.cookies.Cookies.change.Goals as goal

@@ -1,5 +1,4 @@
 -- There is room for both jars.
-use Rattle.std.proofs.Common.{map}
 use Rattle.std.specs.Prelude.{option_map}
 use Rattle.cookie_jar.specs.Key.{plain_key}
 use Rattle.web_cookies.specs.Uses.{plain_use}

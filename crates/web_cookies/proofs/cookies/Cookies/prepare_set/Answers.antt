@@ -1,5 +1,5 @@
 -- The text is stored in copies of both cells.
-use Rattle.std.proofs.Common.{◌≡◌, sym, ap, ◌∙◌}
+use Rattle.std.proofs.Common.{sym, ap, ◌∙◌}
 use Rattle.reply_lines.specs.Plain.{body_of}
 use Rattle.agent_model.specs.CookieStore.{store_text}
 use Rattle.web_cookies.specs.Uses.{plain_use}

@@ -1,5 +1,5 @@
 -- The cells that are marked, and the texts that are stored in them.
-use Rattle.std.proofs.Common.{◌≡◌, map, refl, ap, ◌∙◌}
+use Rattle.std.proofs.Common.{map, ap, ◌∙◌}
 use Rattle.std.specs.Prelude.{option_map, string_bytes}
 use Rattle.reply_lines.specs.Plain.{body_of}
 use Rattle.script_lines.specs.Plain.{head_field_of}

@@ -5,7 +5,7 @@ use Rattle.suffix_list.specs.Suffix.{Rule}
 use Rattle.origin_site.specs.Site.{PlainSite}
 use Rattle.agent_base.specs.declared.refusals.Label.{Label}
 use Rattle.live_state.specs.Tabs.{PlainTab}
-use Rattle.script_lines.specs.Script.{DocumentAction, Frame, Nav, Drop, Click, Fetch, Set, Get, Del, Clear, Len, Key, Events, Cookie, SetCookie, Persisted, Estimate, Persist}
+use Rattle.script_lines.specs.Script.{DocumentAction, Frame, Nav, Drop, Click, Fetch, Set, Get, Del, Clear, Len, Key, Events, Cookie, SetCookie, Has, Request, Persisted, Estimate, Persist}
 use Rattle.script_lines.specs.Script.{PlainAction, Tick, Open, Close, Go, Evict, Act}
 use Rattle.agent_model.specs.Done.{Effect}
 use Rattle.agent_model.specs.Documents.{Keyed, with_key}
@@ -49,6 +49,8 @@ module _ (rules : List Rule) (now : ℕ) (at : Label) (P : (PlainSite → PlainT
   keyed_does Events is done = absurd (cc is)
   keyed_does Cookie is done = done
   keyed_does (SetCookie text) is done = done
+  keyed_does Has is done = absurd (cc is)
+  keyed_does (Request answer) is done = absurd (cc is)
   keyed_does Persisted is done = done
   keyed_does Estimate is done = done
   keyed_does (Persist answer) is done = done

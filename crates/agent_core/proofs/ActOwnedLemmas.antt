@@ -12,11 +12,16 @@ use Rattle.frame_tree.specs.Tree.{PlainFrame, document_of, has_frame}
 use Rattle.local_area.specs.Area.{area_get, area_put}
 use Rattle.local_area.specs.Put.{put_answer}
 use Rattle.live_state.specs.Tabs.{PlainTab, made_tab, queue_of}
-use Rattle.reply_lines.specs.Reply.{Plain}
+use Rattle.access_grants.specs.declared.outcome.Outcome.{Outcome}
+use Rattle.access_grants.specs.Request.{has_access}
+use Rattle.live_state.specs.FramesInPlace.{requested}
+use Rattle.reply_lines.specs.Reply.{Plain, Truth}
+use Rattle.script_lines.specs.declared.words.Prompt.{Prompt}
 use Rattle.script_lines.specs.Script as script
-use Rattle.script_lines.specs.Script.{DocumentAction, HeadField, Frame, Nav, Drop, Click, Fetch, Set, Get, Del, Clear, Len, Key, Cookie, SetCookie, Persisted, Estimate, Persist}
+use Rattle.script_lines.specs.Script.{DocumentAction, HeadField, Frame, Nav, Drop, Click, Fetch, Set, Get, Del, Clear, Len, Key, Cookie, SetCookie, Has, Request, Persisted, Estimate, Persist}
 use Rattle.agent_model.specs.Partition.{Holdings, SessionAreas, tab_named, with_tab}
-use Rattle.agent_model.specs.CookieUse.{CookieUse, fetch_use, frame_use, nav_use}
+use Rattle.agent_model.specs.CookieUse.{CookieUse}
+use Rattle.agent_model.specs.CookieUses.{fetch_use, frame_use, nav_use}
 use Rattle.agent_model.specs.Cookies.{read_cookies, request, set_cookie}
 use Rattle.agent_model.specs.Documents.{by_document, with_document}
 use Rattle.agent_model.specs.Done.{Effect, SharedCells, answers, ok}
@@ -24,6 +29,7 @@ use Rattle.agent_model.specs.Frames.{on_frames, frames_added, frames_navigated, 
 use Rattle.agent_model.specs.AreaActions.{pairs_of, change_event, set_item, remove_item, clear_area, get_item, get_name, get_length}
 use Rattle.agent_model.specs.Buckets.{get_mode, get_usage, persist}
 use Rattle.agent_model.specs.Queues.{take_queue, take_events}
+use Rattle.agent_model.specs.StorageAccess.{access_facts, answer_of, decision_word, done_by, embedded_site, keeps_grant, outcome_of, request_access, tell_access}
 use Rattle.agent_model.specs.Lines.{Places}
 use Rattle.agent_model.specs.SiteStep.{act_in}
 use Rattle.one_store.specs.WholeWorld.{IsPlaced}
@@ -48,6 +54,38 @@ module _ (cells : SharedCells) (held : Holdings) (tab : ℕ) where
       at true = λ own. refl
       at false = λ own. refl
 
+  -- ---- storage access
+
+  has_leaves : (label : Label) (open_tab : PlainTab) (rules : List Rule) (now : ℕ) → Leaves cells held tab (tell_access rules now label open_tab cells held)
+  has_leaves label open_tab rules now = at (document_of label.frame open_tab.frames)
+    where
+      at : (document : Option PlainDocument)
+          → Leaves cells held tab (by_document document (λ document. answers (Truth (has_access (access_facts rules now label.frame open_tab.frames document)))) cells held)
+      at None = λ own. refl
+      at (Some document) = λ own. refl
+
+  done_leaves : (label : Label) (open_tab : PlainTab) (top site : PlainSite) (outcome : Option Outcome) → Leaves cells held tab (done_by outcome label open_tab top site cells held)
+  done_leaves label open_tab top site None = λ own. refl
+  done_leaves label open_tab top site (Some outcome) =
+      frames_leave label.tab open_tab None (λ frames. keeps_grant outcome.kept top site (Plain (decision_word outcome.decision)))
+      (Ok (requested outcome.sets_flag outcome.consumes label.frame open_tab.frames)) (λ frames h. refl)
+
+  request_leaves : (label : Label) (open_tab : PlainTab) (rules : List Rule) (now : ℕ) (top : PlainSite) (answer : Prompt)
+      → Leaves cells held tab (request_access rules now top label answer open_tab cells held)
+  request_leaves label open_tab rules now top answer = at (document_of label.frame open_tab.frames)
+    where
+      asks : PlainDocument → Effect
+      asks document cells held =
+          let site = embedded_site rules document in
+          let facts = access_facts rules now label.frame open_tab.frames document in
+          done_by (outcome_of top site facts (answer_of answer) now held.grants) label open_tab top site cells held
+
+      at : (document : Option PlainDocument) → Leaves cells held tab (by_document document asks cells held)
+      at None = λ own. refl
+      at (Some document) =
+          let site = embedded_site rules document in
+          done_leaves label open_tab top site (outcome_of top site (access_facts rules now label.frame open_tab.frames document) (answer_of answer) now held.grants)
+
   -- ---- requests
 
   fetch_leaves : (label : Label) (open_tab : PlainTab) (rules : List Rule) (now : ℕ) (how : CookieUse) (head : List HeadField)
@@ -65,7 +103,7 @@ module _ (cells : SharedCells) (held : Holdings) (tab : ℕ) where
     act_leaves (Frame parent url sandbox deny head) =
         frames_leave at.tab open_tab None (λ frames. request rules now (frame_use rules site parent open_tab.frames url) head) (frames_added rules at parent url sandbox deny open_tab.frames) (λ frames h. refl)
     act_leaves (Nav url by_self method head) =
-        frames_leave at.tab open_tab (Some at.frame) (λ frames. request rules now (nav_use rules site at.frame open_tab.frames url by_self method) head) (frames_navigated rules at url open_tab.frames) (λ frames h. refl)
+        frames_leave at.tab open_tab (Some at.frame) (λ frames. request rules now (nav_use rules site at.frame open_tab.frames url by_self method) head) (frames_navigated rules at url by_self open_tab.frames) (λ frames h. refl)
     act_leaves Drop = frames_leave at.tab open_tab None (λ frames. answers ok) (frames_removed at open_tab.frames) (λ frames h. refl)
     act_leaves Click = frames_leave at.tab open_tab None (λ frames. answers ok) (frames_clicked now at open_tab.frames) (λ frames h. refl)
     act_leaves (Fetch url method head) = fetch_leaves at open_tab rules now (fetch_use rules site at.frame open_tab.frames url method) head
@@ -85,6 +123,8 @@ module _ (cells : SharedCells) (held : Holdings) (tab : ℕ) where
     act_leaves script.Events = events_leave at open_tab
     act_leaves Cookie = with_key_leaves cells held tab at apart open_tab (read_cookies rules now site) (λ document own k. refl)
     act_leaves (SetCookie text) = with_key_leaves cells held tab at apart open_tab (set_cookie rules now site text) (λ document own k. refl)
+    act_leaves Has = has_leaves at open_tab rules now
+    act_leaves (Request answer) = request_leaves at open_tab rules now site answer
     act_leaves Persisted = with_key_leaves cells held tab at apart open_tab get_mode (λ document own k. refl)
     act_leaves Estimate = with_key_leaves cells held tab at apart open_tab get_usage (λ document own k. refl)
     act_leaves (Persist answer) =

@@ -6,6 +6,7 @@ use Rattle.suffix_list.specs.Suffix.{Rule}
 use Rattle.agent_base.specs.declared.refusals.Label.{Label}
 use Rattle.origin_site.specs.Address.{PlainAddress}
 use Rattle.origin_site.specs.Site.{PlainSite, site_of_address}
+use Rattle.access_grants.specs.Grant.{PlainGrant}
 use Rattle.frame_tree.specs.declared.tab.TreeFault.{TreeFault}
 use Rattle.frame_tree.specs.declared.tab.TreeFault.TheVariants.{NoMemory}
 use Rattle.frame_tree.specs.Calls.{opened}
@@ -36,30 +37,40 @@ use Rattle.agent_core.proofs.TreeLemmas.{trees_after_put}
 use Rattle.agent_core.proofs.TabLemmas.{places_after_load, places_after_take, places_stay, tabs_after_put, tabs_after_take}
 
 -- what is held with other tabs, or with other cookies
-pub held_tabs : (tabs other : List PlainTab) (own : CookieEntries) (entries : Entries)
-    → held_with (beside_storage other own) entries ≡ record (held_with (beside_storage tabs own) entries) { tabs = tabs_in other }
+pub held_tabs : (tabs other : List PlainTab) (own : CookieEntries) (grants : List PlainGrant) (entries : Entries)
+    → held_with (beside_storage other own grants) entries ≡ record (held_with (beside_storage tabs own grants) entries) { tabs = tabs_in other }
 unfolding held_with
-held_tabs tabs other own entries = refl
+held_tabs tabs other own grants entries = refl
 
-held_cookies : (tabs : List PlainTab) (own other : CookieEntries) (entries : Entries)
-    → held_with (beside_storage tabs other) entries ≡ cookies.held_with other (held_with (beside_storage tabs own) entries)
+held_cookies : (tabs : List PlainTab) (own other : CookieEntries) (grants : List PlainGrant) (entries : Entries)
+    → held_with (beside_storage tabs other grants) entries ≡ cookies.held_with other (held_with (beside_storage tabs own grants) entries)
 unfolding held_with
-held_cookies tabs own other entries = refl
+held_cookies tabs own other grants entries = refl
+
+-- or with other permissions, which are those of the agent
+pub held_grants : (tabs : List PlainTab) (own : CookieEntries) (grants other : List PlainGrant) (entries : Entries)
+    → held_with (beside_storage tabs own other) entries ≡ record (held_with (beside_storage tabs own grants) entries) { grants = other }
+unfolding held_with
+held_grants tabs own grants other entries = refl
+
+pub grants_held : (tabs : List PlainTab) (own : CookieEntries) (grants : List PlainGrant) (entries : Entries) → (held_with (beside_storage tabs own grants) entries).grants ≡ grants
+unfolding held_with
+grants_held tabs own grants entries = refl
 
 -- the tabs are those that are held
-pub tabs_held : (tabs : List PlainTab) (own : CookieEntries) (entries : Entries) → (held_with (beside_storage tabs own) entries).tabs ≡ tabs_in tabs
+pub tabs_held : (tabs : List PlainTab) (own : CookieEntries) (grants : List PlainGrant) (entries : Entries) → (held_with (beside_storage tabs own grants) entries).tabs ≡ tabs_in tabs
 unfolding held_with
-tabs_held tabs own entries = refl
+tabs_held tabs own grants entries = refl
 
 -- ---- what stays
 
 pub no_change : (own : CookieEntries) → KeepsCookies own own
 no_change own = record { shared = refl; partitioned = refl }
 
--- the same tabs and storage, and cookies of which none changed
-pub stays_same : (old new : HoldingsView) → new.live.tabs ≡ old.live.tabs → new.storage ≡ old.storage → KeepsCookies old.cookies new.cookies → Stays old new
-stays_same old new tabs entries keeps = record {
-  held = λ i. held_with (record no_holdings { tabs = tabs_in (tabs i); cookies = keeps.partitioned i }) (entries i);
+-- the same tabs, storage and permissions, and cookies of which none changed
+pub stays_same : (old new : HoldingsView) → new.live.tabs ≡ old.live.tabs → new.storage ≡ old.storage → new.grants ≡ old.grants → KeepsCookies old.cookies new.cookies → Stays old new
+stays_same old new tabs entries rows keeps = record {
+  held = λ i. held_with (record no_holdings { tabs = tabs_in (tabs i); cookies = keeps.partitioned i; grants = rows i }) (entries i);
   cells = keeps.shared;
   places = ap places_in tabs;
 }
@@ -87,13 +98,13 @@ done_after does old mid new body stays done =
 
 -- what an effect made of the cookies it did with all that is held
 pub done_by : (does : Effect) (old new : HoldingsView) (body : PlainBody) → new.live.tabs ≡ old.live.tabs → new.storage ≡ old.storage
-    → IsDoneBy does old.cookies new.cookies body → IsDone (does (cells_of old) (held_of old)) old new body
-done_by does old new body tabs entries done =
+    → new.grants ≡ old.grants → IsDoneBy does old.cookies new.cookies body → IsDone (does (cells_of old) (held_of old)) old new body
+done_by does old new body tabs entries rows done =
     let by = done (held_of old) in
-    let seen : cookies.held_with old.cookies (held_of old) ≡ held_of old = sym (held_cookies old.live.tabs old.cookies old.cookies old.storage) in
+    let seen : cookies.held_with old.cookies (held_of old) ≡ held_of old = sym (held_cookies old.live.tabs old.cookies old.cookies old.grants old.storage) in
     done_as old new body (does (cells_of old) (cookies.held_with old.cookies (held_of old))) (does (cells_of old) (held_of old)) (ap (does (cells_of old)) seen)
     (record {
-      held = (λ i. held_with (beside_storage (tabs i) new.cookies) (entries i)) ∙ held_cookies old.live.tabs old.cookies new.cookies old.storage ∙ by.held;
+      held = (λ i. held_with (beside_storage (tabs i) new.cookies (rows i)) (entries i)) ∙ held_cookies old.live.tabs old.cookies new.cookies old.grants old.storage ∙ by.held;
       cells = by.cells;
       answer = by.body;
       places = ap places_in tabs;
@@ -108,26 +119,26 @@ tree_of_open (Some tab) is tree = tree
 
 -- a tab has these frames, and no cookie changed
 pub framed_held : (number : ℕ) (tab : PlainTab) (replaced : Option ℕ) (made : List PlainFrame) (old new : HoldingsView)
-    → tab_at number old.live.tabs ≡ Some tab → new.live.tabs ≡ tabs_put number made replaced old.live.tabs → new.storage ≡ old.storage → KeepsCookies old.cookies new.cookies
+    → tab_at number old.live.tabs ≡ Some tab → new.live.tabs ≡ tabs_put number made replaced old.live.tabs → new.storage ≡ old.storage → new.grants ≡ old.grants → KeepsCookies old.cookies new.cookies
     → held_of new ≡ with_tab number (made_tab number made replaced (Some tab)) (held_of old)
-framed_held number tab replaced made old new found put same keeps =
+framed_held number tab replaced made old new found put same rows keeps =
     let shown : PlainTab = made_tab number made replaced (Some tab) in
-    (λ i. held_with (record no_holdings { tabs = tabs_in (put i); cookies = keeps.partitioned i }) (same i))
-    ∙ held_tabs old.live.tabs (tabs_put number made replaced old.live.tabs) old.cookies old.storage
+    (λ i. held_with (record no_holdings { tabs = tabs_in (put i); cookies = keeps.partitioned i; grants = rows i }) (same i))
+    ∙ held_tabs old.live.tabs (tabs_put number made replaced old.live.tabs) old.cookies old.grants old.storage
     ∙ ap (λ tabs. record (held_of old) { tabs = tabs })
     (tabs_after_put number made replaced old.live.tabs
     ∙ ap (λ t. insert (tabs_in old.live.tabs) number (made_tab number made replaced t)) found
-    ∙ ap (λ tabs. insert tabs number shown) (sym (tabs_held old.live.tabs old.cookies old.storage)))
+    ∙ ap (λ tabs. insert tabs number shown) (sym (tabs_held old.live.tabs old.cookies old.grants old.storage)))
 
 -- the frames of a tab were replaced, and then something was done
 pub frames_done : (number : ℕ) (tab : PlainTab) (replaced : Option ℕ) (next : List PlainFrame → Effect) (after : Result (List PlainFrame) TreeFault) (made : List PlainFrame) (body : PlainBody) (old mid new : HoldingsView)
     → tab_at number old.live.tabs ≡ Some tab → after ≡ Ok made → top_site made ≡ top_site tab.frames
-    → mid.live.tabs ≡ tabs_put number made replaced old.live.tabs → mid.storage ≡ old.storage → KeepsCookies old.cookies mid.cookies
+    → mid.live.tabs ≡ tabs_put number made replaced old.live.tabs → mid.storage ≡ old.storage → mid.grants ≡ old.grants → KeepsCookies old.cookies mid.cookies
     → IsDone (next made (cells_of mid) (held_of mid)) mid new body
     → IsDone (on_frames number tab replaced next after (cells_of old) (held_of old)) old new body
-frames_done number tab replaced next after made body old mid new found is top put same keeps done =
+frames_done number tab replaced next after made body old mid new found is top put same rows keeps done =
     let same_done : next made (cells_of mid) (held_of mid) ≡ on_frames number tab replaced next after (cells_of old) (held_of old) =
-    (λ i. next made (keeps.shared i) (framed_held number tab replaced made old mid found put same keeps i))
+    (λ i. next made (keeps.shared i) (framed_held number tab replaced made old mid found put same rows keeps i))
     ∙ sym (ap (λ r. on_frames number tab replaced next r (cells_of old) (held_of old)) is) in
     record {
       held = done.held ∙ ap (λ (d : Done). d.held) same_done;
@@ -156,19 +167,19 @@ frames_as number tab replaced body told after seen old new result says same acts
 -- the events of a document were taken
 pub taken_done : (label : Label) (tab : PlainTab) (body : PlainBody) (old new : HoldingsView)
     → tab_at label.tab old.live.tabs ≡ Some tab → has_frame label.frame tab.frames ≡ true
-    → new.live.tabs ≡ taken label old.live.tabs → new.storage ≡ old.storage → KeepsCookies old.cookies new.cookies
+    → new.live.tabs ≡ taken label old.live.tabs → new.storage ≡ old.storage → new.grants ≡ old.grants → KeepsCookies old.cookies new.cookies
     → body ≡ reply.Events (queue_at old.live.tabs label).events (queue_at old.live.tabs label).lost
     → IsDone (take_events label tab (cells_of old) (held_of old)) old new body
-taken_done label tab body old new found there put same keeps told =
+taken_done label tab body old new found there put same rows keeps told =
     let after : PlainTab = with_taken label.frame tab in
     let is : take_events label tab (cells_of old) (held_of old) ≡ take_queue label tab (queue_of label.frame tab.queues) (cells_of old) (held_of old) =
     ap (λ b. cond b (take_queue label tab (queue_of label.frame tab.queues)) (answers (reply.Plain (codes "no-frame"))) (cells_of old) (held_of old)) there in
     record {
       held =
-          (λ i. held_with (record no_holdings { tabs = tabs_in (put i); cookies = keeps.partitioned i }) (same i))
-          ∙ held_tabs old.live.tabs (taken label old.live.tabs) old.cookies old.storage
+          (λ i. held_with (record no_holdings { tabs = tabs_in (put i); cookies = keeps.partitioned i; grants = rows i }) (same i))
+          ∙ held_tabs old.live.tabs (taken label old.live.tabs) old.cookies old.grants old.storage
           ∙ ap (λ tabs. record (held_of old) { tabs = tabs })
-          (tabs_after_take label old.live.tabs tab found ∙ ap (λ tabs. insert tabs label.tab after) (sym (tabs_held old.live.tabs old.cookies old.storage)))
+          (tabs_after_take label old.live.tabs tab found ∙ ap (λ tabs. insert tabs label.tab after) (sym (tabs_held old.live.tabs old.cookies old.grants old.storage)))
           ∙ sym (ap (λ (d : Done). d.held) is);
       cells = keeps.shared ∙ sym (ap (λ (d : Done). d.cells) is);
       answer =
@@ -181,13 +192,13 @@ taken_done label tab body old new found there put same keeps told =
 
 -- a tab shows an address alone
 module _ (rules : List Rule) (number : ℕ) (url : PlainAddress) (old new : HoldingsView) (put : new.live.tabs ≡ tabs_put number (opened rules url) (Some 0) old.live.tabs) where
-  pub shown_held : new.storage ≡ old.storage → new.cookies ≡ old.cookies → held_of new ≡ show rules number url (held_of old)
-  shown_held same own =
+  pub shown_held : new.storage ≡ old.storage → new.cookies ≡ old.cookies → new.grants ≡ old.grants → held_of new ≡ show rules number url (held_of old)
+  shown_held same own rows =
       let made : PlainTab = made_tab number (opened rules url) None None in
-      (λ i. held_with (beside_storage (put i) (own i)) (same i))
-      ∙ held_tabs old.live.tabs (tabs_put number (opened rules url) (Some 0) old.live.tabs) old.cookies old.storage
+      (λ i. held_with (beside_storage (put i) (own i) (rows i)) (same i))
+      ∙ held_tabs old.live.tabs (tabs_put number (opened rules url) (Some 0) old.live.tabs) old.cookies old.grants old.storage
       ∙ ap (λ tabs. record (held_of old) { tabs = tabs })
-      (tabs_after_put number (opened rules url) (Some 0) old.live.tabs ∙ ap (λ tabs. insert tabs number made) (sym (tabs_held old.live.tabs old.cookies old.storage)))
+      (tabs_after_put number (opened rules url) (Some 0) old.live.tabs ∙ ap (λ tabs. insert tabs number made) (sym (tabs_held old.live.tabs old.cookies old.grants old.storage)))
 
   pub shown_places : places_in new.live.tabs ≡ placed number (site_of_address rules url) (places_in old.live.tabs)
   shown_places =

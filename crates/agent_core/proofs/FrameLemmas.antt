@@ -13,9 +13,12 @@ use Rattle.frame_tree.specs.Sandbox.{PlainSandbox, sandbox_of}
 use Rattle.frame_tree.specs.Document.{PlainDocument, loaded_below, loaded_instead}
 use Rattle.frame_tree.specs.Tree.{PlainFrame, document_of, has_frame, is_on_chain, top_site, with_next}
 use Rattle.frame_tree.specs.Calls as calls
+use Rattle.live_state.specs.FramesInPlace.{given, requested}
+use Rattle.live_state.proofs.FramesInPlaceLemmas.{tree-requested}
 use Rattle.live_state.proofs.ListLemmas.{all_kept}
+use Rattle.agent_model.specs.CookieUses.{is_granted_nav}
 use Rattle.agent_model.specs.Frames.{frames_added, frames_navigated, frames_removed, frames_clicked, where_below, where_there}
-use Rattle.one_store.proofs.TopKeptLemmas.{KeepsTop, added_top, navigated_top, removed_top, clicked_top, opened_top}
+use Rattle.agent_model.proofs.TopKeptLemmas.{KeepsTop, added_top, navigated_top, removed_top, clicked_top, opened_top}
 use Rattle.agent_core.specs.FrameTrees.{IsFrameTree, are_numbered}
 
 -- a list of frames whose numbers a frame can have
@@ -53,13 +56,13 @@ module _ (frames : List PlainFrame) (numbered : IsNumbered frames) where
       at None = tt
       at (Some above) = by_number above (has_frame frame frames)
 
-  numbered_navigated : (rules : List Rule) (frame : ℕ) (url : PlainAddress) → IfOk (calls.navigated rules frame url false frames) IsNumbered
-  numbered_navigated rules frame url = at (document_of frame frames)
+  numbered_navigated : (rules : List Rule) (frame : ℕ) (url : PlainAddress) (keep_flag : Bool) → IfOk (calls.navigated rules frame url keep_flag frames) IsNumbered
+  numbered_navigated rules frame url keep_flag = at (document_of frame frames)
     where
-      at : (before : Option PlainDocument) → IfOk (calls.navigated_from before rules frame url false frames) IsNumbered
+      at : (before : Option PlainDocument) → IfOk (calls.navigated_from before rules frame url keep_flag frames) IsNumbered
       at None = tt
       at (Some before) =
-          numbered_marked (λ f. f.frame == frame) (λ d. loaded_instead rules false before url) (calls.without_below frame frames)
+          numbered_marked (λ f. f.frame == frame) (λ d. loaded_instead rules keep_flag before url) (calls.without_below frame frames)
           ∙ numbered_kept (λ f. (f.frame == frame) || not (is_on_chain frame f.frame frames)) frames numbered
 
   numbered_there : (frame : ℕ) (after : List PlainFrame) → IsNumbered after → IfOk (where_there frame frames after) IsNumbered
@@ -92,10 +95,11 @@ module _ (frames : List PlainFrame) (tree : IsFrameTree frames) where
       both frames (frames_added rules at parent url sandbox deny frames) (added_top frames tree.tree rules at parent url sandbox deny)
       (numbered_added frames tree.numbered rules parent at.frame url (sandbox_of sandbox) deny low)
 
-  pub tree_navigated : (rules : List Rule) (at : Label) (url : PlainAddress) → Leaves frames (frames_navigated rules at url frames)
-  tree_navigated rules at url =
-      both frames (frames_navigated rules at url frames) (navigated_top frames tree.tree rules at url)
-      (numbered_below at.frame (calls.navigated rules at.frame url false frames) (numbered_navigated frames tree.numbered rules at.frame url))
+  pub tree_navigated : (rules : List Rule) (at : Label) (url : PlainAddress) (by_self : Bool) → Leaves frames (frames_navigated rules at url by_self frames)
+  tree_navigated rules at url by_self =
+      let keep_flag = is_granted_nav by_self at.frame frames url in
+      both frames (frames_navigated rules at url by_self frames) (navigated_top frames tree.tree rules at url by_self)
+      (numbered_below at.frame (calls.navigated rules at.frame url keep_flag frames) (numbered_navigated frames tree.numbered rules at.frame url keep_flag))
 
   pub tree_removed : (at : Label) → Leaves frames (frames_removed at frames)
   tree_removed at =
@@ -108,6 +112,21 @@ module _ (frames : List PlainFrame) (tree : IsFrameTree frames) where
       both frames (frames_clicked now at frames) (clicked_top frames tree.tree now at)
       (numbered_there frames tree.numbered at.frame (calls.activated at.frame (pos now) frames)
       (numbered_marked (λ f. calls.is_activated at.frame (calls.origin_of at.frame frames) frames f) (calls.with_mark (Some (pos now))) frames ∙ tree.numbered))
+
+-- what the end of a request for storage access leaves is a tree too
+pub tree_requested : (frames : List PlainFrame) → IsFrameTree frames → (gives consumes : Bool) (frame : ℕ) → IsFrameTree (requested gives consumes frame frames)
+tree_requested frames tree gives consumes frame = record {
+  tree = tree-requested gives consumes frame frames tree.tree;
+  numbered = spent consumes (given gives frame frames) ∙ got gives ∙ tree.numbered;
+}
+  where
+    got : (b : Bool) → are_numbered (given b frame frames) ≡ are_numbered frames
+    got true = numbered_marked (λ f. f.frame == frame) calls.flagged frames
+    got false = refl
+
+    spent : (b : Bool) (fs : List PlainFrame) → are_numbered (cond b (calls.consumed fs) fs) ≡ are_numbered fs
+    spent true fs = numbered_marked (λ f. true) (calls.with_mark None) fs
+    spent false fs = refl
 
 -- a tab that was just opened has a tree, under the site of its address
 pub tree_opened : (rules : List Rule) (url : PlainAddress) → IsFrameTree (calls.opened rules url) × (top_site (calls.opened rules url) ≡ Some (site_of_address rules url))

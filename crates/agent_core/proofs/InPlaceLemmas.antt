@@ -51,33 +51,33 @@ acts_refused number tab fresh next after old new stays NoMemory is body (Ok b) a
 acts_refused number tab fresh next after old new stays NoMemory is body (Err e) answered = stays
 
 -- the action was done, or refused
-pub acts_in_place : (number : ℕ) (fresh : Option ℕ) (old new : HoldingsView) (after : Result (List PlainFrame) TreeFault) → new.storage ≡ old.storage → KeepsCookies old.cookies new.cookies
+pub acts_in_place : (number : ℕ) (fresh : Option ℕ) (old new : HoldingsView) (after : Result (List PlainFrame) TreeFault) → new.storage ≡ old.storage → new.grants ≡ old.grants → KeepsCookies old.cookies new.cookies
     → top_site (frames_at number new.live.tabs) ≡ top_site (frames_at number old.live.tabs)
     → (done : Result (Unit {0}) TreeFault) → Answers (λ _. frames_at number new.live.tabs) NoMemory after done
     → OnOk done (IsPutIn number fresh old.live.tabs new.live.tabs) → OnErr done (new.live ≡ old.live)
     → (tab : PlainTab) → tab_at number old.live.tabs ≡ Some tab → (body : PlainBody) (result : Result ReplyBody memory.NoMemory) → Answered done body result
     → Acts (on_frames number tab fresh (λ frames. answers body) after) old new result
-acts_in_place number fresh old new after storage keeps site (Ok u) is put same tab found body (Ok b) answered =
+acts_in_place number fresh old new after storage rows keeps site (Ok u) is put same tab found body (Ok b) answered =
     frames_done number tab fresh (λ frames. answers body) after (frames_at number new.live.tabs) (body_of b) old new new found is
-    (site ∙ ap (λ t. top_site (frames_by t)) found) put storage keeps (record { held = refl; cells = refl; answer = answered; places = refl })
-acts_in_place number fresh old new after storage keeps site (Ok u) is put same tab found body (Err e) answered = absurd answered
-acts_in_place number fresh old new after storage keeps site (Err why) is put same tab found body result answered =
-    acts_refused number tab fresh (λ frames. answers body) after old new (stays_same old new (ap (λ (l : PlainLive). l.tabs) same) storage keeps) why is body result answered
+    (site ∙ ap (λ t. top_site (frames_by t)) found) put storage rows keeps (record { held = refl; cells = refl; answer = answered; places = refl })
+acts_in_place number fresh old new after storage rows keeps site (Ok u) is put same tab found body (Err e) answered = absurd answered
+acts_in_place number fresh old new after storage rows keeps site (Err why) is put same tab found body result answered =
+    acts_refused number tab fresh (λ frames. answers body) after old new (stays_same old new (ap (λ (l : PlainLive). l.tabs) same) storage rows keeps) why is body result answered
 
 -- a frame was loaded, or that was refused: its cookies were prepared before, and performed once the frames had it
 pub load_in_place : (number : ℕ) (fresh : Option ℕ) (does : Effect) (prepared : Prepared) (own : CookieEntries) (old new : HoldingsView) (after : Result (List PlainFrame) TreeFault)
-    → new.storage ≡ old.storage → KeepsCookies old.cookies own → Prepares does own prepared
+    → new.storage ≡ old.storage → new.grants ≡ old.grants → KeepsCookies old.cookies own → Prepares does own prepared
     → top_site (frames_at number new.live.tabs) ≡ top_site (frames_at number old.live.tabs)
     → (done : Result (Unit {0}) TreeFault) → Answers (λ _. frames_at number new.live.tabs) NoMemory after done
     → OnOk done (IsPutIn number fresh old.live.tabs new.live.tabs) → OnErr done (new.live ≡ old.live)
     → (tab : PlainTab) → tab_at number old.live.tabs ≡ Some tab → (result : Result ReplyBody memory.NoMemory) → IsPerformed done prepared own new.cookies result
     → Acts (on_frames number tab fresh (λ frames. does) after) old new result
-load_in_place number fresh does prepared own old new after storage keeps ready site (Ok u) is put same tab found (Ok b) performed =
+load_in_place number fresh does prepared own old new after storage rows keeps ready site (Ok u) is put same tab found (Ok b) performed =
     let mid : HoldingsView = record new { cookies = own } in
     frames_done number tab fresh (λ frames. does) after (frames_at number new.live.tabs) (body_of b) old mid new found is
-    (site ∙ ap (λ t. top_site (frames_by t)) found) put storage keeps (done_by does mid new (body_of b) refl refl (performed does ready))
-load_in_place number fresh does prepared own old new after storage keeps ready site (Ok u) is put same tab found (Err e) performed = absurd performed
-load_in_place number fresh does prepared own old new after storage keeps ready site (Err why) is put same tab found result performed =
+    (site ∙ ap (λ t. top_site (frames_by t)) found) put storage rows keeps (done_by does mid new (body_of b) refl refl refl (performed does ready))
+load_in_place number fresh does prepared own old new after storage rows keeps ready site (Ok u) is put same tab found (Err e) performed = absurd performed
+load_in_place number fresh does prepared own old new after storage rows keeps ready site (Err why) is put same tab found result performed =
     acts_refused number tab fresh (λ frames. does) after old new
-    (stays_same old new (ap (λ (l : PlainLive). l.tabs) same) storage (subst (KeepsCookies old.cookies) (sym performed.0) keeps))
+    (stays_same old new (ap (λ (l : PlainLive). l.tabs) same) storage rows (subst (KeepsCookies old.cookies) (sym performed.0) keeps))
     why is (Plain []) result (performed.1 (Plain []))

@@ -5,12 +5,13 @@ pub mod TabLemmas
 pub mod FoundLemmas
 -- What an action makes of what is held.
 pub mod DoneLemmas
+pub mod AccessLemmas
 pub mod ActLemmas
 pub mod RequestLemmas
 -- Who hears of a change, and what is sent to them.
 pub mod MemberLemmas
 pub mod AudienceLemmas
-pub mod ToldLemmas
+pub mod SendLemmas
 -- What is held after a change of an area.
 pub mod WriteLemmas
 -- The frames of each open tab.

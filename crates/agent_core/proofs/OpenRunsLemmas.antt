@@ -4,6 +4,7 @@ use Rattle.std.specs.Prelude.{codes, option_map}
 use Rattle.origin_site.specs.Address.{PlainAddress}
 use Rattle.origin_site.specs.Site.{PlainSite, site_of_address}
 use Rattle.frame_tree.specs.Tree.{top_site}
+use Rattle.access_grants.specs.Grant.{PlainGrant}
 use Rattle.live_state.specs.Queues.{frames_by}
 use Rattle.live_state.specs.Tabs.{PlainTab, is_open, tab_at}
 use Rattle.web_storage.specs.Stored.{Entries}
@@ -116,11 +117,11 @@ module _ (old : AgentState) (standing : IsStanding old) where
           (λ i. opens (starter_is opener opener_there i) (nowhere_is number old.tabs free i))
           ∙ ap (λ held. done_with (store_of old) line target (placed number target places) (arrived held)) (sym (same_copies opener noopener number old.tabs (held_in old)))
 
-      module _ (tabs : List PlainTab) (entries : Entries) (cookies : CookieEntries) (there : places_in tabs ≡ placed number target places)
-          (shared : cells_in (replaced old tabs entries cookies) ≡ (arrived own_copied).cells)
-          (has : held_in (replaced old tabs entries cookies) ≡ (arrived own_copied).held) where
+      module _ (tabs : List PlainTab) (entries : Entries) (cookies : CookieEntries) (grants : List PlainGrant) (there : places_in tabs ≡ placed number target places)
+          (shared : cells_in (replaced old tabs entries cookies grants) ≡ (arrived own_copied).cells)
+          (has : held_in (replaced old tabs entries cookies grants) ≡ (arrived own_copied).held) where
         abbrev new : AgentState
-        new = replaced old tabs entries cookies
+        new = replaced old tabs entries cookies grants
 
         pub standing_opened : IsStanding new
         standing_opened =

@@ -1,7 +1,7 @@
 -- What a document that is there or not does, and a request that was prepared and performed.
 use Rattle.std.proofs.Common.{◌≡◌, ◌==◌, ◌-◌, ◌&&◌, ℕ, Bool, true, false, cond, not, List, [], ◌∷◌, ◌++◌, length, map, take, Option, Some, None, Ok, Err, refl, sym, ap, subst, ◌∙◌}
 use Rattle.std.proofs.lemmas.List.{length-map, take-map}
-use Rattle.std.specs.Prelude.{IfOk, OnErr, Result, codes, is_some}
+use Rattle.std.specs.Prelude.{IfOk, OnErr, Result, codes, is_some, option_map}
 use Rattle.std.specs.Result.{IsErr}
 use Rattle.agent_base.specs.declared.refusals.NoMemory.{NoMemory}
 use Rattle.agent_base.specs.declared.refusals.Label.{Label}
@@ -18,6 +18,7 @@ use Rattle.frame_tree.specs.Calls.{added_below, navigated, navigated_from, sites
 use Rattle.frame_tree.specs.Sandbox.{sandbox_of}
 use Rattle.frame_tree.specs.Keys.{is_first_at, sites}
 use Rattle.frame_tree.specs.Tree.{PlainFrame, chain_of, document_of, has_frame}
+use Rattle.live_state.specs.FramesInPlace.{frames_at}
 use Rattle.live_state.specs.Queues.{frames_by, has_document}
 use Rattle.live_state.specs.Tabs.{PlainTab, tab_at}
 use Rattle.reply_lines.specs.declared.reply.ReplyBody.{ReplyBody}
@@ -27,17 +28,18 @@ use Rattle.script_lines.specs.Script.{HeadField}
 use Rattle.web_cookies.specs.Prepared.{Prepares}
 use Rattle.web_cookies.specs.Stored.{Entries, IsDoneBy, partitioned_in, shared_in}
 use Rattle.web_cookies.specs.declared.prepared.Prepared.{Prepared}
-use Rattle.agent_model.specs.CookieUse.{CookieUse, chain_above}
+use Rattle.agent_model.specs.CookieUse.{CookieUse}
+use Rattle.agent_model.specs.CookieUses.{chain_above, is_granted_nav}
 use Rattle.agent_model.specs.Cookies.{request}
 use Rattle.agent_model.specs.Documents.{by_document, with_document}
 use Rattle.agent_model.specs.Done.{Effect}
-use Rattle.agent_model.specs.Frames.{frames_added, frames_navigated}
+use Rattle.agent_model.specs.Frames.{frames_added, frames_navigated, where_below}
 use Rattle.agent_core.specs.Documents.{is_below}
 use Rattle.agent_core.specs.Actions.{Acts, IsDone, Stays}
 use Rattle.agent_core.specs.HoldingsView.{HoldingsView, cells_of, held_of}
 use Rattle.agent_core.specs.Requests.{IsPrepared, KeepsCookies}
 use Rattle.agent_core.proofs.DoneLemmas.{done_after, done_by, no_change, stays_done, stays_same}
-use Rattle.agent_core.proofs.FoundLemmas.{document_there}
+use Rattle.agent_core.proofs.FoundLemmas.{document_there, frames_found}
 
 -- ---- a document
 
@@ -54,12 +56,17 @@ module _ (at : Label) (tabs : List PlainTab) (tab : PlainTab) (found : tab_at at
       at_none None none = refl
       at_none (Some document) none = absurd (cc none)
 
+  -- nothing is done for a frame without a document
+  pub missing_done : (action : PlainDocument → Effect) (old : HoldingsView) (body : PlainBody) → document_of at.frame tab.frames ≡ None → body ≡ Plain (codes "no-frame")
+      → IsDone (with_document at tab action (cells_of old) (held_of old)) old old body
+  missing_done action old body none answer =
+      subst (λ document. IsDone (by_document document action (cells_of old) (held_of old)) old old body) (sym none)
+      (stays_done old old (record { held = refl; cells = refl; places = refl }) (Plain (codes "no-frame")) body answer)
+
   -- nothing is done for a document that is not there
   pub absent_done : (action : PlainDocument → Effect) (old : HoldingsView) (body : PlainBody) → has_document tabs at ≡ false → body ≡ Plain (codes "no-frame")
       → IsDone (with_document at tab action (cells_of old) (held_of old)) old old body
-  absent_done action old body is answer =
-      subst (λ document. IsDone (by_document document action (cells_of old) (held_of old)) old old body) (sym (none_there is))
-      (stays_done old old (record { held = refl; cells = refl; places = refl }) (Plain (codes "no-frame")) body answer)
+  absent_done action old body is answer = missing_done action old body (none_there is) answer
 
   -- what is done for one that is there, whichever it is
   pub present_done : (does : Effect) (old new : HoldingsView) (body : PlainBody) → has_document tabs at ≡ true
@@ -88,12 +95,20 @@ module _ (rules : List Rule) (at : Label) (tabs : List PlainTab) (tab : PlainTab
       by (Some above) shown = ap (λ b. cond b (Err FrameExists) (Ok (tab.frames ++ record { frame = at.frame; parent = parent; document = loaded_below rules above (sandbox_of sandbox) deny url } ∷ []))) (there_is at tabs tab found true taken)
 
   -- a frame goes to an address that is the top, or is not there
-  pub not_below : is_below tabs at ≡ false → frames_navigated rules at url tab.frames ≡ Err NoFrame
-  not_below missing = by (at.frame == 0) missing
+  pub not_below : (by_self : Bool) → is_below tabs at ≡ false → frames_navigated rules at url by_self tab.frames ≡ Err NoFrame
+  not_below by_self missing = by (at.frame == 0) missing
     where
-      by : (b : Bool) → (not b && has_document tabs at) ≡ false → cond b (Err NoFrame) (navigated rules at.frame url false tab.frames) ≡ Err NoFrame
+      by : (b : Bool) → (not b && has_document tabs at) ≡ false → cond b (Err NoFrame) (navigated rules at.frame url (is_granted_nav by_self at.frame tab.frames url) tab.frames) ≡ Err NoFrame
       by true missing = refl
-      by false missing = ap (λ before. navigated_from before rules at.frame url false tab.frames) (none_there at tabs tab found missing)
+      by false missing = ap (λ before. navigated_from before rules at.frame url (is_granted_nav by_self at.frame tab.frames url) tab.frames) (none_there at tabs tab found missing)
+
+-- a frame goes to an address with the access that is granted by the frames that were found
+pub navigated_by : (rules : List Rule) (at : Label) (url : PlainAddress) (by_self : Bool) (tabs : List PlainTab) (frames : List PlainFrame) (granted : Bool)
+    → Some frames ≡ option_map (λ t. t.frames) (tab_at at.tab tabs) → granted ≡ is_granted_nav by_self at.frame frames url
+    → where_below at.frame (navigated rules at.frame url granted (frames_at at.tab tabs)) ≡ frames_navigated rules at url by_self (frames_at at.tab tabs)
+navigated_by rules at url by_self tabs frames granted shown is =
+    ap (λ keep_flag. where_below at.frame (navigated rules at.frame url keep_flag (frames_at at.tab tabs)))
+    (is ∙ ap (λ frames. is_granted_nav by_self at.frame frames url) (sym (frames_found (tab_at at.tab tabs) frames shown)))
 
 -- a frame that is below the top is there
 pub below_there : (tabs : List PlainTab) (at : Label) → is_below tabs at ≡ true → has_document tabs at ≡ true
@@ -142,18 +157,18 @@ acts_wanting does old new (Ok body) wanting stays = cc
 acts_wanting does old new (Err wanting) is stays = stays
 
 -- an effect was done to the cookies, or memory was wanting
-pub acts_by : (does : Effect) (old new : HoldingsView) (result : Result ReplyBody NoMemory) → new.live.tabs ≡ old.live.tabs → new.storage ≡ old.storage
+pub acts_by : (does : Effect) (old new : HoldingsView) (result : Result ReplyBody NoMemory) → new.live.tabs ≡ old.live.tabs → new.storage ≡ old.storage → new.grants ≡ old.grants
     → IfOk result (λ body. IsDoneBy does old.cookies new.cookies (body_of body)) → OnErr result (shared_in new.cookies ≡ shared_in old.cookies)
     → OnErr result (partitioned_in new.cookies ≡ partitioned_in old.cookies) → Acts does old new result
-acts_by does old new (Ok body) tabs entries done shared partitioned = done_by does old new (body_of body) tabs entries done
-acts_by does old new (Err wanting) tabs entries done shared partitioned = stays_same old new tabs entries (record { shared = shared; partitioned = partitioned })
+acts_by does old new (Ok body) tabs entries rows done shared partitioned = done_by does old new (body_of body) tabs entries rows done
+acts_by does old new (Err wanting) tabs entries rows done shared partitioned = stays_same old new tabs entries rows (record { shared = shared; partitioned = partitioned })
 
 -- a request was prepared and then performed
 pub request_done : (rules : List Rule) (now : ℕ) (how : CookieUse) (head : List HeadField) (old mid new : HoldingsView) (prepared : Prepared) (body : PlainBody)
-    → mid.live.tabs ≡ old.live.tabs → mid.storage ≡ old.storage → IsPrepared rules now how head old.cookies mid.cookies (Ok prepared)
-    → new.live.tabs ≡ mid.live.tabs → new.storage ≡ mid.storage
+    → mid.live.tabs ≡ old.live.tabs → mid.storage ≡ old.storage → mid.grants ≡ old.grants → IsPrepared rules now how head old.cookies mid.cookies (Ok prepared)
+    → new.live.tabs ≡ mid.live.tabs → new.storage ≡ mid.storage → new.grants ≡ mid.grants
     → ((does : Effect) → Prepares does mid.cookies prepared → IsDoneBy does mid.cookies new.cookies body)
     → IsDone (request rules now how head (cells_of old) (held_of old)) old new body
-request_done rules now how head old mid new prepared body tabs entries ready same_tabs same_entries performs =
-    done_after (request rules now how head) old mid new body (stays_same old mid tabs entries ready.keeps)
-    (done_by (request rules now how head) mid new body same_tabs same_entries (performs (request rules now how head) ready.ready))
+request_done rules now how head old mid new prepared body tabs entries rows ready same_tabs same_entries same_rows performs =
+    done_after (request rules now how head) old mid new body (stays_same old mid tabs entries rows ready.keeps)
+    (done_by (request rules now how head) mid new body same_tabs same_entries same_rows (performs (request rules now how head) ready.ready))

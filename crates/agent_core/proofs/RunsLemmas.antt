@@ -8,6 +8,7 @@ use Rattle.agent_base.specs.declared.refusals.NoMemory.{NoMemory}
 use Rattle.origin_site.specs.Address.{PlainAddress}
 use Rattle.origin_site.specs.Site.{PlainSite, site_of_address}
 use Rattle.frame_tree.specs.Tree.{top_site}
+use Rattle.access_grants.specs.Grant.{PlainGrant}
 use Rattle.live_state.specs.Queues.{frames_by}
 use Rattle.live_state.specs.Tabs.{PlainTab, tab_at}
 use Rattle.web_storage.specs.Stored.{Entries}
@@ -33,9 +34,9 @@ use Rattle.agent_core.proofs.OwnedLemmas.{no_copies, owned_shown, owned_closed, 
 use Rattle.agent_core.proofs.ActOwnedLemmas.{owned_acted}
 use Rattle.agent_core.proofs.StandingLemmas.{HasEvent, open_is, placed_after, runs_done, runs_wanting, stands, stands_after, store_is, store_of, top_is, world_is}
 
--- the agent with other tabs, another storage and other cookies
-abbrev pub replaced : AgentState → List PlainTab → Entries → CookieEntries → AgentState
-replaced state tabs entries cookies = record state { tabs = tabs; entries = entries; cookies = cookies }
+-- the agent with other tabs, another storage, other cookies and other permissions
+abbrev pub replaced : AgentState → List PlainTab → Entries → CookieEntries → List PlainGrant → AgentState
+replaced state tabs entries cookies grants = record state { tabs = tabs; entries = entries; cookies = cookies; grants = grants }
 
 -- a page of an open tab is one of the site that the tab is at
 pub page_is : (old : AgentState) → IsStanding old → (number : ℕ) (tab : PlainTab) → tab_at number old.tabs ≡ Some tab
@@ -47,9 +48,9 @@ page_is old standing number tab found site place =
 abbrev pub by_tab : Bool → ℕ → Option ℕ
 by_tab by_page number = cond by_page (Some number) None
 
-module _ (old : AgentState) (standing : IsStanding old) (tabs : List PlainTab) (entries : Entries) (cookies : CookieEntries) where
+module _ (old : AgentState) (standing : IsStanding old) (tabs : List PlainTab) (entries : Entries) (cookies : CookieEntries) (grants : List PlainGrant) where
   abbrev new : AgentState
-  new = replaced old tabs entries cookies
+  new = replaced old tabs entries cookies grants
 
   -- what is held before, and where the tabs are
   abbrev before : Holdings

@@ -144,10 +144,10 @@ not_refused state (Act at action) event none = some_occurs (world_of state) (Act
 -- ---- a line was run
 
 -- a reply of a site, whose site and answer are told otherwise
-pub reply_told : (action : PlainAction) (reply : Reply) {here there : PlainSite} {answer body : PlainBody}
+pub reply_as : (action : PlainAction) (reply : Reply) {here there : PlainSite} {answer body : PlainBody}
     → reply_of reply ≡ record { name = action_name action; site = Some here; body = answer } → here ≡ there → answer ≡ body
     → reply_of reply ≡ printed (site_reply there action body)
-reply_told action reply is same says = is ∙ λ i. record { name = action_name action; site = Some (same i); body = says i }
+reply_as action reply is same says = is ∙ λ i. record { name = action_name action; site = Some (same i); body = says i }
 
 -- the agent's state, told otherwise
 pub runs_from : {action : PlainAction} {old seen new : AgentState} {result : Result Reply NoMemory} → old ≡ seen → Runs action old new result → Runs action seen new result

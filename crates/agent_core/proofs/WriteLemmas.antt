@@ -37,7 +37,7 @@ use Rattle.agent_core.specs.HoldingsView.{cells_of, held_of}
 use Rattle.agent_core.specs.Actions.{IsDone, put_sent}
 use Rattle.agent_core.proofs.DoneLemmas.{held_tabs, tabs_held}
 use Rattle.agent_core.proofs.TabLemmas.{places_after_send}
-use Rattle.agent_core.proofs.ToldLemmas.{tabs_after_send}
+use Rattle.agent_core.proofs.SendLemmas.{tabs_after_send}
 
 -- ---- a change is stored and its event sent
 
@@ -47,7 +47,7 @@ tabs_kept Local tab key pairs held = refl
 tabs_kept Session tab key pairs held = refl
 
 module _ (event : PlainEvent) (writer : Keyed) (change : List Pair → List Pair) (old mid new : HoldingsView) (trees : AreTrees mid.live.tabs)
-    (tabs : mid.live.tabs ≡ old.live.tabs) (entries : mid.storage ≡ old.storage) (same : new.cookies ≡ old.cookies) (rising : is_rising old.live.tabs ≡ true) where
+    (tabs : mid.live.tabs ≡ old.live.tabs) (entries : mid.storage ≡ old.storage) (same : new.cookies ≡ old.cookies) (rows : new.grants ≡ old.grants) (rising : is_rising old.live.tabs ≡ true) where
   -- the pairs of the area after the change, and what is held with them
   abbrev pairs : List Pair
   pairs = change (pairs_of event.area writer (held_of old))
@@ -62,14 +62,14 @@ module _ (event : PlainEvent) (writer : Keyed) (change : List Pair → List Pair
       → body ≡ ok → IsDone (write event.area writer pairs event (cells_of old) (held_of old)) old new body
   is_written seen events body is these after stored answer = record {
     held =
-        ap (λ own. held_with (beside_storage new.live.tabs own) new.storage) same
-        ∙ held_tabs old.live.tabs new.live.tabs old.cookies new.storage
+        (λ i. held_with (beside_storage new.live.tabs (same i) (rows i)) new.storage)
+        ∙ held_tabs old.live.tabs new.live.tabs old.cookies old.grants new.storage
         ∙ ap {A = Holdings} (λ held. record held { tabs = tabs_in new.live.tabs })
-        (stored (beside_storage old.live.tabs old.cookies) ∙ ap (λ entries. with_pairs (held_with (beside_storage old.live.tabs old.cookies) entries)) entries)
+        (stored (beside_storage old.live.tabs old.cookies old.grants) ∙ ap (λ entries. with_pairs (held_with (beside_storage old.live.tabs old.cookies old.grants) entries)) entries)
         ∙ ap {B = Holdings} (λ tabs. record (with_pairs (held_of old)) { tabs = tabs })
         (ap tabs_in (after ∙ λ i. sent ((these ∙ ap (λ e. each_sent e (hearers e.area writer.at writer.key old.live.tabs)) is) i) (tabs i))
         ∙ tabs_after_send event.area writer event old.live.tabs rising (subst AreTrees tabs trees)
-        ∙ ap (told event.area writer event) (sym (tabs_kept event.area writer.at.tab writer.key pairs (held_of old) ∙ tabs_held old.live.tabs old.cookies old.storage)));
+        ∙ ap (told event.area writer event) (sym (tabs_kept event.area writer.at.tab writer.key pairs (held_of old) ∙ tabs_held old.live.tabs old.cookies old.grants old.storage)));
     cells = ap shared_in same;
     answer = answer;
     places = ap places_in after ∙ places_after_send events mid.live.tabs ∙ ap places_in tabs;

@@ -11,7 +11,7 @@ use Rattle.origin_site.specs.Site.{PlainSite}
 use Rattle.live_state.specs.Tabs.{PlainTab}
 use Rattle.script_lines.specs.Script.{PlainAction, Tick, Open, Close, Go, Evict, Act}
 use Rattle.script_lines.specs.Script.{DocumentAction, Frame, Nav, Drop, Click, Fetch, Set, Get, Del}
-use Rattle.script_lines.specs.Script.{Clear, Len, Key, Events, Cookie, SetCookie}
+use Rattle.script_lines.specs.Script.{Clear, Len, Key, Events, Cookie, SetCookie, Has, Request}
 use Rattle.script_lines.specs.Script.{Persisted, Estimate, Persist}
 use Rattle.agent_model.specs.AreaActions.{set_item, remove_item, clear_area}
 use Rattle.agent_model.specs.AreaActions.{get_item, get_name, get_length}
@@ -56,6 +56,8 @@ key_action rules now (Key area n) = Some (λ site tab. get_name area n)
 key_action rules now Events = None
 key_action rules now Cookie = Some (λ site tab. read_cookies rules now site)
 key_action rules now (SetCookie text) = Some (λ site tab. set_cookie rules now site text)
+key_action rules now Has = None
+key_action rules now (Request answer) = None
 key_action rules now Persisted = Some (λ site tab. get_mode)
 key_action rules now Estimate = Some (λ site tab. get_usage)
 key_action rules now (Persist answer) = Some (λ site tab. persist tab answer)
@@ -85,6 +87,8 @@ reads (Key area n) = true
 reads Events = false
 reads Cookie = true
 reads (SetCookie text) = false
+reads Has = false
+reads (Request answer) = false
 reads Persisted = true
 reads Estimate = true
 reads (Persist answer) = false

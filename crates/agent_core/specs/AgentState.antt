@@ -1,10 +1,11 @@
 -- The state of the agent, as contracts see it, and the world that it stands for.
--- Source: none; the agent keeps one list of tabs, one storage and one set of cookies for all sites,
--- and the world has a partition for each site.
+-- Source: none; the agent keeps one list of tabs, one storage, one set of cookies and one list of
+-- permissions for all sites, and the world has a partition for each site.
 use Rattle.std.specs.Prelude.{◌≡◌, ◌≤◌, ℕ, false, List, [], ◌∷◌, map, Option, Some, None}
 use Rattle.std.specs.FinMap as finite
 use Rattle.suffix_list.specs.Suffix.{Rule}
 use Rattle.origin_site.specs.Site.{PlainSite}
+use Rattle.access_grants.specs.Grant.{PlainGrant}
 use Rattle.frame_tree.specs.Tree.{top_site}
 use Rattle.live_state.specs.Tabs.{PlainTab}
 use Rattle.web_storage.specs.Stored.{Entries, held_with}
@@ -17,13 +18,14 @@ use Rattle.agent_model.specs.Sessions.{has_session}
 use Rattle.one_store.specs.WholeWorld.{IsPlaced, whole_world}
 
 -- the agent: the rules of its list, the clock, the open tabs in the order of their numbers, the
--- entries of its storage, and those of its cookies
+-- entries of its storage, those of its cookies, and the permissions of storage access
 pub record AgentState : Type 0 where
   pub rules : List Rule
   pub now : ℕ
   pub tabs : List PlainTab
   pub entries : Entries
   pub cookies : CookieEntries
+  pub grants : List PlainGrant
 
 -- the open tabs by their numbers
 abbrev pub tabs_in : List PlainTab → Tabs
@@ -39,14 +41,19 @@ abbrev pub places_in : List PlainTab → Places
 places_in [] = no_places
 places_in (tab ∷ tabs) = placed_by tab.number (top_site tab.frames) (places_in tabs)
 
--- what is held beside the storage: the open tabs, and the partitioned cells of cookies
-abbrev pub beside_storage : List PlainTab → CookieEntries → Holdings
-beside_storage tabs cookies =
-    record no_holdings { tabs = tabs_in tabs; cookies = partitioned_in cookies }
+-- what is held beside the storage: the open tabs, the partitioned cells of cookies, and the
+-- permissions
+abbrev pub beside_storage : List PlainTab → CookieEntries → List PlainGrant → Holdings
+beside_storage tabs cookies grants =
+    record no_holdings {
+      tabs = tabs_in tabs;
+      cookies = partitioned_in cookies;
+      grants = grants;
+    }
 
 -- what the agent holds for all sites
 abbrev pub held_in : AgentState → Holdings
-held_in state = held_with (beside_storage state.tabs state.cookies) state.entries
+held_in state = held_with (beside_storage state.tabs state.cookies state.grants) state.entries
 
 -- the cells that sites share
 abbrev pub cells_in : AgentState → SharedCells

@@ -29,9 +29,14 @@ each_sent event to = map (λ label. (label, event)) to
 -- what is found for a document that may not be there
 abbrev pub IsFound : Option (Option PlainKey) → Found → Type 0
 IsFound None found.NoFrame = Unit {0}
+IsFound None found.Opaque = ⊥
+IsFound None (found.Keyed own) = ⊥
+IsFound (Some None) found.NoFrame = ⊥
 IsFound (Some None) found.Opaque = Unit {0}
+IsFound (Some None) (found.Keyed own) = ⊥
+IsFound (Some (Some key)) found.NoFrame = ⊥
+IsFound (Some (Some key)) found.Opaque = ⊥
 IsFound (Some (Some key)) (found.Keyed own) = plain_key own.now ≡ key
-IsFound wanted other = ⊥
 
 -- the storage key of a frame's document: None where the frame is not there, and no key where the
 -- document is opaque

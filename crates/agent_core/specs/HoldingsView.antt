@@ -1,7 +1,9 @@
--- What is held for all sites, as contracts see it: the open tabs, the storage and the cookies.
--- Source: none; the agent keeps one list of tabs, one storage and one set of cookies.
+-- What is held for all sites, as contracts see it: the open tabs, the storage, the cookies and the
+-- permissions of storage access.
+-- Source: none; the agent keeps one of each.
 use Rattle.std.specs.Prelude.{ℕ, List}
 use Rattle.suffix_list.specs.Suffix.{Rule}
+use Rattle.access_grants.specs.Grant.{PlainGrant}
 use Rattle.live_state.specs.Tabs.{PlainLive}
 use Rattle.web_storage.specs.Stored.{Entries, held_with}
 use Rattle.web_cookies.specs.Stored.{Entries as CookieEntries, shared_in}
@@ -9,15 +11,17 @@ use Rattle.agent_model.specs.Partition.{Holdings}
 use Rattle.agent_model.specs.Done.{SharedCells}
 use Rattle.agent_core.specs.AgentState.{AgentState, beside_storage}
 
--- the open tabs, the entries of the storage, and those of the cookies
+-- the open tabs, the entries of the storage, those of the cookies, and the permissions
 pub record HoldingsView : Type 0 where
   pub live : PlainLive
   pub storage : Entries
   pub cookies : CookieEntries
+  pub grants : List PlainGrant
 
 -- what is held for all sites
 abbrev pub held_of : HoldingsView → Holdings
-held_of parts = held_with (beside_storage parts.live.tabs parts.cookies) parts.storage
+held_of parts =
+    held_with (beside_storage parts.live.tabs parts.cookies parts.grants) parts.storage
 
 -- the cells that sites share
 abbrev pub cells_of : HoldingsView → SharedCells
@@ -31,4 +35,5 @@ state_of rules now parts = record {
   tabs = parts.live.tabs;
   entries = parts.storage;
   cookies = parts.cookies;
+  grants = parts.grants;
 }

@@ -9,3 +9,4 @@ pub mod ActionKinds
 pub mod Actions
 pub mod Lines
 pub mod Requests
+pub mod Access

@@ -24,8 +24,8 @@ use std::alloc::Global;
 use std::marker::Model;
 use suffix_list::SuffixList;
 
-/// The storage of a browser: the tabs that are open, and the storage and cookies of all sites under
-/// a suffix list.
+/// The storage of a browser: the tabs that are open, and the storage, the cookies and the
+/// permissions of all sites under a suffix list.
 #[derive(Debug, Drop)]
 pub struct Agent<'l> {
     alloc: Global,
@@ -46,8 +46,9 @@ impl<'l> Model for Agent<'l> {
 }
 
 impl<'l> Agent<'l> {
-    /// An agent without tabs, areas and cookies, whose clock stands at `start`, in seconds since
-    /// 1970. The list says of which site an address is, for as long as the agent lives.
+    /// An agent without tabs, areas, cookies and permissions, whose clock stands at `start`, in
+    /// seconds since 1970. The list says of which site an address is, for as long as the agent
+    /// lives.
     pub fn new(alloc: Global, list: &'l SuffixList, start: u64) -> Agent<'l>
         requires { start ≤ spec.last_moment }
         ensures beginning { world_of result ≡ beginning start }
@@ -115,6 +116,8 @@ impl<'l> Agent<'l> {
             | Action::Events { at }
             | Action::Cookie { at }
             | Action::SetCookie { at, .. }
+            | Action::Has { at }
+            | Action::Request { at, .. }
             | Action::Persisted { at }
             | Action::Estimate { at }
             | Action::Persist { at, .. } => self.act(*at, action),

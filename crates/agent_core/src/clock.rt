@@ -1,5 +1,5 @@
 //! The clock.
-ghost use Rattle.std.specs.Prelude.{◌≡◌, ◌≤◌};
+ghost use Rattle.std.specs.Prelude.{◌≡◌, ◌≤◌, pos};
 ghost use Rattle.agent_model.specs.Rest as spec;
 ghost use Rattle.agent_model.specs.Rest.{last_moment};
 
@@ -12,4 +12,12 @@ pub fn clock_after(now: u64, s: u32) -> u64
     ensures within { result ≤ last_moment }
 {
     now.saturating_add(s as u64).min(LAST_MOMENT)
+}
+
+/// The same second as a signed number.
+pub fn signed(now: u64) -> i64
+    requires { now ≤ last_moment }
+    ensures { result ≡ pos now }
+{
+    now as i64
 }

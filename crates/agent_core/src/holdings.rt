@@ -13,6 +13,7 @@ ghost use Rattle.agent_core.specs.Documents.{IsFound, document_at, key_wanted};
 ghost use Rattle.agent_core.specs.HoldingsView.{cells_of, held_of};
 ghost use Rattle.agent_core.specs.Lines.{is_there};
 
+mod access;
 mod acts;
 mod areas;
 mod cookies;
@@ -22,6 +23,7 @@ mod loads;
 mod persistence;
 mod requests;
 
+use access_grants::Grants;
 use agent_base::{Label, NoMemory};
 use frame_tree::Tab;
 use live_state::Live;
@@ -32,12 +34,14 @@ use storage_key::StorageKey;
 use web_cookies::Cookies;
 use web_storage::Storage;
 
-/// What is held for all sites: the open tabs, the storage and the cookies.
+/// What is held for all sites: the open tabs, the storage, the cookies and the permissions of
+/// storage access.
 #[derive(Debug, Drop)]
 pub struct Holdings {
     pub live: Live,
     pub storage: Storage,
     pub cookies: Cookies,
+    pub grants: Grants,
 }
 
 impl Model for Holdings {
@@ -46,13 +50,18 @@ impl Model for Holdings {
 
     ghost Value = { HoldingsView };
 
-    ghost view = { λ h. record { live = h.live; storage = h.storage; cookies = h.cookies } };
+    ghost view = { λ h. record {
+      live = h.live;
+      storage = h.storage;
+      cookies = h.cookies;
+      grants = h.grants.rows;
+    } };
 
     ghost invariant = { λ h. AreTrees h.live.tabs };
 }
 
 impl Holdings {
-    /// No tab, no storage and no cookies.
+    /// No tab, no storage, no cookies and no permissions.
     pub fn new(alloc: Global) -> Holdings
         ensures tabs { result.live.tabs ≡ [] }
         ensures held { held_of result ≡ no_holdings }
@@ -62,6 +71,7 @@ impl Holdings {
             live: Live::new(alloc),
             storage: Storage::new(alloc),
             cookies: Cookies::new(alloc),
+            grants: Grants::new(alloc),
         }
     }
 

@@ -34,6 +34,8 @@ pub fn name_of(action: &Action) -> &'static str
         Action::Events { .. } => "events",
         Action::Cookie { .. } => "cookie",
         Action::SetCookie { .. } => "setcookie",
+        Action::Has { .. } => "has",
+        Action::Request { .. } => "request",
         Action::Persisted { .. } => "persisted",
         Action::Estimate { .. } => "estimate",
         Action::Persist { .. } => "persist",

@@ -68,6 +68,13 @@ impl Holdings {
             Action::Drop { .. } => self.remove_frame(at),
             Action::Click { .. } => self.click(at, now),
             Action::Events { .. } => Ok(self.take(at)),
+            Action::Has { .. } => self.has(alloc, list, now, at),
+            Action::Request { answer, .. } => self.request(alloc, list, now, at, *answer),
+            Action::Tick { .. }
+            | Action::Open { .. }
+            | Action::Close { .. }
+            | Action::Go { .. }
+            | Action::Evict { .. } => unreachable!(),
             _ => self.act_with_key(alloc, list, now, at, action),
         }
     }
@@ -128,7 +135,24 @@ impl Holdings {
             Action::Cookie { .. } => self.cookie(alloc, list, now, at, key),
             Action::Persisted { .. } => Ok(self.persisted(key)),
             Action::Estimate { .. } => Ok(self.estimate(key)),
-            _ => unreachable!(),
+            Action::Tick { .. }
+            | Action::Open { .. }
+            | Action::Close { .. }
+            | Action::Go { .. }
+            | Action::Evict { .. }
+            | Action::Frame { .. }
+            | Action::Nav { .. }
+            | Action::Drop { .. }
+            | Action::Click { .. }
+            | Action::Fetch { .. }
+            | Action::Set { .. }
+            | Action::Del { .. }
+            | Action::Clear { .. }
+            | Action::Events { .. }
+            | Action::SetCookie { .. }
+            | Action::Has { .. }
+            | Action::Request { .. }
+            | Action::Persist { .. } => unreachable!(),
         }
     }
 
@@ -164,7 +188,25 @@ impl Holdings {
             Action::Clear { area, .. } => self.clear(alloc, at, *area, key),
             Action::SetCookie { text, .. } => self.set_cookie(alloc, list, now, at, key, text),
             Action::Persist { answer, .. } => self.persist(at, key, *answer),
-            _ => unreachable!(),
+            Action::Tick { .. }
+            | Action::Open { .. }
+            | Action::Close { .. }
+            | Action::Go { .. }
+            | Action::Evict { .. }
+            | Action::Frame { .. }
+            | Action::Nav { .. }
+            | Action::Drop { .. }
+            | Action::Click { .. }
+            | Action::Fetch { .. }
+            | Action::Get { .. }
+            | Action::Len { .. }
+            | Action::Key { .. }
+            | Action::Events { .. }
+            | Action::Cookie { .. }
+            | Action::Has { .. }
+            | Action::Request { .. }
+            | Action::Persisted { .. }
+            | Action::Estimate { .. } => unreachable!(),
         }
     }
 }
@@ -180,6 +222,23 @@ fn is_reading(action: &Action) -> bool
         | Action::Cookie { .. }
         | Action::Persisted { .. }
         | Action::Estimate { .. } => true,
-        _ => false,
+        Action::Tick { .. }
+        | Action::Open { .. }
+        | Action::Close { .. }
+        | Action::Go { .. }
+        | Action::Evict { .. }
+        | Action::Frame { .. }
+        | Action::Nav { .. }
+        | Action::Drop { .. }
+        | Action::Click { .. }
+        | Action::Fetch { .. }
+        | Action::Set { .. }
+        | Action::Del { .. }
+        | Action::Clear { .. }
+        | Action::Events { .. }
+        | Action::SetCookie { .. }
+        | Action::Has { .. }
+        | Action::Request { .. }
+        | Action::Persist { .. } => false,
     }
 }

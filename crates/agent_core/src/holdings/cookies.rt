@@ -9,7 +9,7 @@ ghost use Rattle.agent_model.specs.Rest.{last_moment};
 ghost use Rattle.agent_model.specs.Cookies.{fetch, read_cookies, set_cookie};
 ghost use Rattle.agent_core.specs.Actions.{ActsAt, ActsIn};
 
-use crate::holdings::requests::{prepare_below, script_use};
+use crate::holdings::requests::{is_granted_at, prepare_below, script_use};
 use crate::holdings::{Holdings, open_tab};
 use crate::replies::answer;
 use agent_base::{Label, NoMemory};
@@ -44,8 +44,11 @@ impl Holdings {
         }
         let tab = open_tab(&self.live, at.tab);
         let frame = at.frame;
+        let granted = is_granted_at(alloc, tab, frame, url)?;
         let cookies = &mut self.cookies;
-        let prepared = prepare_below(tab, cookies, alloc, list, now, frame, url, method, head)?;
+        let prepared = prepare_below(
+            tab, cookies, alloc, list, now, frame, url, method, granted, head,
+        )?;
         Ok(self.cookies.perform(prepared))
     }
 

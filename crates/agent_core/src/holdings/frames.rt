@@ -3,6 +3,7 @@ ghost use Rattle.std.specs.Prelude.{◌≡◌, ◌≤◌, Err, None, OnErr, OnOk
 ghost use Rattle.std.specs.Prelude.{option_map, string_bytes};
 ghost use Rattle.agent_base.specs.Answers.{Answers};
 ghost use Rattle.origin_site.specs.Plain.{plain_address};
+ghost use Rattle.frame_tree.specs.Calls.{navigated};
 ghost use Rattle.frame_tree.specs.Plain.{plain_sandbox};
 ghost use Rattle.frame_tree.specs.Sandbox.{sandbox_of};
 ghost use Rattle.frame_tree.specs.Tree.{top_site};
@@ -13,14 +14,14 @@ ghost use Rattle.reply_lines.specs.Plain.{body_of};
 ghost use Rattle.reply_lines.specs.Reply.{PlainBody};
 ghost use Rattle.agent_model.specs.Rest.{last_moment};
 ghost use Rattle.agent_model.specs.Frames.{add_frame, click, frames_added, frames_clicked};
-ghost use Rattle.agent_model.specs.Frames.{frames_navigated, frames_removed, navigate_frame};
-ghost use Rattle.agent_model.specs.Frames.{remove_frame};
+ghost use Rattle.agent_model.specs.Frames.{frames_removed, navigate_frame, remove_frame};
+ghost use Rattle.agent_model.specs.Frames.{where_below};
 ghost use Rattle.agent_core.specs.FrameTrees.{most_frames};
 ghost use Rattle.agent_core.specs.Actions.{ActsIn, Answered};
 ghost use Rattle.agent_core.specs.Documents.{is_below};
 ghost use Rattle.agent_core.specs.Requests.{IsPerformed};
 
-use crate::holdings::requests::{prepare_below, prepare_nav};
+use crate::holdings::requests::{is_granted_nav, prepare_below, prepare_nav};
 use crate::holdings::{Holdings, open_tab};
 use crate::replies::answer;
 use agent_base::{Label, NoMemory};
@@ -68,13 +69,16 @@ impl Holdings {
         let tab = open_tab(&self.live, at.tab);
         let cookies = &mut self.cookies;
         let get = Method::Get;
-        let prepared = prepare_below(tab, cookies, alloc, list, now, parent, url, get, head)?;
+        let prepared = prepare_below(
+            tab, cookies, alloc, list, now, parent, url, get, false, head,
+        )?;
         let done = add(&mut self.live, alloc, at, parent, url, sandbox, deny, list);
         load_answer(&mut self.cookies, done, prepared)
     }
 
     /// Navigates a frame of a tab, and removes the frames below it. Its load is a request below its
-    /// parent, which its own document starts or its parent's.
+    /// parent, which its own document starts or its parent's. Where access is granted to the load,
+    /// the document that it brings has storage access too.
     pub fn navigate_frame(
         &mut self,
         alloc: Global,
@@ -97,11 +101,12 @@ impl Holdings {
             return Ok(answer("no-frame"));
         }
         let tab = open_tab(&self.live, at.tab);
+        let granted = is_granted_nav(alloc, tab, at.frame, url, by_self)?;
         let cookies = &mut self.cookies;
         let prepared = prepare_nav(
-            tab, cookies, alloc, list, now, at.frame, url, by_self, method, head,
+            tab, cookies, alloc, list, now, at.frame, url, by_self, method, granted, head,
         )?;
-        let done = navigate(&mut self.live, alloc, at, url, list);
+        let done = navigate(&mut self.live, alloc, at, url, granted, list);
         load_answer(&mut self.cookies, done, prepared)
     }
 
@@ -204,17 +209,18 @@ fn sandbox_of(text: &Option<Box<String>>) -> Sandbox
     }
 }
 
-// Navigates a frame below the top.
+// Navigates a frame below the top. Storage access is kept, or not.
 fn navigate(
     live: &mut Live,
     alloc: Global,
     at: Label,
     url: &Address,
+    keep_flag: bool,
     list: &SuffixList,
 ) -> Result<(), TreeFault>
     ensures answer { Answers (λ _. frames_at at.tab live.new.tabs) TreeFault.NoMemory
-        (frames_navigated list.now.rules at (plain_address url.now)
-        (frames_at at.tab live.old.tabs)) result }
+        (where_below at.frame (navigated list.now.rules at.frame (plain_address url.now) keep_flag
+        (frames_at at.tab live.old.tabs))) result }
     ensures put { OnOk result (IsPutIn at.tab (Some at.frame) live.old.tabs live.new.tabs) }
     ensures site { top_site (frames_at at.tab live.new.tabs)
         ≡ top_site (frames_at at.tab live.old.tabs) }
@@ -224,7 +230,7 @@ fn navigate(
         return Err(TreeFault::NoFrame);
     }
     let url = url.copy(alloc)?;
-    live.navigate_frame(at, url, false, list)
+    live.navigate_frame(at, url, keep_flag, list)
 }
 
 // Removes a frame below the top.

@@ -100,6 +100,6 @@ fn is_grant(prompt: Prompt) -> bool
 {
     match prompt {
         Prompt::Grant => true,
-        _ => false,
+        Prompt::Deny | Prompt::Dismiss => false,
     }
 }

@@ -5,10 +5,11 @@ ghost use Rattle.origin_site.specs.Site.{PlainSite, site_of_address};
 ghost use Rattle.storage_key.specs.Context.{context_of};
 ghost use Rattle.storage_key.specs.Plain.{plain_context, plain_key};
 ghost use Rattle.frame_tree.specs.Document.{PlainDocument};
+ghost use Rattle.frame_tree.specs.Plain.{plain_document};
 ghost use Rattle.frame_tree.specs.Keys.{sites};
-ghost use Rattle.frame_tree.specs.Tree.{document_of, has_frame, top_site};
+ghost use Rattle.frame_tree.specs.Tree.{chain_of, document_of, has_frame, top_site};
 ghost use Rattle.script_lines.specs.Plain.{head_field_of};
-ghost use Rattle.agent_model.specs.CookieUse as spec;
+ghost use Rattle.agent_model.specs.CookieUses as spec;
 ghost use Rattle.agent_model.specs.Documents.{Keyed};
 ghost use Rattle.agent_model.specs.Lines as lines;
 ghost use Rattle.agent_model.specs.Rest.{last_moment};
@@ -18,9 +19,9 @@ ghost use Rattle.agent_core.specs.Requests.{IsPrepared, starter_in};
 
 use crate::holdings::open_tab;
 use agent_base::{Label, NoMemory};
-use frame_tree::Tab;
+use frame_tree::{Document, Tab};
 use live_state::Live;
-use origin_site::{Address, Site, same_site, site_of};
+use origin_site::{Address, Site, same_origin, same_site, site_of};
 use script_lines::{HeadField, Method};
 use std::alloc::Global;
 use storage_key::{Context, StorageKey};
@@ -60,6 +61,7 @@ pub fn prepare_top(
         top_load: true,
         safe: is_safe(method),
         script: false,
+        granted: false,
     };
     cookies.prepare(alloc, list, now, &how, head)
 }
@@ -77,7 +79,7 @@ fn is_started_at(live: &Live, starter: Option<u16>, target: &Site) -> bool
 }
 
 /// Prepares a request below a document, which starts it: a request of that document, or the load of
-/// a frame that is added to it.
+/// a frame that is added to it. `granted` is whether access is granted to it.
 pub fn prepare_below(
     tab: &Tab,
     cookies: &mut Cookies,
@@ -87,25 +89,27 @@ pub fn prepare_below(
     frame: u8,
     url: &Address,
     method: Method,
+    granted: bool,
     head: &[HeadField],
 ) -> Result<Prepared, NoMemory>
     requires now { now ≤ last_moment }
     requires there { has_frame frame tab.now ≡ true }
     ensures prepared { (site : PlainSite) → top_site tab.now ≡ Some site
-        → let how = spec.fetch_use list.now.rules site frame tab.now (plain_address url.now)
-        method in
+        → let chain = chain_of frame tab.now in
+        let how = spec.request_use list.now.rules site chain chain (plain_address url.now) method
+        granted in
         let fields = map head_field_of head.now in
         IsPrepared list.now.rules now how fields cookies.old cookies.new result }
 {
     let target = target_of(alloc, list, url)?;
     let first = tab.first_party(frame, &target);
     let context = Context { first, bit: !first };
-    let how = request_use(tab, url, context, first, method);
+    let how = request_use(tab, url, context, first, method, granted);
     cookies.prepare(alloc, list, now, &how, head)
 }
 
 /// Prepares the load of a frame that goes to another address. Its own document starts it, or its
-/// parent's.
+/// parent's. `granted` is whether access is granted to it.
 pub fn prepare_nav(
     tab: &Tab,
     cookies: &mut Cookies,
@@ -116,13 +120,14 @@ pub fn prepare_nav(
     url: &Address,
     by_self: bool,
     method: Method,
+    granted: bool,
     head: &[HeadField],
 ) -> Result<Prepared, NoMemory>
     requires now { now ≤ last_moment }
     requires there { has_frame frame tab.now ≡ true }
     ensures prepared { (site : PlainSite) → top_site tab.now ≡ Some site
-        → let how = spec.nav_use list.now.rules site frame tab.now (plain_address url.now) by_self
-        method in
+        → let how = spec.request_use list.now.rules site (spec.chain_above frame tab.now)
+        (spec.starter_of by_self frame tab.now) (plain_address url.now) method granted in
         let fields = map head_field_of head.now in
         IsPrepared list.now.rules now how fields cookies.old cookies.new result }
 {
@@ -133,7 +138,7 @@ pub fn prepare_nav(
     } else {
         context.first
     };
-    let how = request_use(tab, url, context, same_site, method);
+    let how = request_use(tab, url, context, same_site, method, granted);
     cookies.prepare(alloc, list, now, &how, head)
 }
 
@@ -163,6 +168,7 @@ fn request_use<'a>(
     context: Context,
     same_site: bool,
     method: Method,
+    granted: bool,
 ) -> CookieUse<'a>
     ensures { (site : PlainSite) → top_site tab.now ≡ Some site
         → plain_use result ≡ record {
@@ -173,6 +179,7 @@ fn request_use<'a>(
           top_load = false;
           safe = spec.is_safe method;
           script = false;
+          granted = granted;
         } }
 {
     CookieUse {
@@ -183,6 +190,50 @@ fn request_use<'a>(
         top_load: false,
         safe: is_safe(method),
         script: false,
+        granted,
+    }
+}
+
+/// Whether access is granted to the load of a frame that goes to another address.
+pub fn is_granted_nav(
+    alloc: Global,
+    tab: &Tab,
+    frame: u8,
+    url: &Address,
+    by_self: bool,
+) -> Result<bool, NoMemory>
+    ensures { let granted = spec.is_granted_nav by_self frame tab.now (plain_address url.now) in
+        IfOk result (λ is. is ≡ granted) }
+{
+    if by_self {
+        is_granted_at(alloc, tab, frame, url)
+    } else {
+        Ok(false)
+    }
+}
+
+/// Whether access is granted to a request of a frame's document.
+pub fn is_granted_at(alloc: Global, tab: &Tab, frame: u8, url: &Address) -> Result<bool, NoMemory>
+    ensures { let granted = spec.is_granted_at frame tab.now (plain_address url.now) in
+        IfOk result (λ is. is ≡ granted) }
+{
+    match tab.document(frame) {
+        Some(document) => is_granted_to(alloc, document, url),
+        None => Ok(false),
+    }
+}
+
+// Whether access is granted to a request of a document.
+fn is_granted_to(alloc: Global, document: &Document, url: &Address) -> Result<bool, NoMemory>
+    ensures { let own = Some (plain_document document.now) in
+        IfOk result (λ is. is ≡ spec.is_granted_to (plain_address url.now) own) }
+{
+    if !document.flag {
+        return Ok(false);
+    }
+    match &document.origin {
+        Some(origin) => Ok(same_origin(origin, &url.origin(alloc)?)),
+        None => Ok(false),
     }
 }
 
@@ -206,6 +257,7 @@ pub fn script_use<'a>(tab: &'a Tab, at: Label, key: &StorageKey) -> CookieUse<'a
             top_load: false,
             safe: true,
             script: true,
+            granted: document.flag,
         },
         None => unreachable!(),
     }

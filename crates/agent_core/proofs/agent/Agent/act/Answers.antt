@@ -14,7 +14,7 @@ use Rattle.agent_core.specs.HoldingsView.{cells_of, held_of}
 use Rattle.agent_core.specs.ActionKinds.{document_action}
 use Rattle.agent_core.specs.Actions.{IsDone, Stays}
 use Rattle.agent_core.proofs.ActLemmas.{IsActOf, act_of}
-use Rattle.agent_core.proofs.StandingLemmas.{HasEvent, NeedsTab, reply_told, runs_from, runs_still, runs_without_tab, shown_is, top_is}
+use Rattle.agent_core.proofs.StandingLemmas.{HasEvent, NeedsTab, reply_as, runs_from, runs_still, runs_without_tab, shown_is, top_is}
 use Rattle.agent_core.proofs.RunsLemmas.{runs_acted, runs_stays, runs_unchanged, standing_acted, standing_stays}
 use Rattle.agent_core.proofs.agent.Agent.act.Goals as goal
 
@@ -51,7 +51,7 @@ failed c =
     own.is c.in_err-body.ensures.acts shown.0 (plain_site c.in-Some.site) shown.1 (top_is _ c.args.at.tab c.self.invariant shown.0 shown.1 ∙ place)
 
 pub invariant_of-self : goal.invariant_of-self
-invariant_of-self c = standing_stays _ c.self.invariant _ _ _ (failed c).places (failed c).cells (failed c).held
+invariant_of-self c = standing_stays _ c.self.invariant _ _ _ _ (failed c).places (failed c).cells (failed c).held
 
 pub returns-in_err-body : goal.returns-in_err-body
 returns-in_err-body c =
@@ -60,7 +60,7 @@ returns-in_err-body c =
     let event = subst (λ (line : PlainAction). HasEvent line (places_in c.self.inside.held.live.tabs)) (sym own.is) place in
     record {
       runs = runs_from c.self.view_is
-          (runs_stays _ c.self.invariant _ _ _ (failed c).places (failed c).cells (failed c).held (action_of c.args.action.now) event c.from_residual-in_err-body.result c.from_residual-in_err-body.ensures.0);
+          (runs_stays _ c.self.invariant _ _ _ _ (failed c).places (failed c).cells (failed c).held (action_of c.args.action.now) event c.from_residual-in_err-body.result c.from_residual-in_err-body.ensures.0);
     }
 
 -- what was done in the tab
@@ -78,7 +78,7 @@ invariant_of-self-2 c =
     let place = sym c.in_ok-site.ensures.site ∙ ap (option_map plain_site) c.in-Some.is in
     let shown = shown_is _ c.args.at.tab c.self.invariant site place in
     let done = did c own shown.0 site shown.1 (top_is _ c.args.at.tab c.self.invariant shown.0 shown.1 ∙ place) in
-    standing_acted _ c.self.invariant _ _ _ c.args.at own.does shown.0 site shown.1 place done.places done.cells done.held
+    standing_acted _ c.self.invariant _ _ _ _ c.args.at own.does shown.0 site shown.1 place done.places done.cells done.held
 
 pub returns : goal.returns
 returns c =
@@ -90,6 +90,6 @@ returns c =
     let replies = ap (λ (name : List ℕ). record { name = name; site = Some site; body = body_of c.in_ok-body.body }) c.name_of-name.ensures in
     record {
       runs = runs_from c.self.view_is
-          (runs_acted _ c.self.invariant _ _ _ c.args.at own.does shown.0 site shown.1 place done.places done.cells done.held (action_of c.args.action.now) own.is c.replied.result
-          (reply_told (action_of c.args.action.now) c.replied.result (c.replied.ensures ∙ replies) refl done.answer));
+          (runs_acted _ c.self.invariant _ _ _ _ c.args.at own.does shown.0 site shown.1 place done.places done.cells done.held (action_of c.args.action.now) own.is c.replied.result
+          (reply_as (action_of c.args.action.now) c.replied.result (c.replied.ensures ∙ replies) refl done.answer));
     }

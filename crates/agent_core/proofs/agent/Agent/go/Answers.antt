@@ -10,7 +10,7 @@ use Rattle.agent_model.specs.Sessions.{arrive}
 use Rattle.agent_core.specs.Actions.{IsLoaded}
 use Rattle.agent_core.specs.HoldingsView.{cells_of, held_of}
 use Rattle.agent_core.specs.Requests.{starter_in}
-use Rattle.agent_core.proofs.StandingLemmas.{nowhere_is, place_is, reply_told, runs_from, runs_still, runs_without_tab, tab_there}
+use Rattle.agent_core.proofs.StandingLemmas.{nowhere_is, place_is, reply_as, runs_from, runs_still, runs_without_tab, tab_there}
 use Rattle.agent_core.proofs.RunsLemmas.{by_tab, runs_gone, runs_stays, standing_gone}
 use Rattle.agent_core.proofs.agent.Agent.go.Goals as goal
 use Rattle.agent_core.proofs.agent.Agent.go.Goals.{then-by_page, else-by_page}
@@ -31,7 +31,7 @@ returns-in_err-site c =
     let event = ap is_some (place_is _ c.args.tab c.self.invariant tab.0 tab.1).1 in
     record {
       runs = runs_from c.self.view_is
-          (runs_stays _ c.self.invariant _ _ _ stays.places stays.cells stays.held (Go c.args.tab (plain_address c.args.url.now) c.args.by_page c.args.method (map head_field_of c.args.head.now)) event
+          (runs_stays _ c.self.invariant _ _ _ _ stays.places stays.cells stays.held (Go c.args.tab (plain_address c.args.url.now) c.args.by_page c.args.method (map head_field_of c.args.head.now)) event
           c.from_residual.result c.from_residual.ensures.0);
     }
 
@@ -56,7 +56,7 @@ invariant_of-self-2 c =
     let there = tab_there c.args.tab c.self.inside.held.live.tabs (sym c.if-not-is_open.ensures.«open») in
     let place = place_is _ c.args.tab c.self.invariant there.0 there.1 in
     let load = loaded c in
-    standing_gone _ c.self.invariant _ _ _ c.args.tab (plain_address c.args.url.now) c.args.by_page c.args.method (map head_field_of c.args.head.now) there.0 there.1 place.0 place.1 load.places load.cells load.held
+    standing_gone _ c.self.invariant _ _ _ _ c.args.tab (plain_address c.args.url.now) c.args.by_page c.args.method (map head_field_of c.args.head.now) there.0 there.1 place.0 place.1 load.places load.cells load.held
 
 pub returns : goal.returns
 returns c =
@@ -67,6 +67,6 @@ returns c =
     let load = loaded c in
     record {
       runs = runs_from c.self.view_is
-          (runs_gone _ c.self.invariant _ _ _ c.args.tab url c.args.by_page c.args.method head there.0 there.1 place.0 place.1 load.places load.cells load.held c.replied.result
-          (reply_told (Go c.args.tab url c.args.by_page c.args.method head) c.replied.result c.replied.ensures c.in_ok-site.ensures.site load.answer));
+          (runs_gone _ c.self.invariant _ _ _ _ c.args.tab url c.args.by_page c.args.method head there.0 there.1 place.0 place.1 load.places load.cells load.held c.replied.result
+          (reply_as (Go c.args.tab url c.args.by_page c.args.method head) c.replied.result c.replied.ensures c.in_ok-site.ensures.site load.answer));
     }

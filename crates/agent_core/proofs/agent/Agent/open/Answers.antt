@@ -11,7 +11,7 @@ use Rattle.agent_core.specs.Actions.{IsLoaded}
 use Rattle.agent_core.specs.HoldingsView.{cells_of, held_of}
 use Rattle.agent_core.specs.Lines.{is_there, with_copies}
 use Rattle.agent_core.specs.Requests.{starter_in}
-use Rattle.agent_core.proofs.StandingLemmas.{nowhere_is, reply_told, runs_from, runs_still}
+use Rattle.agent_core.proofs.StandingLemmas.{nowhere_is, reply_as, runs_from, runs_still}
 use Rattle.agent_core.proofs.RunsLemmas.{runs_stays}
 use Rattle.agent_core.proofs.OpenRunsLemmas.{copied_from, fresh_is, runs_opened, runs_taken, runs_unopened, standing_opened, starter_is}
 use Rattle.agent_core.proofs.agent.Agent.open.Goals as goal
@@ -51,7 +51,7 @@ returns-in_err-site c =
     let stays = c.in_err-site.ensures.unchanged in
     record {
       runs = runs_from c.self.view_is
-          (runs_stays _ c.self.invariant _ _ _ stays.places stays.cells stays.held (Open a.tab (plain_address a.url.now) a.opener a.noopener a.method (map head_field_of a.head.now))
+          (runs_stays _ c.self.invariant _ _ _ _ stays.places stays.cells stays.held (Open a.tab (plain_address a.url.now) a.opener a.noopener a.method (map head_field_of a.head.now))
           (ap is_some (starter_is _ c.self.invariant a.opener (sym c.if-not-is_there.ensures.there)), nowhere_is a.tab c.self.inside.held.live.tabs (sym c.if-is_open.ensures.«open»))
           c.from_residual.result c.from_residual.ensures.0);
     }
@@ -79,7 +79,7 @@ invariant_of-self-2 c =
     let a = c.args in
     let load = loaded c in
     standing_opened _ c.self.invariant a.tab (plain_address a.url.now) a.opener a.noopener a.method (map head_field_of a.head.now) (sym c.if-not-is_there.ensures.there) (sym c.if-is_open.ensures.«open»)
-    _ _ _ load.places load.cells load.held
+    _ _ _ _ load.places load.cells load.held
 
 pub returns : goal.returns
 returns c =
@@ -89,6 +89,6 @@ returns c =
     let load = loaded c in
     record {
       runs = runs_from c.self.view_is
-          (runs_opened _ c.self.invariant a.tab url a.opener a.noopener a.method head (sym c.if-not-is_there.ensures.there) (sym c.if-is_open.ensures.«open») _ _ _ load.places load.cells load.held c.replied.result
-          (reply_told (Open a.tab url a.opener a.noopener a.method head) c.replied.result c.replied.ensures c.in_ok-site.ensures.site load.answer));
+          (runs_opened _ c.self.invariant a.tab url a.opener a.noopener a.method head (sym c.if-not-is_there.ensures.there) (sym c.if-is_open.ensures.«open») _ _ _ _ load.places load.cells load.held c.replied.result
+          (reply_as (Open a.tab url a.opener a.noopener a.method head) c.replied.result c.replied.ensures c.in_ok-site.ensures.site load.answer));
     }

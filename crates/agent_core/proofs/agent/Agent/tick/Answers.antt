@@ -13,7 +13,7 @@ use Rattle.agent_core.proofs.agent.Agent.tick.Goals as goal
 pub returns : goal.returns
 returns c =
     let here = c.self.inside in
-    let old : AgentState = record { rules = here.list.now.rules; now = here.now; tabs = here.held.live.tabs; entries = here.held.storage; cookies = here.held.cookies } in
+    let old : AgentState = record { rules = here.list.now.rules; now = here.now; tabs = here.held.live.tabs; entries = here.held.storage; cookies = here.held.cookies; grants = here.held.grants } in
     let later = c.clock_after-now.ensures.value in
     record {
       runs = runs_from c.self.view_is

@@ -18,3 +18,9 @@ returns-in-Fetch c = record {
   acts = subst (λ (action : Action). IfSome (document_action (action_of action)) (λ does. ActsIn c.args.at.tab (λ site. act_in c.args.list.now.rules c.args.now site c.args.at does) c.args.self.now c.fetch.new.self c.fetch.result))
       (sym c.in-Fetch.is) (rw c.deref-in-Fetch.ensures at (rw c.as_slice.ensures.value at c.fetch.ensures.acts));
 }
+
+pub returns-in-Nav : goal.returns-in-Nav
+returns-in-Nav c = record {
+  acts = subst (λ (action : Action). IfSome (document_action (action_of action)) (λ does. ActsIn c.args.at.tab (λ site. act_in c.args.list.now.rules c.args.now site c.args.at does) c.args.self.now c.navigate_frame.new.self c.navigate_frame.result))
+      (sym c.in-Nav.is) (rw c.deref-in-Nav.ensures at (rw c.as_slice-head-in-Nav.ensures.value at c.navigate_frame.ensures.acts));
+}

@@ -11,7 +11,7 @@ use Rattle.live_state.specs.Queues.{frames_by, has_document}
 use Rattle.live_state.specs.Tabs.{is_open, tab_at}
 use Rattle.reply_lines.specs.Plain.{body_of}
 use Rattle.script_lines.specs.Plain.{head_field_of}
-use Rattle.agent_model.specs.CookieUse.{frame_use}
+use Rattle.agent_model.specs.CookieUses.{frame_use}
 use Rattle.agent_model.specs.Cookies.{request}
 use Rattle.agent_model.specs.Frames.{frames_added, on_frames}
 use Rattle.agent_core.specs.HoldingsView.{HoldingsView}
@@ -60,11 +60,11 @@ returns-in_err-prepared c = rw (← c.self.view_is) (record {
       let rules = c.args.list.now.rules in
       let url = plain_address c.args.url.now in
       let sandbox = option_map (λ text. string_bytes text.value) c.args.sandbox.now in
-      let old : HoldingsView = record { live = c.self.inside.live; storage = c.self.inside.storage; cookies = c.self.inside.cookies } in
-      let mid : HoldingsView = record { live = c.self.inside.live; storage = c.self.inside.storage; cookies = c.prepare_below.new.cookies } in
+      let old : HoldingsView = record { live = c.self.inside.live; storage = c.self.inside.storage; cookies = c.self.inside.cookies; grants = c.self.inside.grants.rows } in
+      let mid : HoldingsView = record { live = c.self.inside.live; storage = c.self.inside.storage; cookies = c.prepare_below.new.cookies; grants = c.self.inside.grants.rows } in
       let same = frames_are (tab_at c.args.at.tab old.live.tabs) c.open_tab-tab.result.now tab (sym c.open_tab-tab.ensures.tab) found in
       acts_wanting (on_frames c.args.at.tab tab None (λ frames. request rules c.args.now (frame_use rules site c.args.parent tab.frames url) (map head_field_of c.args.head.now)) (frames_added rules c.args.at c.args.parent url sandbox c.args.deny tab.frames)) old mid
-      c.from_residual.result c.from_residual.ensures.0 (stays_same old mid refl refl (c.in_err-prepared.ensures.prepared site (subst (λ f. top_site f ≡ Some site) same top)).keeps);
+      c.from_residual.result c.from_residual.ensures.0 (stays_same old mid refl refl refl (c.in_err-prepared.ensures.prepared site (subst (λ f. top_site f ≡ Some site) same top)).keeps);
 })
 
 pub invariant_of-self-2 : goal.invariant_of-self-2
@@ -83,14 +83,14 @@ returns c = rw (← c.self.view_is) (record {
       let url = plain_address c.args.url.now in
       let head = map head_field_of c.args.head.now in
       let sandbox = option_map (λ text. string_bytes text.value) c.args.sandbox.now in
-      let old : HoldingsView = record { live = c.self.inside.live; storage = c.self.inside.storage; cookies = c.self.inside.cookies } in
-      let new : HoldingsView = record { live = c.add-done.new.live; storage = c.self.inside.storage; cookies = c.load_answer.new.cookies } in
+      let old : HoldingsView = record { live = c.self.inside.live; storage = c.self.inside.storage; cookies = c.self.inside.cookies; grants = c.self.inside.grants.rows } in
+      let new : HoldingsView = record { live = c.add-done.new.live; storage = c.self.inside.storage; cookies = c.load_answer.new.cookies; grants = c.self.inside.grants.rows } in
       let own = c.prepare_below.new.cookies in
       let same = frames_are (tab_at c.args.at.tab old.live.tabs) c.open_tab-tab.result.now tab (sym c.open_tab-tab.ensures.tab) found in
       let prepared : IsPrepared rules c.args.now (frame_use rules site c.args.parent tab.frames url) head old.cookies own (Ok c.in_ok-prepared.prepared) =
       subst (λ f. IsPrepared rules c.args.now (frame_use rules site c.args.parent f url) head old.cookies own (Ok c.in_ok-prepared.prepared)) (sym same)
       (c.in_ok-prepared.ensures.prepared site (subst (λ f. top_site f ≡ Some site) same top)) in
-      load_in_place c.args.at.tab None (request rules c.args.now (frame_use rules site c.args.parent tab.frames url) head) c.in_ok-prepared.prepared own old new (frames_added rules c.args.at c.args.parent url sandbox c.args.deny tab.frames) refl prepared.keeps prepared.ready
+      load_in_place c.args.at.tab None (request rules c.args.now (frame_use rules site c.args.parent tab.frames url) head) c.in_ok-prepared.prepared own old new (frames_added rules c.args.at c.args.parent url sandbox c.args.deny tab.frames) refl refl prepared.keeps prepared.ready
       c.add-done.ensures.site c.add-done.result
       (subst (λ r. Answers (λ _. frames_at c.args.at.tab new.live.tabs) NoMemory r c.add-done.result) (ap (λ t. frames_added rules c.args.at c.args.parent url sandbox c.args.deny (frames_by t)) found) c.add-done.ensures.answer)
       c.add-done.ensures.put c.add-done.ensures.unchanged tab found c.load_answer.result c.load_answer.ensures.performed;

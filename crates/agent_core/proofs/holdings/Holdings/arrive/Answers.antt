@@ -6,7 +6,7 @@ use Rattle.reply_lines.specs.Plain.{body_of}
 use Rattle.script_lines.specs.Plain.{head_field_of}
 use Rattle.web_cookies.specs.Prepared.{Prepares}
 use Rattle.web_cookies.specs.Stored.{shared_in}
-use Rattle.agent_model.specs.CookieUse.{top_use}
+use Rattle.agent_model.specs.CookieUses.{top_use}
 use Rattle.agent_model.specs.Cookies.{request}
 use Rattle.agent_model.specs.Lines.{is_same_site}
 use Rattle.agent_model.specs.Sessions.{show}
@@ -23,16 +23,16 @@ returns c = rw (← c.self.view_is) (
     let url = plain_address c.args.url.now in
     let target = site_of_address rules url in
     let head = map head_field_of c.args.head.now in
-    let old : HoldingsView = record { live = c.self.inside.live; storage = c.self.inside.storage; cookies = c.self.inside.cookies } in
-    let ready : HoldingsView = record { live = c.self.inside.live; storage = c.self.inside.storage; cookies = c.prepare_top.new.cookies } in
-    let mid : HoldingsView = record { live = c.self-2.inside.live; storage = c.self-2.inside.storage; cookies = c.self-2.inside.cookies } in
-    let new : HoldingsView = record { live = c.self-2.inside.live; storage = c.self-2.inside.storage; cookies = c.perform-body.new.self } in
+    let old : HoldingsView = record { live = c.self.inside.live; storage = c.self.inside.storage; cookies = c.self.inside.cookies; grants = c.self.inside.grants.rows } in
+    let ready : HoldingsView = record { live = c.self.inside.live; storage = c.self.inside.storage; cookies = c.prepare_top.new.cookies; grants = c.self.inside.grants.rows } in
+    let mid : HoldingsView = record { live = c.self-2.inside.live; storage = c.self-2.inside.storage; cookies = c.self-2.inside.cookies; grants = c.self-2.inside.grants.rows } in
+    let new : HoldingsView = record { live = c.self-2.inside.live; storage = c.self-2.inside.storage; cookies = c.perform-body.new.self; grants = c.self-2.inside.grants.rows } in
     let how = top_use target url c.args.method (is_same_site (starter_in c.args.starter old.live.tabs) target) in
     let does = request rules c.args.now how head in
     let prepared : IsPrepared rules c.args.now how head old.cookies ready.cookies (Ok c.in_ok-prepared.prepared) =
     subst (λ site. IsPrepared rules c.args.now (top_use site url c.args.method (is_same_site (starter_in c.args.starter old.live.tabs) site)) head old.cookies ready.cookies (Ok c.in_ok-prepared.prepared))
     c.in_ok-site.ensures c.in_ok-prepared.ensures.prepared in
-    let stays = stays_same old ready refl refl prepared.keeps in
+    let stays = stays_same old ready refl refl refl prepared.keeps in
     let cookies : mid.cookies ≡ ready.cookies = ap (λ (h : HoldingsView). h.cookies) c.self-2.view_is ∙ c.in_ok-show.ensures.cookies in
     record {
       site = c.in_ok-site.ensures;
@@ -41,7 +41,7 @@ returns c = rw (← c.self.view_is) (
           (ap held_of c.self-2.view_is ∙ c.in_ok-show.ensures.held
           ∙ ap (λ h. show rules c.args.tab url (with_copies c.args.opener c.args.tab old.live.tabs h)) stays.held)
           (ap (λ (h : HoldingsView). places_in h.live.tabs) c.self-2.view_is ∙ c.in_ok-show.ensures.places)
-          (done_by does mid new (body_of c.perform-body.result) refl refl
+          (done_by does mid new (body_of c.perform-body.result) refl refl refl
           (c.perform-body.ensures.done does (subst (λ own. Prepares does own c.in_ok-prepared.prepared) (sym cookies) prepared.ready)));
       unchanged = tt;
     })

@@ -9,7 +9,7 @@ use Rattle.agent_core.specs.Documents.{each_sent}
 use Rattle.agent_core.specs.FrameTrees.{AreTrees}
 use Rattle.agent_core.specs.HoldingsView.{HoldingsView}
 use Rattle.agent_core.proofs.TreeLemmas.{trees_after_send}
-use Rattle.agent_core.proofs.ToldLemmas.{labels_sent}
+use Rattle.agent_core.proofs.SendLemmas.{labels_sent}
 use Rattle.agent_core.proofs.WriteLemmas.{events_distinct, events_ready, is_written, to_there}
 use Rattle.agent_core.proofs.holdings.Holdings.clear.Goals as goal
 
@@ -39,7 +39,7 @@ pub returns : goal.returns
 returns c = record {
   acts = λ document there.
       let old : HoldingsView = c.args.self.now in
-      let mid : HoldingsView = record { live = c.reserve_queues.new.self; storage = c.self.inside.storage; cookies = c.self.inside.cookies } in
+      let mid : HoldingsView = record { live = c.reserve_queues.new.self; storage = c.self.inside.storage; cookies = c.self.inside.cookies; grants = c.self.inside.grants.rows } in
       let writer : Keyed = record { at = c.args.at; document = document; key = plain_key c.args.key.now } in
       let event : PlainEvent = record { area = c.args.area; key = None; before = None; after = None; url = document.address.text } in
       let these = c.in_ok-events.ensures.events
@@ -48,5 +48,5 @@ returns c = record {
       (is_written event writer (λ pairs. []) old mid _
       (subst AreTrees (sym c.reserve_queues.ensures.same.0) c.self.invariant)
       (c.reserve_queues.ensures.same.0 ∙ ap (λ (h : HoldingsView). h.live.tabs) c.self.view_is)
-      (ap (λ (h : HoldingsView). h.storage) c.self.view_is) (ap (λ (h : HoldingsView). h.cookies) c.self.view_is) c.in_ok-to.ensures.rising event _ _ refl these c.send.ensures.sent c.clear.ensures.cleared c.answer.ensures);
+      (ap (λ (h : HoldingsView). h.storage) c.self.view_is) (ap (λ (h : HoldingsView). h.cookies) c.self.view_is) (ap (λ (h : HoldingsView). h.grants) c.self.view_is) c.in_ok-to.ensures.rising event _ _ refl these c.send.ensures.sent c.clear.ensures.cleared c.answer.ensures);
 }

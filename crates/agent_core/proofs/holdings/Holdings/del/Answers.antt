@@ -11,7 +11,7 @@ use Rattle.agent_core.specs.FrameTrees.{AreTrees}
 use Rattle.agent_core.specs.HoldingsView.{HoldingsView, cells_of, held_of}
 use Rattle.agent_core.proofs.TreeLemmas.{trees_after_send}
 use Rattle.local_area.specs.Area.{area_remove}
-use Rattle.agent_core.proofs.ToldLemmas.{labels_sent}
+use Rattle.agent_core.proofs.SendLemmas.{labels_sent}
 use Rattle.agent_core.proofs.WriteLemmas.{events_distinct, events_ready, is_written, is_removed, none_copied, to_there}
 use Rattle.agent_core.proofs.holdings.Holdings.del.Goals as goal
 
@@ -41,7 +41,7 @@ pub returns : goal.returns
 returns c = record {
   acts = λ document there.
       let old : HoldingsView = c.args.self.now in
-      let mid : HoldingsView = record { live = c.reserve_queues.new.self; storage = c.self.inside.storage; cookies = c.self.inside.cookies } in
+      let mid : HoldingsView = record { live = c.reserve_queues.new.self; storage = c.self.inside.storage; cookies = c.self.inside.cookies; grants = c.self.inside.grants.rows } in
       let writer : Keyed = record { at = c.args.at; document = document; key = plain_key c.args.key.now } in
       let found = option_copied c.value-before.result in
       let is_there : is_none c.value-before.result ≡ false = search rules in
@@ -53,5 +53,5 @@ returns c = record {
       (is_written event writer (area_remove c.args.name.now) old mid _
       (subst AreTrees (sym c.reserve_queues.ensures.same.0) c.self.invariant)
       (c.reserve_queues.ensures.same.0 ∙ ap (λ (h : HoldingsView). h.live.tabs) c.self.view_is)
-      (ap (λ (h : HoldingsView). h.storage) c.self.view_is) (ap (λ (h : HoldingsView). h.cookies) c.self.view_is) c.in_ok-to.ensures.rising event _ _ refl these c.send.ensures.sent c.remove.ensures.removed c.answer-2.ensures);
+      (ap (λ (h : HoldingsView). h.storage) c.self.view_is) (ap (λ (h : HoldingsView). h.cookies) c.self.view_is) (ap (λ (h : HoldingsView). h.grants) c.self.view_is) c.in_ok-to.ensures.rising event _ _ refl these c.send.ensures.sent c.remove.ensures.removed c.answer-2.ensures);
 }

@@ -1,16 +1,16 @@
 -- The document is there or not; its request is prepared, and then performed.
 use Rattle.std.proofs.Common.{◌≡◌, map, refl, true, Some, Ok, sym, ap, subst, ◌∙◌}
 use Rattle.origin_site.specs.Plain.{plain_address}
-use Rattle.frame_tree.specs.Tree.{has_frame, top_site}
+use Rattle.frame_tree.specs.Tree.{chain_of, has_frame, top_site}
 use Rattle.live_state.specs.Queues.{has_document}
 use Rattle.live_state.specs.Tabs.{tab_at}
 use Rattle.reply_lines.specs.Plain.{body_of}
 use Rattle.script_lines.specs.Plain.{head_field_of}
-use Rattle.agent_model.specs.CookieUse.{fetch_use}
+use Rattle.agent_model.specs.CookieUses.{fetch_use, request_use}
 use Rattle.agent_model.specs.Cookies.{fetch, request}
 use Rattle.agent_core.specs.HoldingsView.{HoldingsView}
 use Rattle.agent_core.specs.Requests.{IsPrepared}
-use Rattle.agent_core.proofs.DoneLemmas.{stays_same}
+use Rattle.agent_core.proofs.DoneLemmas.{no_change, stays_same}
 use Rattle.agent_core.proofs.FoundLemmas.{frames_are, frames_found}
 use Rattle.agent_core.proofs.RequestLemmas.{absent_done, acts_wanting, present_done, request_done}
 use Rattle.agent_core.proofs.holdings.Holdings.fetch.Goals as goal
@@ -29,14 +29,22 @@ prepare_below-requires-clause-there c =
     ap (λ (h : HoldingsView). has_document h.live.tabs c.args.at) c.self.view_is ∙ sym c.if-not-has_document.ensures.there in
     ap (has_frame c.args.at.frame) (sym (frames_found (tab_at c.args.at.tab c.self.inside.live.tabs) c.open_tab-tab.result.now (sym c.open_tab-tab.ensures.tab))) ∙ here
 
+pub returns-in_err-granted : goal.returns-in_err-granted
+returns-in_err-granted c = rw (← c.self.view_is) (record {
+  acts = λ tab site found top.
+      let old : HoldingsView = record { live = c.self.inside.live; storage = c.self.inside.storage; cookies = c.self.inside.cookies; grants = c.self.inside.grants.rows } in
+      acts_wanting (fetch c.args.list.now.rules c.args.now site c.args.at (plain_address c.args.url.now) c.args.method (map head_field_of c.args.head.now) tab) old old c.from_residual.result c.from_residual.ensures.0
+      (stays_same old old refl refl refl (no_change c.self.inside.cookies));
+})
+
 pub returns-in_err-prepared : goal.returns-in_err-prepared
 returns-in_err-prepared c = rw (← c.self.view_is) (record {
   acts = λ tab site found top.
-      let old : HoldingsView = record { live = c.self.inside.live; storage = c.self.inside.storage; cookies = c.self.inside.cookies } in
-      let mid : HoldingsView = record { live = c.self.inside.live; storage = c.self.inside.storage; cookies = c.prepare_below.new.cookies } in
+      let old : HoldingsView = record { live = c.self.inside.live; storage = c.self.inside.storage; cookies = c.self.inside.cookies; grants = c.self.inside.grants.rows } in
+      let mid : HoldingsView = record { live = c.self.inside.live; storage = c.self.inside.storage; cookies = c.prepare_below.new.cookies; grants = c.self.inside.grants.rows } in
       let frames = frames_are (tab_at c.args.at.tab old.live.tabs) c.open_tab-tab.result.now tab (sym c.open_tab-tab.ensures.tab) found in
-      acts_wanting (fetch c.args.list.now.rules c.args.now site c.args.at (plain_address c.args.url.now) c.args.method (map head_field_of c.args.head.now) tab) old mid c.from_residual.result c.from_residual.ensures.0
-      (stays_same old mid refl refl (c.in_err-prepared.ensures.prepared site (subst (λ f. top_site f ≡ Some site) frames top)).keeps);
+      acts_wanting (fetch c.args.list.now.rules c.args.now site c.args.at (plain_address c.args.url.now) c.args.method (map head_field_of c.args.head.now) tab) old mid c.from_residual-in_err-prepared.result c.from_residual-in_err-prepared.ensures.0
+      (stays_same old mid refl refl refl (c.in_err-prepared.ensures.prepared site (subst (λ f. top_site f ≡ Some site) frames top)).keeps);
 })
 
 pub returns : goal.returns
@@ -45,16 +53,18 @@ returns c = rw (← c.self.view_is) (record {
       let rules = c.args.list.now.rules in
       let url = plain_address c.args.url.now in
       let head = map head_field_of c.args.head.now in
-      let old : HoldingsView = record { live = c.self.inside.live; storage = c.self.inside.storage; cookies = c.self.inside.cookies } in
-      let mid : HoldingsView = record { live = c.self.inside.live; storage = c.self.inside.storage; cookies = c.prepare_below.new.cookies } in
-      let new : HoldingsView = record { live = c.self.inside.live; storage = c.self.inside.storage; cookies = c.perform.new.self } in
+      let old : HoldingsView = record { live = c.self.inside.live; storage = c.self.inside.storage; cookies = c.self.inside.cookies; grants = c.self.inside.grants.rows } in
+      let mid : HoldingsView = record { live = c.self.inside.live; storage = c.self.inside.storage; cookies = c.prepare_below.new.cookies; grants = c.self.inside.grants.rows } in
+      let new : HoldingsView = record { live = c.self.inside.live; storage = c.self.inside.storage; cookies = c.perform.new.self; grants = c.self.inside.grants.rows } in
       let frames = frames_are (tab_at c.args.at.tab old.live.tabs) c.open_tab-tab.result.now tab (sym c.open_tab-tab.ensures.tab) found in
       let how = fetch_use rules site c.args.at.frame tab.frames url c.args.method in
       let here : has_document old.live.tabs c.args.at ≡ true =
       ap (λ (h : HoldingsView). has_document h.live.tabs c.args.at) c.self.view_is ∙ sym c.if-not-has_document.ensures.there in
       present_done c.args.at old.live.tabs tab found (request rules c.args.now how head) old new (body_of c.perform.result) here
-      (request_done rules c.args.now how head old mid new c.in_ok-prepared.prepared (body_of c.perform.result) refl refl
+      (request_done rules c.args.now how head old mid new c.in_ok-prepared.prepared (body_of c.perform.result) refl refl refl
       (subst (λ f. IsPrepared rules c.args.now (fetch_use rules site c.args.at.frame f url c.args.method) head old.cookies mid.cookies (Ok c.in_ok-prepared.prepared)) (sym frames)
-      (c.in_ok-prepared.ensures.prepared site (subst (λ f. top_site f ≡ Some site) frames top)))
-      refl refl c.perform.ensures.done);
+      (subst (λ granted. let chain = chain_of c.args.at.frame c.open_tab-tab.result.now in
+      IsPrepared rules c.args.now (request_use rules site chain chain url c.args.method granted) head old.cookies mid.cookies (Ok c.in_ok-prepared.prepared))
+      c.in_ok-granted.ensures (c.in_ok-prepared.ensures.prepared site (subst (λ f. top_site f ≡ Some site) frames top))))
+      refl refl refl c.perform.ensures.done);
 })

@@ -9,7 +9,7 @@ use Rattle.agent_model.specs.Done.{Done}
 use Rattle.agent_core.specs.Documents.{each_sent}
 use Rattle.agent_core.specs.HoldingsView.{cells_of, held_of}
 use Rattle.agent_core.specs.Actions.{Acts}
-use Rattle.agent_core.proofs.ToldLemmas.{labels_sent}
+use Rattle.agent_core.proofs.SendLemmas.{labels_sent}
 use Rattle.agent_core.proofs.WriteLemmas.{is_set}
 use Rattle.agent_core.proofs.holdings.Holdings.set.Goals as goal
 

@@ -14,11 +14,11 @@ pub returns : goal.returns
 returns c = rw (← c.self.view_is) (record {
   acts = λ tab site found top document there.
       let rules = c.args.list.now.rules in
-      let old : HoldingsView = record { live = c.self.inside.live; storage = c.self.inside.storage; cookies = c.self.inside.cookies } in
-      let new : HoldingsView = record { live = c.self.inside.live; storage = c.self.inside.storage; cookies = c.set.new.self } in
+      let old : HoldingsView = record { live = c.self.inside.live; storage = c.self.inside.storage; cookies = c.self.inside.cookies; grants = c.self.inside.grants.rows } in
+      let new : HoldingsView = record { live = c.self.inside.live; storage = c.self.inside.storage; cookies = c.set.new.self; grants = c.self.inside.grants.rows } in
       let frames = frames_are (tab_at c.args.at.tab old.live.tabs) c.open_tab.result.now tab (sym c.open_tab.ensures.tab) found in
       let shown = ap (document_of c.args.at.frame) (sym (frames_found (tab_at c.args.at.tab old.live.tabs) c.open_tab.result.now (sym c.open_tab.ensures.tab))) ∙ there in
       subst (λ how. Acts (set_cookie_by rules c.args.now how c.args.text.now) old new c.set.result)
       (c.script_use-how.ensures document site shown (subst (λ f. top_site f ≡ Some site) frames top))
-      (acts_by (set_cookie_by rules c.args.now (plain_use c.script_use-how.result) c.args.text.now) old new c.set.result refl refl c.set.ensures.done c.set.ensures.shared c.set.ensures.partitioned);
+      (acts_by (set_cookie_by rules c.args.now (plain_use c.script_use-how.result) c.args.text.now) old new c.set.result refl refl refl c.set.ensures.done c.set.ensures.shared c.set.ensures.partitioned);
 })

@@ -16,8 +16,8 @@ use Rattle.agent_core.proofs.holdings.Holdings.show.Goals as goal
 pub invariant_of-self-3 : goal.invariant_of-self-3
 invariant_of-self-3 c =
     let rules = c.args.list.now.rules in
-    let middle : HoldingsView = record { live = c.self-2.inside.live; storage = c.self-2.inside.storage; cookies = c.self-2.inside.cookies } in
-    let after : HoldingsView = record { live = c.put_tab.new.self; storage = c.self-2.inside.storage; cookies = c.self-2.inside.cookies } in
+    let middle : HoldingsView = record { live = c.self-2.inside.live; storage = c.self-2.inside.storage; cookies = c.self-2.inside.cookies; grants = c.self-2.inside.grants.rows } in
+    let after : HoldingsView = record { live = c.put_tab.new.self; storage = c.self-2.inside.storage; cookies = c.self-2.inside.cookies; grants = c.self-2.inside.grants.rows } in
     shown_trees rules c.args.tab (plain_address c.args.url.now) middle after
     (c.put_tab.ensures.put
     ∙ ap (λ frames. tabs_put c.args.tab frames (Some 0) middle.live.tabs) (c.in_ok-made.ensures.opened ∙ ap (opened rules) c.in_ok-copy.ensures.same))
@@ -26,22 +26,22 @@ invariant_of-self-3 c =
 pub returns-clause-held : goal.returns-clause-held
 returns-clause-held c =
     let rules = c.args.list.now.rules in
-    let middle : HoldingsView = record { live = c.self-2.inside.live; storage = c.self-2.inside.storage; cookies = c.self-2.inside.cookies } in
-    let after : HoldingsView = record { live = c.put_tab.new.self; storage = c.self-2.inside.storage; cookies = c.self-2.inside.cookies } in
+    let middle : HoldingsView = record { live = c.self-2.inside.live; storage = c.self-2.inside.storage; cookies = c.self-2.inside.cookies; grants = c.self-2.inside.grants.rows } in
+    let after : HoldingsView = record { live = c.put_tab.new.self; storage = c.self-2.inside.storage; cookies = c.self-2.inside.cookies; grants = c.self-2.inside.grants.rows } in
     shown_held rules c.args.tab (plain_address c.args.url.now) middle after
     (c.put_tab.ensures.put
     ∙ ap (λ frames. tabs_put c.args.tab frames (Some 0) middle.live.tabs) (c.in_ok-made.ensures.opened ∙ ap (opened rules) c.in_ok-copy.ensures.same))
-    refl refl
+    refl refl refl
     ∙ ap (λ h. show rules c.args.tab (plain_address c.args.url.now) h)
     (ap held_of c.self-2.view_is ∙ c.in_ok-copy_areas.ensures.held
-    ∙ ap (λ (tabs : List PlainTab). with_copies c.args.opener c.args.tab tabs (held_with (beside_storage tabs c.self.inside.cookies) c.self.inside.storage)) c.in_ok-reserve.ensures.same.0
+    ∙ ap (λ (tabs : List PlainTab). with_copies c.args.opener c.args.tab tabs (held_with (beside_storage tabs c.self.inside.cookies c.self.inside.grants.rows) c.self.inside.storage)) c.in_ok-reserve.ensures.same.0
     ∙ ap (λ (h : HoldingsView). with_copies c.args.opener c.args.tab h.live.tabs (held_of h)) c.self.view_is)
 
 pub returns-clause-places : goal.returns-clause-places
 returns-clause-places c =
     let rules = c.args.list.now.rules in
-    let middle : HoldingsView = record { live = c.self-2.inside.live; storage = c.self-2.inside.storage; cookies = c.self-2.inside.cookies } in
-    let after : HoldingsView = record { live = c.put_tab.new.self; storage = c.self-2.inside.storage; cookies = c.self-2.inside.cookies } in
+    let middle : HoldingsView = record { live = c.self-2.inside.live; storage = c.self-2.inside.storage; cookies = c.self-2.inside.cookies; grants = c.self-2.inside.grants.rows } in
+    let after : HoldingsView = record { live = c.put_tab.new.self; storage = c.self-2.inside.storage; cookies = c.self-2.inside.cookies; grants = c.self-2.inside.grants.rows } in
     shown_places rules c.args.tab (plain_address c.args.url.now) middle after
     (c.put_tab.ensures.put
     ∙ ap (λ frames. tabs_put c.args.tab frames (Some 0) middle.live.tabs) (c.in_ok-made.ensures.opened ∙ ap (opened rules) c.in_ok-copy.ensures.same))

@@ -48,19 +48,19 @@ returns-in-Ok c = record {
   acts = λ made these document there.
       let event : PlainEvent = record made { area = c.args.area } in
       let old : HoldingsView = c.args.self.now in
-      let mid : HoldingsView = record { live = c.reserve_queues.new.self; storage = c.self.inside.storage; cookies = c.self.inside.cookies } in
+      let mid : HoldingsView = record { live = c.reserve_queues.new.self; storage = c.self.inside.storage; cookies = c.self.inside.cookies; grants = c.self.inside.grants.rows } in
       let writer : Keyed = record { at = c.args.at; document = document; key = plain_key c.args.key.now } in
-      let pairs_with : Entries → List Pair = λ entries. pairs_of c.args.area writer (held_with (beside_storage old.live.tabs old.cookies) entries) in
+      let pairs_with : Entries → List Pair = λ entries. pairs_of c.args.area writer (held_with (beside_storage old.live.tabs old.cookies old.grants) entries) in
       let entries : mid.storage ≡ old.storage = ap (λ (h : HoldingsView). h.storage) c.self.view_is in
       let put : area_put (string_bytes c.in_ok-name.name) (string_bytes c.in_ok-value.value) ≡ area_put c.args.name.now c.args.value.now =
       λ i. area_put (c.in_ok-name.ensures.ok i) (c.in_ok-value.ensures.ok i) in
       is_stored c.args.area writer (area_put c.args.name.now c.args.value.now (pairs_of c.args.area writer (held_of old))) event (cells_of old) (held_of old) old _ _
       (subst (λ pairs. area_weight pairs ≤ quota) (λ i. put i (pairs_with (entries i)))
       (is_within c.in-Ok.field-0 (area_weight (area_put (string_bytes c.in_ok-name.name) (string_bytes c.in_ok-value.value) (pairs_with mid.storage)))
-      (c.in-Ok.ensures.quota (beside_storage old.live.tabs old.cookies))))
+      (c.in-Ok.ensures.quota (beside_storage old.live.tabs old.cookies old.grants))))
       (is_written event writer (area_put c.args.name.now c.args.value.now) old mid _
       (subst AreTrees (sym c.reserve_queues.ensures.same.0) c.self.invariant)
-      (c.reserve_queues.ensures.same.0 ∙ ap (λ (h : HoldingsView). h.live.tabs) c.self.view_is) entries (ap (λ (h : HoldingsView). h.cookies) c.self.view_is) c.requires.rising event _ _ refl
+      (c.reserve_queues.ensures.same.0 ∙ ap (λ (h : HoldingsView). h.live.tabs) c.self.view_is) entries (ap (λ (h : HoldingsView). h.cookies) c.self.view_is) (ap (λ (h : HoldingsView). h.grants) c.self.view_is) c.requires.rising event _ _ refl
       (these ∙ ap (each_sent event) c.requires.hearers) c.send.ensures.sent
       (subst (λ put. (beside : Holdings) → let before = held_with beside mid.storage in
       held_with beside c.put.new.self ≡ with_area c.args.area c.args.at.tab (plain_key c.args.key.now) (put (area_of c.args.area c.args.at.tab (plain_key c.args.key.now) before)) before)
@@ -73,21 +73,22 @@ returns-in-Err-Quota c = record {
   acts = λ made these document there.
       let event : PlainEvent = record made { area = c.args.area } in
       let old : HoldingsView = c.args.self.now in
-      let mid : HoldingsView = record { live = c.reserve_queues.new.self; storage = c.self.inside.storage; cookies = c.self.inside.cookies } in
+      let mid : HoldingsView = record { live = c.reserve_queues.new.self; storage = c.self.inside.storage; cookies = c.self.inside.cookies; grants = c.self.inside.grants.rows } in
       let writer : Keyed = record { at = c.args.at; document = document; key = plain_key c.args.key.now } in
-      let pairs_with : Entries → List Pair = λ entries. pairs_of c.args.area writer (held_with (beside_storage old.live.tabs old.cookies) entries) in
+      let pairs_with : Entries → List Pair = λ entries. pairs_of c.args.area writer (held_with (beside_storage old.live.tabs old.cookies old.grants) entries) in
       let entries : mid.storage ≡ old.storage = ap (λ (h : HoldingsView). h.storage) c.self.view_is in
       let own : mid.cookies ≡ old.cookies = ap (λ (h : HoldingsView). h.cookies) c.self.view_is in
+      let rows : mid.grants ≡ old.grants = ap (λ (h : HoldingsView). h.grants) c.self.view_is in
       let tabs : mid.live.tabs ≡ old.live.tabs = c.reserve_queues.ensures.same.0 ∙ ap (λ (h : HoldingsView). h.live.tabs) c.self.view_is in
       let put : area_put (string_bytes c.in_ok-name.name) (string_bytes c.in_ok-value.value) ≡ area_put c.args.name.now c.args.value.now =
       λ i. area_put (c.in_ok-name.ensures.ok i) (c.in_ok-value.ensures.ok i) in
       is_refused c.args.area writer (area_put c.args.name.now c.args.value.now (pairs_of c.args.area writer (held_of old))) event (cells_of old) (held_of old) old _ _
       (subst (λ pairs. quota < area_weight pairs) (λ i. put i (pairs_with (entries i)))
       (is_past c.in-Err-Quota.field-0 c.in-Err-Quota.field-0-0 (area_weight (area_put (string_bytes c.in_ok-name.name) (string_bytes c.in_ok-value.value) (pairs_with mid.storage)))
-      c.in-Err-Quota.field-0-is (c.in-Err-Quota.ensures.causes (beside_storage old.live.tabs old.cookies)) (c.in-Err-Quota.ensures.quota (beside_storage old.live.tabs old.cookies))))
+      c.in-Err-Quota.field-0-is (c.in-Err-Quota.ensures.causes (beside_storage old.live.tabs old.cookies old.grants)) (c.in-Err-Quota.ensures.quota (beside_storage old.live.tabs old.cookies old.grants))))
       (record {
-        held = (λ i. held_with (beside_storage (tabs i) (own i)) c.put.new.self) ∙ c.in-Err-Quota.ensures.unchanged (beside_storage old.live.tabs old.cookies)
-            ∙ ap (held_with (beside_storage old.live.tabs old.cookies)) entries;
+        held = (λ i. held_with (beside_storage (tabs i) (own i) (rows i)) c.put.new.self) ∙ c.in-Err-Quota.ensures.unchanged (beside_storage old.live.tabs old.cookies old.grants)
+            ∙ ap (held_with (beside_storage old.live.tabs old.cookies old.grants)) entries;
         cells = ap shared_in own;
         answer = c.answer-in-Err-Quota.ensures;
         places = ap places_in tabs;

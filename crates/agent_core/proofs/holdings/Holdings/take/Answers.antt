@@ -22,5 +22,5 @@ returns c =
     rw (← c.self.view_is) (record {
       acts = λ tab site found top.
           taken_done at tab _ _ _ found (sym (ap (λ (t : Option PlainTab). has_frame at.frame (frames_by t)) found) ∙ there)
-          c.take_events-events.ensures.taken refl (no_change c.self.inside.cookies) (λ i. Events (given.0 i) (given.1 i));
+          c.take_events-events.ensures.taken refl refl (no_change c.self.inside.cookies) (λ i. Events (given.0 i) (given.1 i));
     })

@@ -7,7 +7,7 @@ use Rattle.storage_key.specs.Plain.{plain_context}
 use Rattle.frame_tree.specs.Keys.{is_first_at, sites}
 use Rattle.frame_tree.specs.Tree.{chain_of}
 use Rattle.origin_site.specs.Site.{site_of_address}
-use Rattle.agent_model.specs.CookieUse.{chain_above, is_safe, nav_use, starter_of}
+use Rattle.agent_model.specs.CookieUses.{chain_above, is_safe, request_use, starter_of}
 use Rattle.agent_core.proofs.RequestLemmas.{first_is, prepared_as}
 use Rattle.agent_core.proofs.holdings.requests.prepare_nav.Goals as goal
 use Rattle.agent_core.proofs.holdings.requests.prepare_nav.Goals.{then-by_self, else-by_self}
@@ -29,8 +29,8 @@ returns c =
     ] in
     record {
       prepared = λ site top.
-          prepared_as rules c.args.now _ (nav_use rules site c.args.frame frames url c.args.by_self c.args.method) (map head_field_of c.args.head.now) c.args.cookies.now c.prepare.new.self c.prepare.result
+          prepared_as rules c.args.now _ (request_use rules site (chain_above c.args.frame frames) (starter_of c.args.by_self c.args.frame frames) url c.args.method c.args.granted) (map head_field_of c.args.head.now) c.args.cookies.now c.prepare.new.self c.prepare.result
           (c.request_use-how.ensures site top
-          ∙ λ i. record { url = url; top = site; context = context i; same_site = same_site i; top_load = false; safe = is_safe c.args.method; script = false })
+          ∙ λ i. record { url = url; top = site; context = context i; same_site = same_site i; top_load = false; safe = is_safe c.args.method; script = false; granted = c.args.granted })
           (record { shared = c.prepare.ensures.shared; partitioned = c.prepare.ensures.partitioned }) c.prepare.ensures.prepared;
     }

@@ -1,5 +1,7 @@
 //! The host of the program: the files of the system.
-ghost use Rattle.std.specs.Prelude.{◌≡◌, None};
+ghost use Rattle.std.specs.Prelude.{◌≡◌, ◌+◌, Err, IfOk, MatchResult, None, OnErr};
+ghost use Rattle.agent_base.specs.Counts.{next_count};
+ghost use Rattle.replay.specs.Hosts.{HasOpenCause};
 
 use crate::Host;
 use crate::host::count_up;
@@ -41,8 +43,18 @@ impl<R: Files + Drop> Host for RealHost<R> {
 
     ghost reads = { λ h. h.reads };
 
-    // A host that has as many lists out as it can count opens no other.
-    fn open_list(&mut self, path: &str) -> Result<ReadSource<R::File>, Fault> {
+    // The trait's clauses on counts, for it tells no bytes, and after them that a file which is not
+    // opened is a failure, never want of memory. A host that has as many lists out as it can count
+    // opens no other.
+    fn open_list(&mut self, path: &str) -> Result<ReadSource<R::File>, Fault>
+        ensures fresh { IfOk result (λ list. list.faults ≡ 0) }
+        ensures cause { HasOpenCause self.old.faults self.new.faults result }
+        ensures unread { self.new.reads ≡ self.old.reads }
+        ensures out { MatchResult result (λ _. self.new.lists_out ≡ self.old.lists_out + 1)
+            (λ _. self.new.lists_out ≡ self.old.lists_out) }
+        ensures no_memory { result ≡ Err Fault.NoMemory → ⊥ }
+        ensures count { OnErr result (self.new.faults ≡ next_count self.old.faults) }
+    {
         if self.lists_out < u64::MAX
             && let Ok(file) = File::open(&self.files, path)
         {

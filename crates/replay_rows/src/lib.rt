@@ -4,6 +4,8 @@
 #![tactic(auto)]
 
 #[cfg(test)]
+mod access;
+#[cfg(test)]
 mod areas;
 #[cfg(test)]
 mod clocks;

@@ -2,7 +2,7 @@
 use crate::refusals::{LISTS, USAGE, WORDS};
 use crate::row::{REPLAY, Row, check};
 use crate::script_faults::SCRIPTS;
-use crate::{areas, clocks, cookies, events, first_path, frames, lists, sessions};
+use crate::{access, areas, clocks, cookies, events, first_path, frames, lists, sessions};
 use std::alloc::Global;
 use std::process::Abort;
 use std::test::Fail;
@@ -12,6 +12,11 @@ fn check_all(rt: &impl Abort, alloc: Global, rows: &[Row]) -> Result<(), Fail> {
         check(rt, alloc, row)?;
     }
     Ok(())
+}
+
+#[test]
+fn storage_access(rt: HostRuntime) -> Result<(), Fail> {
+    check_all(&rt, rt.alloc(), access::ROWS)
 }
 
 #[test]

@@ -2,6 +2,7 @@ pub mod StandardFacts
 pub mod Past
 pub mod Records
 pub mod Syncs
+pub mod Placed
 pub mod MemView
 pub mod Recoveries
 pub mod Plans

@@ -10,6 +10,7 @@ use Rattle.disk_model.specs.declared.medium.Entry.{Entry}
 use Rattle.disk_model.specs.ImageLaws.{end_push}
 use Rattle.disk_model.specs.Laws.{overlaid-written}
 use Rattle.disk_model.proofs.Past.{replay-push}
+use Rattle.disk_model.proofs.Placed.{placed_write}
 
 pub written_len-push : (entries : List Entry) (e : Entry) → written_len (entries ++ e ∷ []) ≡ written_len entries + e.len
 written_len-push [] e = omega arith
@@ -43,10 +44,6 @@ written_events-push (x ∷ entries) e log bytes is size =
 overlaid_len : (file : List ℕ) (at : ℕ) (bytes : List ℕ) → at ≤ length file → length (overlaid file at bytes) ≡ max (length file) (at + length bytes)
 overlaid_len file at bytes le = (overlaid-written file at bytes le).len
 
-unless_shorter : (fresh : Bool) (contents other : List ℕ) → (fresh ≡ false → length other ≤ length contents) → length (unless_fresh fresh contents other) ≤ length contents
-unless_shorter true contents other le = omega arith
-unless_shorter false contents other le = le refl
-
 module _ (contents synced_bytes first : List ℕ) (fresh : Bool) (entries : List Entry) (log : List ℕ) (failed good : ℕ) (ranges : List (ℕ × ℕ)) (kept : IsKept contents synced_bytes first fresh entries log failed good ranges) where
   -- a write
   module _ (at : ℕ) (bytes : List ℕ) where
@@ -67,7 +64,7 @@ module _ (contents synced_bytes first : List ℕ) (fresh : Bool) (entries : List
       replayed = ap (λ (l : List Event). replay (at_first (unless_fresh fresh contents first)) l) events_write ∙ replay_write;
       log_len = omega (arith, length-append log bytes, kept.log_len, written_len-push entries (record { failed = failed; good = good; at = at; len = length bytes }));
       within = omega (arith, end_push 0 ranges at (length bytes), kept.within, overlaid_len contents at bytes place);
-      shorter = λ e. omega (arith, unless_shorter fresh contents synced_bytes kept.shorter, overlaid_len contents at bytes place);
+      placed = placed_write (unless_fresh fresh contents synced_bytes) contents (overlaid contents at bytes) ranges at bytes place (overlaid-written contents at bytes place) kept.placed;
       untouched = λ e. absurd (cc);
     }
 

@@ -1,14 +1,13 @@
 -- What a restart leaves, range by range, and that it is one of the images.
-use Rattle.std.proofs.Common.{◌≡◌, ◌⊎◌, ⊎_elim, inl, inr, ℕ, zero, suc, ◌+◌, ◌-◌, ◌≤◌, ◌<◌, max, List, [], ◌∷◌, ◌++◌, length, slice_index, arith, refl, sym, ◌∙◌, ap, subst}
+use Rattle.std.proofs.Common.{◌≡◌, ◌⊎◌, ⊎_elim, inl, inr, ℕ, zero, suc, ◌+◌, ◌≤◌, ◌<◌, List, [], ◌∷◌, ◌++◌, length, slice_index, arith, refl, sym, ◌∙◌, ap, subst}
 use Rattle.std.specs.Prelude.{Result, Ok, Err, OnOk, OnErr, get_or, ◌/◌, nat_lt, if◌then◌else◌}
 use Rattle.std.proofs.lemmas.Bool.Decides.{nat_tests}
 use Rattle.disk_model.specs.Image.{IsOutside, greatest_end}
 use Rattle.disk_model.specs.ImageLaws.{outside_push, outside_front}
 use Rattle.disk_model.specs.History.{Held, ImageOf}
 use Rattle.disk_model.specs.Recovery.{IsSpoiled, IsHalved, halves, placed_end, Recovered}
-
-place_cases : (i at n : ℕ) → ((i < at) ⊎ (at + n ≤ i)) ⊎ ((at ≤ i) × (i < at + n))
-place_cases i at n = first_of (grind arith, omega arith)
+use Rattle.disk_model.specs.MediumBuffers.{IsPlaced}
+use Rattle.disk_model.proofs.Placed.{place_cases, none_placed, placed_least}
 
 -- one range more is spoiled
 pub spoiled_push : (contents mid new : List ℕ) (ranges : List (ℕ × ℕ)) (at n : ℕ) → IsSpoiled contents ranges mid → length new ≡ length mid
@@ -26,39 +25,12 @@ spoiled_push contents mid new ranges at n spoiled size within beside = record {
 pub none_spoiled : (contents : List ℕ) → IsSpoiled contents [] contents
 none_spoiled contents = record { len = refl; outside = λ i below out. refl; inside = λ i below not_out. absurd (not_out tt) }
 
-halves-push : (ranges : List (ℕ × ℕ)) (at n : ℕ) → halves (ranges ++ (at, n) ∷ []) ≡ halves ranges ++ (at, (n + 1) / 2) ∷ []
-halves-push [] at n = refl
-halves-push (r ∷ ranges) at n = ap (λ (l : List (ℕ × ℕ)). (r.0, (r.1 + 1) / 2) ∷ l) (halves-push ranges at n)
-
-placed_end-push : (len : ℕ) (ranges : List (ℕ × ℕ)) (at n : ℕ) → placed_end len (ranges ++ (at, n) ∷ []) ≡ max (if nat_lt 0 n then at + n else 0) (placed_end len ranges)
-placed_end-push len [] at n = refl
-placed_end-push len (r ∷ ranges) at n = let rest = placed_end-push len ranges at n in rw rest (max_swap _ _ _)
-  where
-    max_swap : (a b c : ℕ) → max a (max b c) ≡ max b (max a c)
-    max_swap a b c = omega arith
-
--- one range more has its first half in place
-pub halved_push : (synced contents mid new : List ℕ) (ranges : List (ℕ × ℕ)) (at n half : ℕ) → half ≡ (n + 1) / 2 → IsHalved synced contents ranges mid
-    → length new ≡ max (if nat_lt 0 half then at + half else 0) (length mid)
-    → ((i : ℕ) → at ≤ i → i < at + half → slice_index new i ≡ slice_index contents i) → ((i : ℕ) → (i < at) ⊎ (at + half ≤ i) → slice_index new i ≡ slice_index mid i)
-    → IsHalved synced contents (ranges ++ (at, n) ∷ []) new
-halved_push synced contents mid new ranges at n half is halved size within beside = record {
-  len = size ∙ ap (λ (k : ℕ). max (if nat_lt 0 half then at + half else 0) k) halved.len ∙ sym (placed_end-push (length synced) (halves ranges) at half) ∙ ap (λ (l : List (ℕ × ℕ)). placed_end (length synced) l) more;
-  outside = λ i out. let parts = outside_front i (halves ranges) at half (subst (λ (l : List (ℕ × ℕ)). IsOutside i l) (sym more) out) in beside i parts.1 ∙ halved.outside i parts.0;
-  inside = λ i not_out. ⊎_elim
-      (λ (o : (i < at) ⊎ (at + half ≤ i)). beside i o ∙ halved.inside i (λ out. not_out (subst (λ (l : List (ℕ × ℕ)). IsOutside i l) more (outside_push i (halves ranges) at half out o))))
-      (λ (m : (at ≤ i) × (i < at + half)). within i m.0 m.1)
-      (place_cases i at half);
-}
-  where
-    more : halves ranges ++ (at, half) ∷ [] ≡ halves (ranges ++ (at, n) ∷ [])
-    more = ap (λ (k : ℕ). halves ranges ++ (at, k) ∷ []) is ∙ sym (halves-push ranges at n)
+-- where the first half of each range is in place
+pub placed_halved : (synced contents file : List ℕ) (ranges : List (ℕ × ℕ)) → IsPlaced synced contents (halves ranges) file → IsHalved synced contents ranges file
+placed_halved synced contents file ranges placed = record { len = placed.len; outside = placed.outside; inside = placed.inside }
 
 pub none_halved : (synced contents : List ℕ) → IsHalved synced contents [] synced
-none_halved synced contents = record { len = refl; outside = λ i out. refl; inside = λ i not_out. absurd (not_out tt) }
-
-pub half_is : (n : ℕ) → n - n / 2 ≡ (n + 1) / 2
-half_is n = omega arith
+none_halved synced contents = placed_halved synced contents synced [] (none_placed synced contents)
 
 half_end : (at n : ℕ) → (if nat_lt 0 ((n + 1) / 2) then at + (n + 1) / 2 else 0) ≤ at + n
 half_end at n = grind (arith, nat_tests)
@@ -67,9 +39,10 @@ pub placed_most : (len : ℕ) (ranges : List (ℕ × ℕ)) → placed_end len (h
 placed_most len [] = omega arith
 placed_most len (r ∷ ranges) = omega (arith, half_end r.0 r.1, placed_most len ranges)
 
-placed_least : (len : ℕ) (ranges : List (ℕ × ℕ)) → len ≤ placed_end len ranges
-placed_least len [] = omega arith
-placed_least len (r ∷ ranges) = omega (arith, placed_least len ranges)
+-- the halves end no later than the ranges
+pub halves_within : (ranges : List (ℕ × ℕ)) → greatest_end 0 (halves ranges) ≤ greatest_end 0 ranges
+halves_within [] = omega arith
+halves_within (r ∷ ranges) = omega (arith, halves_within ranges)
 
 outside_halves : (i : ℕ) (ranges : List (ℕ × ℕ)) → IsOutside i ranges → IsOutside i (halves ranges)
 outside_halves i [] out = tt

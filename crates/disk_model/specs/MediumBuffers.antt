@@ -1,11 +1,20 @@
 -- What a `Medium` keeps in its buffers.
 use Rattle.std.specs.Prelude.{◌≡◌, ℕ, ◌+◌, ◌*◌, ◌<◌, ◌≤◌, Bool, true, false, List, [], length, Vec}
-use Rattle.std.specs.Prelude.{vec_capacity, vec_len}
+use Rattle.std.specs.Prelude.{slice_index, vec_capacity, vec_len}
 use Rattle.std.specs.declared.alloc.Global.{Global}
-use Rattle.disk_model.specs.Image.{greatest_end}
+use Rattle.disk_model.specs.Image.{IsOutside, greatest_end}
 use Rattle.disk_model.specs.History.{replay, at_first}
+use Rattle.disk_model.specs.Recovery.{placed_end}
 use Rattle.disk_model.specs.Record.{written_len, all_events, unless_fresh}
 use Rattle.disk_model.specs.declared.medium.Entry.{Entry}
+
+-- the file has the bytes of the contents in each range, and elsewhere what was synced. It reaches
+-- to the last byte in place.
+pub record IsPlaced (synced contents : List ℕ) (ranges : List (ℕ × ℕ)) (file : List ℕ)
+    : Type 0 where
+  pub len : length file ≡ placed_end (length synced) ranges
+  pub outside : (i : ℕ) → IsOutside i ranges → slice_index file i ≡ slice_index synced i
+  pub inside : (i : ℕ) → (IsOutside i ranges → ⊥) → slice_index file i ≡ slice_index contents i
 
 -- the buffers are those of the record
 pub record IsKept (contents synced_bytes first : List ℕ) (fresh : Bool) (entries : List Entry)
@@ -19,7 +28,8 @@ pub record IsKept (contents synced_bytes first : List ℕ) (fresh : Bool) (entri
       }
   pub log_len : length log ≡ written_len entries
   pub within : greatest_end 0 ranges ≤ length contents
-  pub shorter : fresh ≡ false → length synced_bytes ≤ length contents
+  -- contents and synced bytes differ in the ranges alone
+  pub placed : IsPlaced (unless_fresh fresh contents synced_bytes) contents ranges contents
   pub untouched : fresh ≡ true → (entries ≡ []) × (log ≡ []) × (ranges ≡ [])
 
 -- there is room for so many writes, and for what may have to be copied

@@ -1,12 +1,13 @@
 // The bytes of a disk in memory, with the record of its changing calls.
 ghost use Rattle.std.specs.Prelude.{◌≡◌, ◌⊎◌, ◌+◌, ◌*◌, ◌<◌, ◌≤◌, ◌++◌, ◌∷◌, [], List, ℕ, length};
 ghost use Rattle.std.specs.Prelude.{true, false, OnOk, OnErr, IfOk, IsOk, vec_capacity, vec_len};
+ghost use Rattle.disk_model.specs.Image.{greatest_end};
 ghost use Rattle.disk_model.specs.History.{overlaid, wrote, synced, after, Past, held, Grows};
 ghost use Rattle.disk_model.specs.Recovery.{Recovered};
 ghost use Rattle.disk_model.specs.Record.{all_events, unless_fresh, IsMore, IsMiss};
-ghost use Rattle.disk_model.specs.MediumBuffers.{IsKept, HasRoom};
+ghost use Rattle.disk_model.specs.MediumBuffers.{IsPlaced, IsKept, HasRoom};
 
-use crate::recovery::recover;
+use crate::recovery::{keep_each, recover};
 use std::alloc::{AllocError, Global};
 use std::marker::Model;
 
@@ -70,17 +71,26 @@ fn begin(
     Ok(())
 }
 
-// After a sync: what is on the disk is what is there.
-fn settle(fresh: bool, contents: &[u8], synced: &mut Vec<u8>) -> Result<(), AllocError>
+// After a sync: what is on the disk is what is there. Only the ranges written since the last sync
+// that succeeded are brought over.
+fn settle(
+    fresh: bool,
+    contents: &[u8],
+    synced: &mut Vec<u8>,
+    ranges: &[(usize, usize)],
+) -> Result<(), AllocError>
+    requires within { greatest_end 0 ranges.now ≤ length contents.now }
+    requires placed { fresh ≡ false
+        → IsPlaced synced.old.items contents.now ranges.now contents.now }
     ensures synced { OnOk result (unless_fresh fresh contents.now synced.new.items ≡ contents.now) }
     ensures capacity { vec_capacity synced.old ≤ vec_capacity synced.new }
     ensures full { OnErr result ((fresh ≡ false)
         × (vec_capacity synced.old < length contents.now)) }
 {
-    if !fresh {
-        copy(synced, contents)?;
+    if fresh {
+        return Ok(());
     }
-    Ok(())
+    keep_each(synced, contents, ranges)
 }
 
 // One sync more that failed.
@@ -102,8 +112,8 @@ fn more(good: u64) -> u64
 }
 
 // The bytes, and the record of all changing calls: each write has an entry, and the log has the
-// bytes
-// of all writes back to back. Until the first write the contents stand for the other copies too.
+// bytes of all writes back to back. Until the first write the contents stand for the other copies
+// too.
 #[derive(Debug, Drop)]
 pub struct Medium {
     contents: Vec<u8>,
@@ -169,14 +179,14 @@ impl Medium {
         Ok(())
     }
 
-    /// All that is there is on the disk.
+    /// All that is there is on the disk. Takes the time of what was written since the last sync.
     pub fn sync(&mut self) -> Result<(), AllocError>
         ensures ok { IsOk result }
         ensures grows { Grows self.old self.new (after (held self.old) synced) }
         ensures end { self.new.room_end ≡ self.old.room_end }
         ensures writes { self.new.room_writes ≡ self.old.room_writes }
     {
-        settle(self.fresh, &self.contents, &mut self.synced)?;
+        settle(self.fresh, &self.contents, &mut self.synced, &self.ranges)?;
         self.ranges.clear();
         self.good = more(self.good);
         Ok(())
@@ -205,7 +215,7 @@ impl Medium {
             self.fresh,
             &mut self.contents,
             &mut self.synced,
-            &self.ranges,
+            &mut self.ranges,
             pick,
         )?;
         self.fresh = true;
@@ -244,6 +254,9 @@ impl Medium {
     }
 
     /// Makes room for so many writes that end at most there.
+    ///
+    /// Each of them may have `end` bytes, so the log gets room for as many a write. Where a buffer
+    /// grows, it doubles at least. Room that is never written takes addresses rather than memory.
     pub fn reserve(&mut self, end: usize, writes: usize) -> Result<(), AllocError>
         ensures first { self.new.first ≡ self.old.first }
         ensures events { self.new.events ≡ self.old.events }

@@ -1,11 +1,12 @@
-// What a cut makes of a file, by its pick.
+// What a cut makes of a file, by its pick, and what a sync brings over.
 ghost use Rattle.std.specs.Prelude.{◌≡◌, ◌⊎◌, ◌+◌, ◌-◌, ◌/◌, max, false, true, [], slice_index};
 ghost use Rattle.std.specs.Prelude.{◌<◌, ◌≤◌, nat_lt, if◌then◌else◌, List, ℕ, length, OnOk, OnErr};
 ghost use Rattle.std.specs.Prelude.{vec_capacity, vec_len};
 ghost use Rattle.disk_model.specs.Image.{greatest_end};
 ghost use Rattle.disk_model.specs.History.{Held};
-ghost use Rattle.disk_model.specs.Recovery.{IsSpoiled, IsHalved, Recovered};
+ghost use Rattle.disk_model.specs.Recovery.{IsSpoiled, halves, Recovered};
 ghost use Rattle.disk_model.specs.Record.{unless_fresh};
+ghost use Rattle.disk_model.specs.MediumBuffers.{IsPlaced};
 
 use crate::medium::copy;
 use std::alloc::AllocError;
@@ -57,7 +58,7 @@ fn place(file: &mut [u8], contents: &[u8], at: usize, end: usize)
     file[at..end].copy_from_slice(&contents[at..end]);
 }
 
-// The first bytes of a range are in place.
+// The bytes of a range are in place.
 fn keep(synced: &mut Vec<u8>, contents: &[u8], at: usize, len: usize) -> Result<(), AllocError>
     requires { at + len ≤ length contents.now }
     ensures len { OnOk result
@@ -77,33 +78,46 @@ fn keep(synced: &mut Vec<u8>, contents: &[u8], at: usize, len: usize) -> Result<
     Ok(())
 }
 
-// Of each range the first half is in place.
-fn halve(synced: &mut Vec<u8>, contents: &[u8], ranges: &[(usize, usize)]) -> Result<(), AllocError>
+/// The bytes of each range are in place.
+pub fn keep_each(
+    synced: &mut Vec<u8>,
+    contents: &[u8],
+    ranges: &[(usize, usize)],
+) -> Result<(), AllocError>
     requires { greatest_end 0 ranges.now ≤ length contents.now }
-    ensures halved { OnOk result
-        (IsHalved synced.old.items contents.now ranges.now synced.new.items) }
+    ensures placed { OnOk result
+        (IsPlaced synced.old.items contents.now ranges.now synced.new.items) }
     ensures capacity { vec_capacity synced.old ≤ vec_capacity synced.new }
     ensures full { OnErr result (vec_capacity synced.old < length contents.now) }
 {
     for range in ranges {
-        keep(synced, contents, range.0, range.1 - range.1 / 2)?;
+        keep(synced, contents, range.0, range.1)?;
     }
     Ok(())
 }
 
-// The contents after a cut, by its pick. The synced bytes are used up.
+// The first half of each range, rounded up.
+fn halve(ranges: &mut [(usize, usize)])
+    ensures { ranges.new ≡ halves ranges.old }
+{
+    for range in ranges.iter_mut() {
+        range.1 -= range.1 / 2;
+    }
+}
+
+// The contents after a cut, by its pick. The synced bytes and the ranges are used up.
 fn restore(
     contents: &mut Vec<u8>,
     synced: &mut Vec<u8>,
-    ranges: &[(usize, usize)],
+    ranges: &mut [(usize, usize)],
     pick: u8,
 ) -> Result<(), AllocError>
-    requires within { greatest_end 0 ranges.now ≤ length contents.old.items }
+    requires within { greatest_end 0 ranges.old ≤ length contents.old.items }
     requires shorter { length synced.old.items ≤ length contents.old.items }
     ensures recovered { OnOk result (Recovered pick (record {
       contents = contents.old.items;
       synced = synced.old.items;
-      ranges = ranges.now;
+      ranges = ranges.old;
     }) contents.new.items) }
     ensures capacity { vec_capacity contents.old ≤ vec_capacity contents.new }
     ensures synced_capacity { vec_capacity synced.old ≤ vec_capacity synced.new }
@@ -118,7 +132,8 @@ fn restore(
             Ok(())
         }
         _ => {
-            halve(synced, contents, ranges)?;
+            halve(ranges);
+            keep_each(synced, contents, ranges)?;
             copy(contents, synced)
         }
     }
@@ -129,16 +144,16 @@ pub fn recover(
     fresh: bool,
     contents: &mut Vec<u8>,
     synced: &mut Vec<u8>,
-    ranges: &[(usize, usize)],
+    ranges: &mut [(usize, usize)],
     pick: u8,
 ) -> Result<(), AllocError>
-    requires within { greatest_end 0 ranges.now ≤ length contents.old.items }
+    requires within { greatest_end 0 ranges.old ≤ length contents.old.items }
     requires shorter { fresh ≡ false → length synced.old.items ≤ length contents.old.items }
-    requires untouched { fresh ≡ true → ranges.now ≡ [] }
+    requires untouched { fresh ≡ true → ranges.old ≡ [] }
     ensures recovered { OnOk result (Recovered pick (record {
       contents = contents.old.items;
       synced = unless_fresh fresh contents.old.items synced.old.items;
-      ranges = ranges.now;
+      ranges = ranges.old;
     }) contents.new.items) }
     ensures len { OnOk result (length contents.new.items ≤ length contents.old.items) }
     ensures capacity { vec_capacity contents.old ≤ vec_capacity contents.new }

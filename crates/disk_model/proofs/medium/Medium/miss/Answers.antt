@@ -14,7 +14,7 @@ invariant_of-self c =
         replayed = miss_stands h (written_events i.entries.items i.log.items) i.failed i.good _ _ c.missed-failed.ensures ∙ k.replayed;
         log_len = k.log_len;
         within = k.within;
-        shorter = k.shorter;
+        placed = k.placed;
         untouched = k.untouched;
       },
       c.self.invariant.1,

@@ -1,13 +1,10 @@
-use Rattle.std.proofs.Common.{◌≡◌, Bool, true, false, length, List, ℕ, arith, sym, ◌∙◌, ap, subst, refl}
+use Rattle.std.proofs.Common.{◌≡◌, List, ℕ, arith, sym, ◌∙◌, ap, subst, refl}
 use Rattle.disk_model.specs.History.{synced, after, Held, at_first}
 use Rattle.disk_model.specs.Record.{written_events, all_events, unless_fresh}
 use Rattle.disk_model.specs.History.{Past, held, Grows}
 use Rattle.disk_model.proofs.Syncs.{more_events, more_stands}
+use Rattle.disk_model.proofs.Placed.{none_placed}
 use Rattle.disk_model.proofs.medium.Medium.sync.Goals as goal
-
-synced_is : (fresh : Bool) (contents other : List ℕ) → fresh ≡ false → unless_fresh fresh contents other ≡ contents → other ≡ contents
-synced_is true contents other e is = absurd (cc)
-synced_is false contents other e is = is
 
 pub invariant_of-self-2 : goal.invariant_of-self-2
 invariant_of-self-2 c =
@@ -23,7 +20,7 @@ invariant_of-self-2 c =
             ∙ (λ j. record { contents = i.contents.items; synced = sym is_synced j; ranges = sym c.clear.ensures.items j });
         log_len = k.log_len;
         within = rw c.clear.ensures.items (omega arith);
-        shorter = λ e. omega (arith, ap length (synced_is i.fresh i.contents.items c.settle.new.synced.items e is_synced));
+        placed = rw (is_synced, c.clear.ensures.items) (none_placed i.contents.items i.contents.items);
         untouched = λ e. let old = k.untouched e in (old.0, old.1, c.clear.ensures.items);
       },
       record {

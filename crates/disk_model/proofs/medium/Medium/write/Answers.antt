@@ -34,6 +34,16 @@ invariant_of-self-2 c =
       },
     )
 
+-- there is room in the log
+pub invariant_of-self-in_err-extend_from_slice : goal.invariant_of-self-in_err-extend_from_slice
+invariant_of-self-in_err-extend_from_slice c =
+    let i = c.self.inside in
+    let room = c.self.invariant.1 in
+    let value : i.room_end ≡ c.args.self.now.room_end = ap (λ (p : Past). p.room_end) c.self.view_is in
+    let value_writes : i.room_writes ≡ c.args.self.now.room_writes = ap (λ (p : Past). p.room_writes) c.self.view_is in
+    let fits = room_log (i.room_writes - 1) i.room_writes i.room_end (vec_len i.log) (length c.args.bytes.now) (vec_capacity i.log) (omega (arith, value_writes)) (omega (arith, value)) room.in_log in
+    absurd (omega (arith, fits, c.in_err-extend_from_slice.ensures.full))
+
 pub returns-clause-grows : goal.returns-clause-grows
 returns-clause-grows c =
     let i = c.self.inside in

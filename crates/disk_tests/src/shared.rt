@@ -89,17 +89,21 @@ impl Replay for Bodies {
 
     ghost empty = { 0 };
 
-    ghost takes = { λ s kind body t n. (t ≡ 0) × (n ≡ 1) };
+    ghost Rules = { Unit {0} };
 
-    ghost refuses = { λ s kind body o. ⊥ };
+    ghost rules = { λ r. tt };
 
-    ghost one_state = { λ s kind body t u m n one two. one.0 ∙ sym two.0 };
+    ghost takes = { λ by s kind body t n. (t ≡ 0) × (n ≡ 1) };
 
-    ghost one_count = { λ s kind body t u m n one two. one.1 ∙ sym two.1 };
+    ghost refuses = { λ by s kind body o. ⊥ };
 
-    ghost one_fault = { λ s kind body o p one two. absurd one };
+    ghost one_state = { λ by s kind body t u m n one two. one.0 ∙ sym two.0 };
 
-    ghost apart = { λ s kind body t n o took refused. refused };
+    ghost one_count = { λ by s kind body t u m n one two. one.1 ∙ sym two.1 };
+
+    ghost one_fault = { λ by s kind body o p one two. absurd one };
+
+    ghost apart = { λ by s kind body t n o took refused. refused };
 
     fn begin(&mut self) {
         self.bytes.clear();

@@ -16,6 +16,15 @@ pub record IsRegion (digest file : List ℕ) (live : Bool) (number begin end : �
   pub sized : AreSized frames
   pub ends : end ≡ begin + frames_len frames
 
+-- the disk is settled, its file has a head, and a block of so many bytes at `to` and this number of
+-- writes take no memory
+pub record TakesBlock (view : View) (to len number : ℕ) : Type 0 where
+  pub settled : IsSettled view
+  pub place : (c : List ℕ) → view.contents ≡ Some c → (to ≤ length c) × (129 ≤ length c)
+  pub room : to + len ≤ view.room_end
+  pub head_room : 129 ≤ view.room_end
+  pub writes : number ≤ view.room_writes
+
 -- the snapshot's frame lies between the head and the region, or behind the region's closed gate
 abbrev pub IsApart : ℕ → ℕ → ℕ → ℕ → Type 0
 IsApart to len begin end = (128 ≤ to) × ((to + len ≤ begin) ⊎ (to ≡ end + 1))

@@ -4,7 +4,8 @@ use Rattle.std.specs.Prelude.{replicate}
 use Rattle.disk_model.specs.Disk.{Holds}
 use Rattle.journal.specs.Store.{Frame, IsOpen, IsClosed, Head, encoded}
 use Rattle.journal.specs.Region.{TakesOf, IsCut, IsWrongKind, IsEmpty, IsFrameAt, IsRightKind}
-use Rattle.journal.specs.Region.{IsRightLast}
+use Rattle.journal.specs.Region.{IsRightLast, Runs}
+use Rattle.journal.specs.Journal.{JournalView, Stands}
 use Rattle.journal.specs.HeadFault.{IsHeadFault, IsSlotFault, IsLive, IsOtherList}
 use Rattle.journal.specs.declared.fields.Read.{Read}
 use Rattle.journal.specs.declared.fields.Read.TheVariants.{End, Cut, Kind, Empty, Whole}
@@ -54,3 +55,13 @@ IsHeadRead digest file (Live live number begin) = Head digest file live number b
     × (begin < length file)
 IsHeadRead digest file (Other kept) = IsOtherList digest file kept
 IsHeadRead digest file (Bad offset) = IsHeadFault digest file offset
+
+-- a journal that was opened may be used, under this digest
+abbrev pub IsUsable : List ℕ → JournalView → Type 0
+IsUsable digest journal = (journal.shut ≡ false) × (journal.digest ≡ digest)
+
+-- the file is the journal's store, and its frames lead from the empty state to this one
+abbrev pub LeadsTo : {S : Type 0} → TakesOf S → (empty state : S) → JournalView → List ℕ → Type 0
+LeadsTo takes empty state journal file =
+    (frames : List Frame) × Stands journal file frames
+    × Runs takes true empty 0 frames state journal.changes

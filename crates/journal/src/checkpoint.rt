@@ -6,7 +6,7 @@ ghost use Rattle.disk_model.specs.Disk.{IsSettled, LeavesOnly, Stays, Device};
 ghost use Rattle.journal.specs.Store.{Frame, IsStore, encoded, slot_bytes, other_at};
 ghost use Rattle.journal.specs.Journal.{JournalView, Stands, IsAtRest, HasRoom, IsBeforeOrSnapshot};
 ghost use Rattle.journal.specs.Journal.{snapshot_frame, snapshot_at, since_of};
-ghost use Rattle.journal.specs.CheckpointParts.{IsRegion, IsApart, IsBetween, Switches};
+ghost use Rattle.journal.specs.CheckpointParts.{IsRegion, IsApart, IsBetween, Switches, TakesBlock};
 
 use crate::gated::{append, stage};
 use crate::journal::{DeviceFault, Journal, fill};
@@ -41,12 +41,7 @@ fn stage_snapshot<D: Disk>(
     to: u64,
     block: &[u8],
 ) -> Result<(), Failed>
-    requires settled { IsSettled (D.view disk.old) }
-    requires place { (c : List ℕ) → (D.view disk.old).contents ≡ Some c → (to ≤ length c)
-        × (129 ≤ length c) }
-    requires room { to + length block.now ≤ (D.view disk.old).room_end }
-    requires head_room { 129 ≤ (D.view disk.old).room_end }
-    requires writes { 2 ≤ (D.view disk.old).room_writes }
+    requires ready { TakesBlock (D.view disk.old) to (length block.now) 2 }
     ensures any_moment { (c digest : List ℕ) (begin end : ℕ) (frames : List Frame)
         → (D.view disk.old).contents ≡ Some c
         → IsRegion digest c live number begin end frames → IsApart to (length block.now) begin end
@@ -96,12 +91,7 @@ fn switch<D: Disk>(
     to: u64,
     block: &[u8],
 ) -> Result<(), Failed>
-    requires settled { IsSettled (D.view disk.old) }
-    requires place { (c : List ℕ) → (D.view disk.old).contents ≡ Some c → (to ≤ length c)
-        × (129 ≤ length c) }
-    requires room { to + length block.now ≤ (D.view disk.old).room_end }
-    requires head_room { 129 ≤ (D.view disk.old).room_end }
-    requires writes { 4 ≤ (D.view disk.old).room_writes }
+    requires ready { TakesBlock (D.view disk.old) to (length block.now) 4 }
     ensures switches { Switches result (D.view disk.old)
         (D.view disk.new) live number to block.now }
     ensures device { Device 7 4 result (D.view disk.old) (D.view disk.new) }

@@ -18,45 +18,46 @@ pub fn one_list_of_frames()
 
 /// A file stands for one state and one number of changes.
 pub fn one_meaning<R: Replay>()
-    ensures law { (digest file : List ℕ) (s t : R.State) (m n : ℕ)
-        → FileMeans R.takes R.empty digest file s m → FileMeans R.takes R.empty digest file t n
-        → (s ≡ t) × (m ≡ n) }
+    ensures law { (by : R.Rules) (digest file : List ℕ) (s t : R.State) (m n : ℕ)
+        → FileMeans (R.takes by) R.empty digest file s m
+        → FileMeans (R.takes by) R.empty digest file t n → (s ≡ t) × (m ≡ n) }
 {}
 
 /// What a cut during an opening leaves stands for the same.
 pub fn opening_meaning<R: Replay>()
-    ensures law { (digest old new : List ℕ) (s : R.State) (n : ℕ)
-        → FileMeans R.takes R.empty digest old s n → IsOpening digest old new
-        → FileMeans R.takes R.empty digest new s n }
+    ensures law { (by : R.Rules) (digest old new : List ℕ) (s : R.State) (n : ℕ)
+        → FileMeans (R.takes by) R.empty digest old s n → IsOpening digest old new
+        → FileMeans (R.takes by) R.empty digest new s n }
 {}
 
 /// A store from before or after a commit stands for the state from before or after, where the body
 /// leads from the one to the other by so many changes.
 pub fn commit_meaning<R: Replay>()
-    ensures law { (digest file body : List ℕ) (frames : List Frame) (s t : R.State)
+    ensures law { (by : R.Rules) (digest file body : List ℕ) (frames : List Frame) (s t : R.State)
         (last changes : ℕ)
-        → Runs R.takes true R.empty 0 frames s last → 0 < length body
-        → R.takes s false body t changes
+        → Runs (R.takes by) true R.empty 0 frames s last → 0 < length body
+        → R.takes by s false body t changes
         → IsBeforeOrAfter digest frames
         (record { snapshot = false; last = (last + changes) % 2 ^ 64; body = body }) file
-        → StandsFor R.takes R.empty digest file s last
-        ⊎ StandsFor R.takes R.empty digest file t ((last + changes) % 2 ^ 64) }
+        → StandsFor (R.takes by) R.empty digest file s last
+        ⊎ StandsFor (R.takes by) R.empty digest file t ((last + changes) % 2 ^ 64) }
 {}
 
 /// A store from before or after a checkpoint stands for the same state and number of changes, where
 /// the body is a snapshot of the state.
 pub fn checkpoint_meaning<R: Replay>()
-    ensures law { (digest file body : List ℕ) (frames : List Frame) (s : R.State) (last changes : ℕ)
-        → Runs R.takes true R.empty 0 frames s last → R.takes R.empty true body s changes
+    ensures law { (by : R.Rules) (digest file body : List ℕ) (frames : List Frame) (s : R.State)
+        (last changes : ℕ)
+        → Runs (R.takes by) true R.empty 0 frames s last → R.takes by R.empty true body s changes
         → IsBeforeOrSnapshot digest frames
         (record { snapshot = true; last = last; body = body }) file
-        → StandsFor R.takes R.empty digest file s last }
+        → StandsFor (R.takes by) R.empty digest file s last }
 {}
 
 /// What `since` answers is the number of the changes in the frames that are no snapshot.
 pub fn since_meaning<R: Replay>()
-    ensures law { (frames : List Frame) (s : R.State) (last total : ℕ)
-        → Runs R.takes true R.empty 0 frames s last
-        → base_of frames < 2 ^ 64 → HasChanges R.takes R.empty frames total
+    ensures law { (by : R.Rules) (frames : List Frame) (s : R.State) (last total : ℕ)
+        → Runs (R.takes by) true R.empty 0 frames s last
+        → base_of frames < 2 ^ 64 → HasChanges (R.takes by) R.empty frames total
         → (last + (2 ^ 64 - base_of frames)) % 2 ^ 64 ≡ total % 2 ^ 64 }
 {}

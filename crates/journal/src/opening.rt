@@ -8,6 +8,7 @@ ghost use Rattle.journal.specs.Region.{Runs};
 ghost use Rattle.journal.specs.Opening.{IsWithin, IsRefusal, IsStoreRefusal, IsOfFile, IsExcused};
 ghost use Rattle.journal.specs.Opening.{IsOpening, FileMeans, Opens, opening_calls};
 ghost use Rattle.journal.specs.Journal.{Stands};
+ghost use Rattle.journal.specs.ReaderAnswers.{IsUsable, LeadsTo};
 ghost use Rattle.journal.specs.declared.open_fault.OpenFault.{OpenFault};
 
 use crate::gated::{append, settle};
@@ -50,10 +51,12 @@ fn read_store<R: Replay>(
     into: &mut R,
 ) -> Result<Journal, OpenFault>
     requires { IsOpen bytes.now 0 }
-    ensures usable { IfOk result (λ j. (j.shut ≡ false) × (j.digest ≡ digest.now)) }
-    ensures frames { IfOk result (λ j. (frames : List Frame) × Stands j bytes.now frames
-        × Runs R.takes true R.empty 0 frames (R.state into.new) j.changes) }
-    ensures refused { IfErr result (IsStoreRefusal R.takes R.refuses R.empty digest.now bytes.now) }
+    ensures usable { IfOk result (IsUsable digest.now) }
+    ensures frames { IfOk result
+        (λ j. LeadsTo (R.takes (R.rules into.old)) R.empty (R.state into.new) j bytes.now) }
+    ensures refused { IfErr result (IsStoreRefusal (R.takes (R.rules into.old))
+        (R.refuses (R.rules into.old)) R.empty digest.now bytes.now) }
+    ensures rules { R.rules into.new ≡ R.rules into.old }
 {
     let (live, number, begin) = match read_head(bytes, digest) {
         HeadRead::Live(live, number, begin) => (live, number, begin),
@@ -111,9 +114,10 @@ fn make<D: Disk, R: Replay>(
     requires writes { 2 ≤ (D.view disk.old).room_writes }
     ensures made { IfOk result (λ j. (d : List ℕ) → (D.view disk.new).contents ≡ Some d
         → Stands j d []) }
-    ensures usable { IfOk result (λ j. (j.shut ≡ false) × (j.digest ≡ digest.now)) }
+    ensures usable { IfOk result (IsUsable digest.now) }
     ensures changes { IfOk result (λ j. j.changes ≡ 0) }
     ensures empty { OnOk result (R.state into.new ≡ R.empty) }
+    ensures rules { R.rules into.new ≡ R.rules into.old }
     ensures settled { OnOk result (IsSettled (D.view disk.new)) }
     ensures excused { IfErr result IsExcused }
     ensures device { Opens result (D.view disk.old) (D.view disk.new) }
@@ -162,9 +166,9 @@ fn open_store<D: Disk, R: Replay>(
     into: &mut R,
 ) -> Result<Journal, OpenFault>
     ensures opened { IfOk result (λ j. (d : List ℕ) → (D.view disk.new).contents ≡ Some d
-        → (frames : List Frame) × Stands j d frames
-        × Runs R.takes true R.empty 0 frames (R.state into.new) j.changes) }
-    ensures usable { IfOk result (λ j. (j.shut ≡ false) × (j.digest ≡ digest.now)) }
+        → LeadsTo (R.takes (R.rules into.old)) R.empty (R.state into.new) j d) }
+    ensures rules { R.rules into.new ≡ R.rules into.old }
+    ensures usable { IfOk result (IsUsable digest.now) }
     ensures settled { OnOk result (IsSettled (D.view disk.new)) }
     ensures within { OnOk result ((c : List ℕ) → (D.view disk.old).contents ≡ Some c
         → IsWithin limit c) }
@@ -175,7 +179,8 @@ fn open_store<D: Disk, R: Replay>(
         → (R.state into.new ≡ R.empty) × (j.changes ≡ 0)) }
     ensures refused { (why : OpenFault) → IsErrOf result why → (c : List ℕ)
         → (D.view disk.old).contents ≡ Some c
-        → IsRefusal R.takes R.refuses R.empty limit digest.now c why }
+        → IsRefusal (R.takes (R.rules into.old)) (R.refuses (R.rules into.old)) R.empty limit
+        digest.now c why }
     ensures unchanged { (why : OpenFault) → IsErrOf result why → IsOfFile why
         → (D.view disk.new).contents ≡ (D.view disk.old).contents }
     ensures device { Opens result (D.view disk.old) (D.view disk.new) }
@@ -206,7 +211,8 @@ impl Journal {
     /// Opens a store under the digest of a suffix list, and gives its frames to `into` in order.
     ///
     /// A file that is no store yet is made one. With `limit` a file over 1,073,741,824 bytes is
-    /// refused. After a refusal nothing is told of `into`, and its `begin` makes it usable again.
+    /// refused. After a refusal nothing is told of the state of `into`, and its `begin` makes it
+    /// usable again.
     pub fn open<D: Disk, R: Replay>(
         alloc: Global,
         disk: &mut D,
@@ -217,7 +223,8 @@ impl Journal {
         // The file is the journal's store, and its frames lead to the state of `into`.
         ensures opened { IfOk result (λ j. (d : List ℕ) → (D.view disk.new).contents ≡ Some d
             → (frames : List Frame) × Stands j d frames
-            × Runs R.takes true R.empty 0 frames (R.state into.new) j.changes) }
+            × Runs (R.takes (R.rules into.old)) true R.empty 0 frames (R.state into.new)
+            j.changes) }
         ensures usable { IfOk result (λ j. (j.shut ≡ false) × (j.digest ≡ digest.now)) }
         ensures settled { OnOk result (IsSettled (D.view disk.new)) }
         ensures kept { (c : List ℕ) → (D.view disk.old).contents ≡ Some c → IsOpen c 0
@@ -226,16 +233,21 @@ impl Journal {
 
         // The state and the number of changes are those that the file stands for.
         ensures means { (c : List ℕ) (s : R.State) (n : ℕ) → (D.view disk.old).contents ≡ Some c
-            → IsWithin limit c → FileMeans R.takes R.empty digest.now c s n
+            → IsWithin limit c → FileMeans (R.takes (R.rules into.old)) R.empty digest.now c s n
             → MatchResult result (λ j. (R.state into.new ≡ s) × (j.changes ≡ n)) IsExcused }
+
+        // The rules by which bodies are read stay.
+        ensures rules { R.rules into.new ≡ R.rules into.old }
 
         // Each refusal of a file has its cause, and comes wherever the cause is.
         ensures refused { (why : OpenFault) → IsErrOf result why → (c : List ℕ)
             → (D.view disk.old).contents ≡ Some c
-            → IsRefusal R.takes R.refuses R.empty limit digest.now c why }
+            → IsRefusal (R.takes (R.rules into.old)) (R.refuses (R.rules into.old)) R.empty limit
+            digest.now c why }
         ensures exactly { (why : OpenFault) (c : List ℕ) → (D.view disk.old).contents ≡ Some c
             → IsOfFile why
-            → IsRefusal R.takes R.refuses R.empty limit digest.now c why
+            → IsRefusal (R.takes (R.rules into.old)) (R.refuses (R.rules into.old)) R.empty limit
+            digest.now c why
             → MatchResult result (λ _. ⊥) (λ w. (w ≡ why) ⊎ IsExcused w) }
 
         // A file that is refused stays as it is.

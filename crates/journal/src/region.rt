@@ -36,9 +36,12 @@ fn take_frame<R: Replay>(
 ) -> Result<Option<Taken>, RegionFault>
     ensures end { result ≡ Ok None → IsClosed bytes.now at × (R.state into.new ≡ R.state into.old) }
     ensures taken { (t : Taken) → result ≡ Ok (Some t)
-        → IsTaken R.takes bytes.now at fresh (R.state into.old) (R.state into.new) last t }
+        → IsTaken (R.takes (R.rules into.old)) bytes.now at fresh (R.state into.old)
+        (R.state into.new) last t }
     ensures bad { (o : ℕ) → result ≡ Err (NotAStore o)
-        → IsFaultAt R.takes R.refuses bytes.now at fresh (R.state into.old) last o }
+        → IsFaultAt (R.takes (R.rules into.old)) (R.refuses (R.rules into.old)) bytes.now at fresh
+        (R.state into.old) last o }
+    ensures rules { R.rules into.new ≡ R.rules into.old }
 {
     match frame_at(bytes, at, fresh) {
         Read::End => Ok(None),
@@ -91,10 +94,12 @@ pub fn read_region<R: Replay>(
 ) -> Result<Region, RegionFault>
     ensures frames { IfOk result (λ r. (frames : List Frame) × FramesAt bytes.now begin frames
         × AreSized frames
-        × Runs R.takes true R.empty 0 frames (R.state into.new) r.last
+        × Runs (R.takes (R.rules into.old)) true R.empty 0 frames (R.state into.new) r.last
         × (r.end ≡ begin + frames_len frames) × (r.base ≡ base_of frames)) }
     ensures bad { (o : ℕ) → result ≡ Err (NotAStore o)
-        → IsFault R.takes R.refuses bytes.now begin R.empty o }
+        → IsFault (R.takes (R.rules into.old)) (R.refuses (R.rules into.old)) bytes.now begin
+        R.empty o }
+    ensures rules { R.rules into.new ≡ R.rules into.old }
 {
     into.begin();
     let mut at = begin;

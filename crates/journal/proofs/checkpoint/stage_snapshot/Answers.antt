@@ -40,13 +40,13 @@ returns-then-gate-eq0-clause-any_moment g c = λ x digest begin end frames is r 
     let v = V c.args.disk.now in
     let w = V c.byte_at.new.disk in
     let y = V c.stage.new.disk in
-    let shut = was_shut x live c.other_slot-other.result c.in_ok-gate.gate c.other_slot-other.ensures (c.in_ok-gate.ensures.byte x is) c.if-gate-eq0.true (c.requires.place x is).1 in
+    let shut = was_shut x live c.other_slot-other.result c.in_ok-gate.gate c.other_slot-other.ensures (c.in_ok-gate.ensures.byte x is) c.if-gate-eq0.true (c.requires.ready.place x is).1 in
     let eight : length c.to_le_bytes.result ≡ 8 = ap (λ (l : List ℕ). length l) c.to_le_bytes.ensures in
     let E = λ (m : ℕ). LeavesOnly w y (IsStaging to len (c.other_slot-other.result + 1) m x) in
     let S = λ (k : ℕ). LeavesOnly w y (IsStaging to len k 8 x) in
     let place_is : c.other_slot-other.result + 1 ≡ other_at live + 1 = omega (arith, c.other_slot-other.ensures) in
     let moments = subst S place_is (subst E eight (c.stage.ensures.any_moment x (c.byte_at.ensures.stays.contents ∙ is))) in
-    stands_through v w y digest x live c.args.number begin end frames (IsStaging to len (other_at live + 1) 8 x) (g.met.D.Disk.lawful c.args.disk.now).only_now c.requires.settled is r c.byte_at.ensures.stays
+    stands_through v w y digest x live c.args.number begin end frames (IsStaging to len (other_at live + 1) 8 x) (g.met.D.Disk.lawful c.args.disk.now).only_now c.requires.ready.settled is r c.byte_at.ensures.stays
     (stage_closed digest x live c.args.number begin end frames r to len apart shut) moments
 
 pub returns-else-gate-eq0-clause-any_moment : goal.returns-else-gate-eq0-clause-any_moment
@@ -63,7 +63,7 @@ returns-else-gate-eq0-clause-any_moment g c = λ x digest begin end frames is r 
     let o = was_open x (other_at live) c.args.number r.head.older is_open in
     let S = λ (k : ℕ). LeavesOnly w y (IsStaging to len k 1 x) in
     let moments = subst S c.other_slot-other.ensures (c.stage-else-gate-eq0.ensures.any_moment x (c.byte_at.ensures.stays.contents ∙ is)) in
-    stands_through v w y digest x live c.args.number begin end frames (IsStaging to len (other_at live) 1 x) (g.met.D.Disk.lawful c.args.disk.now).only_now c.requires.settled is r c.byte_at.ensures.stays
+    stands_through v w y digest x live c.args.number begin end frames (IsStaging to len (other_at live) 1 x) (g.met.D.Disk.lawful c.args.disk.now).only_now c.requires.ready.settled is r c.byte_at.ensures.stays
     (stage_open digest x live c.args.number begin end frames r to len apart o.0 o.1 o.2 o.3) moments
 
 pub returns-then-gate-eq0-clause-between : goal.returns-then-gate-eq0-clause-between
@@ -72,7 +72,7 @@ returns-then-gate-eq0-clause-between g c = on_ok_weaker c.stage.result (λ goes.
     let to = c.args.to in
     let len = length c.args.block.now in
     let other = c.other_slot-other.ensures in
-    let shut = was_shut x live c.other_slot-other.result c.in_ok-gate.gate other (c.in_ok-gate.ensures.byte x is) c.if-gate-eq0.true (c.requires.place x is).1 in
+    let shut = was_shut x live c.other_slot-other.result c.in_ok-gate.gate other (c.in_ok-gate.ensures.byte x is) c.if-gate-eq0.true (c.requires.ready.place x is).1 in
     let next = goes_from _ _ _ x goes (c.byte_at.ensures.stays.contents ∙ is) in
     let eight : length c.to_le_bytes.result ≡ 8 = ap (λ (l : List ℕ). length l) c.to_le_bytes.ensures in
     let B = λ (l : List ℕ). IsStaged to l (c.other_slot-other.result + 1) c.to_le_bytes.result x next.0 in (
@@ -103,7 +103,7 @@ still_long at slot block piece old mid new d same place goes told =
     omega (arith, staged.1.len, staged.2.len, (place was.0 (sym same ∙ was.1)).1)
 
 pub returns-then-gate-eq0-clause-long : goal.returns-then-gate-eq0-clause-long
-returns-then-gate-eq0-clause-long g c = on_ok_weaker c.stage.result (λ goes. λ d told. still_long _ _ _ _ _ _ _ d c.byte_at.ensures.stays.contents c.requires.place goes told) c.stage.ensures.written
+returns-then-gate-eq0-clause-long g c = on_ok_weaker c.stage.result (λ goes. λ d told. still_long _ _ _ _ _ _ _ d c.byte_at.ensures.stays.contents c.requires.ready.place goes told) c.stage.ensures.written
 
 pub returns-else-gate-eq0-clause-long : goal.returns-else-gate-eq0-clause-long
-returns-else-gate-eq0-clause-long g c = on_ok_weaker c.stage-else-gate-eq0.result (λ goes. λ d told. still_long _ _ _ _ _ _ _ d c.byte_at.ensures.stays.contents c.requires.place goes told) c.stage-else-gate-eq0.ensures.written
+returns-else-gate-eq0-clause-long g c = on_ok_weaker c.stage-else-gate-eq0.result (λ goes. λ d told. still_long _ _ _ _ _ _ _ d c.byte_at.ensures.stays.contents c.requires.ready.place goes told) c.stage-else-gate-eq0.ensures.written

@@ -5,6 +5,13 @@ use Rattle.journal.proofs.Snapshots.{other_small}
 use Rattle.journal.proofs.Checkpointed.{staged, then_switched, is_switched}
 use Rattle.journal.proofs.checkpoint.switch.Goals as goal
 
+pub stage_snapshot-requires : goal.stage_snapshot-requires
+stage_snapshot-requires g c =
+    let ready = c.requires.ready in
+    record {
+      ready = record { settled = ready.settled; place = ready.place; room = ready.room; head_room = ready.head_room; writes = omega (arith, ready.writes) };
+    }
+
 pub append-requires-clause-place : goal.append-requires-clause-place
 append-requires-clause-place g c = λ d told. omega (arith, c.in_ok-stage_snapshot.ensures.long d told, c.other_slot.ensures, other_small c.args.live)
 

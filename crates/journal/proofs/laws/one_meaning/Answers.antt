@@ -5,4 +5,4 @@ pub returns : goal.returns
 returns g c =
     let R = g.R.Replay in
     let law = g.met.R.Replay in
-    record { law = means_unique R.takes R.refuses R.empty law.one_state law.one_count law.one_fault law.apart }
+    record { law = λ by. means_unique (R.takes by) (R.refuses by) R.empty (law.one_state by) (law.one_count by) (law.one_fault by) (law.apart by) }

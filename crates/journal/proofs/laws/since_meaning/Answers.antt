@@ -4,4 +4,4 @@ use Rattle.journal.proofs.laws.since_meaning.Goals as goal
 pub returns : goal.returns
 returns g c =
     let law = g.met.R.Replay in
-    record { law = since_counts g.R.Replay.takes g.R.Replay.empty law.one_state law.one_count }
+    record { law = λ by. since_counts (g.R.Replay.takes by) g.R.Replay.empty (law.one_state by) (law.one_count by) }

@@ -51,10 +51,12 @@ returns-clause-refused g c = λ why is_err x is.
     let bytes : c.deref-else-gate_of-eq0.result.now ≡ x = c.deref-else-gate_of-eq0.ensures.value ∙ items ∙ born.1 in
     let len : c.in-Ok-settle.len ≡ length x = c.in-Ok-settle.ensures.len next.0 next.1 ∙ ap length born.1 in
     let within : IsWithin c.args.limit x = within_limit c.args.limit c.in-Ok-settle.len x c.else-limit.either len in
-    let R = λ (l : List ℕ). IsStoreRefusal g.R.Replay.takes g.R.Replay.refuses g.R.Replay.empty digest l why in
+    let R = g.R.Replay in
+    let by = R.rules c.args.into.now in
+    let Q = λ (l : List ℕ). IsStoreRefusal (R.takes by) (R.refuses by) R.empty digest l why in
     let refused = err_of c.read_store.result _ c.read_store.ensures.refused why is_err in
     let open_gate : IsOpen x 0 = (omega (arith, born.0), λ e. gate (ap (λ (l : List ℕ). slice_index l 0) born.1 ∙ e)) in
-    refusal_of g.R.Replay.takes g.R.Replay.refuses g.R.Replay.empty c.args.limit digest x within open_gate born.0 why (subst R bytes refused)
+    refusal_of (R.takes by) (R.refuses by) R.empty c.args.limit digest x within open_gate born.0 why (subst Q bytes refused)
 
 pub returns-in_default-settle-clause-calls : goal.returns-in_default-settle-clause-calls
 returns-in_default-settle-clause-calls g c = λ x is.

@@ -18,7 +18,8 @@ returns-clause-frames g c =
     let i = c.loop-taken.invariant in
     let e : c.take_frame.result ≡ Ok None = search rules in
     let ended = c.take_frame.ensures.end e in
-    let Q = λ (s : g.R.Replay.State). Runs g.R.Replay.takes true g.R.Replay.empty 0 i.0 s c.loop-taken.last in
+    let R = g.R.Replay in
+    let Q = λ (s : R.State). Runs (R.takes (R.rules c.args.into.now)) true R.empty 0 i.0 s c.loop-taken.last in
     (i.0, opens_end c.args.bytes.now i.0 c.args.begin c.loop-taken.at i.3 i.1 ended.0, i.5, subst Q (sym ended.1) i.2, i.3, i.6)
 
 pub loop-taken-preserved : goal.loop-taken-preserved
@@ -27,10 +28,15 @@ loop-taken-preserved g c =
     let e : c.take_frame.result ≡ Ok (Some c.in-Some.taken) = search rules in
     let t = c.take_frame.ensures.taken c.in-Some.taken e in
     let f = t.0 in
+    let R = g.R.Replay in
+    let takes = R.takes (R.rules c.args.into.now) in
+    let before = R.state c.loop-taken.into in
+    let after = R.state c.take_frame.new.into in
+    let T = λ (by : R.Rules). R.takes by before f.snapshot f.body after c.in-Some.taken.changes in
     let is_fresh = i.4 ∙ sym (fresh_is i.0) in
     let kind = subst (λ (b : Bool). IsRightKind b f.snapshot f.body) is_fresh t.1.2 in
-    let runs = runs_push g.R.Replay.takes true g.R.Replay.empty 0 i.0 (g.R.Replay.state c.loop-taken.into) c.loop-taken.last f (g.R.Replay.state c.take_frame.new.into) c.in-Some.taken.changes i.2 kind t.2 t.3 in
-    let Q = λ (n : ℕ). Runs g.R.Replay.takes true g.R.Replay.empty 0 (i.0 ++ f ∷ []) (g.R.Replay.state c.take_frame.new.into) n in (
+    let runs = runs_push takes true R.empty 0 i.0 before c.loop-taken.last f after c.in-Some.taken.changes i.2 kind (subst T i.7 t.2) t.3 in
+    let Q = λ (n : ℕ). Runs takes true R.empty 0 (i.0 ++ f ∷ []) after n in (
       i.0 ++ f ∷ [],
       opens_push c.args.bytes.now i.0 f c.args.begin c.loop-taken.at i.3 i.1 t.1.0 t.1.1,
       subst Q t.5 runs,
@@ -38,6 +44,7 @@ loop-taken-preserved g c =
       sym (is_first-push i.0 f),
       sized_push i.0 f i.5 t.1.4 t.1.5,
       c.base_after-base.ensures ∙ sym (base_is i.0 f c.loop-taken.base c.in-Some.taken (subst (λ (b : Bool). IsRightKind b f.snapshot f.body) i.4 t.1.2) i.6 t.4 t.5),
+      c.take_frame.ensures.rules ∙ i.7,
     )
 
 pub returns-in_err-taken-clause-bad : goal.returns-in_err-taken-clause-bad
@@ -45,6 +52,10 @@ returns-in_err-taken-clause-bad g c = λ o is.
     let i = c.loop-taken.invariant in
     let e : c.take_frame.result ≡ Err (NotAStore o) = search rules in
     let fault = c.take_frame.ensures.bad o e in
-    let A = λ (k : ℕ). IsFaultAt g.R.Replay.takes g.R.Replay.refuses c.args.bytes.now k c.loop-taken.fresh (g.R.Replay.state c.loop-taken.into) c.loop-taken.last o in
-    let B = λ (b : Bool). IsFaultAt g.R.Replay.takes g.R.Replay.refuses c.args.bytes.now (c.args.begin + frames_len i.0) b (g.R.Replay.state c.loop-taken.into) c.loop-taken.last o in
-    (i.0, g.R.Replay.state c.loop-taken.into, c.loop-taken.last, i.1, i.5, i.2, subst B i.4 (subst A i.3 fault))
+    let R = g.R.Replay in
+    let by = R.rules c.args.into.now in
+    let before = R.state c.loop-taken.into in
+    let T = λ (r : R.Rules). IsFaultAt (R.takes r) (R.refuses r) c.args.bytes.now c.loop-taken.at c.loop-taken.fresh before c.loop-taken.last o in
+    let A = λ (k : ℕ). IsFaultAt (R.takes by) (R.refuses by) c.args.bytes.now k c.loop-taken.fresh before c.loop-taken.last o in
+    let B = λ (b : Bool). IsFaultAt (R.takes by) (R.refuses by) c.args.bytes.now (c.args.begin + frames_len i.0) b before c.loop-taken.last o in
+    (i.0, before, c.loop-taken.last, i.1, i.5, i.2, subst B i.4 (subst A i.3 (subst T i.7 fault)))

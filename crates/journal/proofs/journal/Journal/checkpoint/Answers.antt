@@ -32,17 +32,23 @@ is_block g c =
     block_of c.self.inside.changes c.args.body.now c.deref.result.now (c.deref.ensures.value ∙ c.in-Ok.ensures.items)
     (omega arith) (omega (arith, c.requires.room.fits))
 
-pub switch-requires-clause-place : goal.switch-requires-clause-place
-switch-requires-clause-place g c = λ x is.
+pub switch-requires : goal.switch-requires
+switch-requires g c =
     let v = g.D.Disk.view c.args.disk.now in
-    let long : c.self.inside.end + 1 ≤ length x = place_of _ v (subst (λ (j : JournalView). IsAtRest j v) (sym c.self.view_is) c.requires.at_rest) x is in
-    (omega (arith, long, c.snapshot_place-to.ensures.within), omega (arith, long, c.self.invariant))
-
-pub switch-requires-clause-room : goal.switch-requires-clause-room
-switch-requires-clause-room g c =
     let f : Frame = record { snapshot = true; last = c.self.inside.changes; body = c.args.body.now } in
     let end : c.self.inside.end ≡ c.args.self.now.end = ap (λ (j : JournalView). j.end) c.self.view_is in
-    omega (arith, c.requires.room.end, c.snapshot_place-to.ensures.within, block_long f c.deref.result.now (c.deref.ensures.value ∙ c.in-Ok.ensures.items), end)
+    let rest = subst (λ (j : JournalView). IsAtRest j v) (sym c.self.view_is) c.requires.at_rest in
+    record {
+      ready = record {
+        settled = c.requires.at_rest.settled;
+        place = λ x is.
+            let long : c.self.inside.end + 1 ≤ length x = place_of _ v rest x is in
+            (omega (arith, long, c.snapshot_place-to.ensures.within), omega (arith, long, c.self.invariant));
+        room = omega (arith, c.requires.room.end, c.snapshot_place-to.ensures.within, block_long f c.deref.result.now (c.deref.ensures.value ∙ c.in-Ok.ensures.items), end);
+        head_room = c.requires.room.head;
+        writes = c.requires.room.writes;
+      };
+    }
 
 pub returns-in_default-switch-clause-any_moment : goal.returns-in_default-switch-clause-any_moment
 returns-in_default-switch-clause-any_moment g c =

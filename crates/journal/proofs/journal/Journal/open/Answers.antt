@@ -9,8 +9,9 @@ returns-clause-means g c = λ x s n is within means.
     let V = g.D.Disk.view in
     let R = g.R.Replay in
     let law = g.met.R.Replay in
+    let by = R.rules c.args.into.now in
     let o = c.open_store.ensures in
-    opens_means R.takes R.refuses R.empty law.one_state law.one_count law.one_fault law.apart c.args.limit c.args.digest.now x (V c.args.disk.now).contents (V c.open_store.new.disk).contents is (R.state c.open_store.new.into)
+    opens_means (R.takes by) (R.refuses by) R.empty (law.one_state by) (law.one_count by) (law.one_fault by) (law.apart by) c.args.limit c.args.digest.now x (V c.args.disk.now).contents (V c.open_store.new.disk).contents is (R.state c.open_store.new.into)
     c.open_store.result o.opened o.usable (o.kept x is) (λ why e. o.refused why e x is) (if_then c.open_store.result _ _ (λ j made. made x is) o.unborn) s n within means
 
 pub returns-clause-exactly : goal.returns-clause-exactly
@@ -18,7 +19,8 @@ returns-clause-exactly g c = λ why x is of_file cause.
     let V = g.D.Disk.view in
     let R = g.R.Replay in
     let law = g.met.R.Replay in
+    let by = R.rules c.args.into.now in
     let o = c.open_store.ensures in
     let size : length c.args.digest.now ≡ 32 = search rules in
-    opens_exactly R.takes R.refuses R.empty law.one_state law.one_count law.one_fault law.apart c.args.limit c.args.digest.now x (V c.args.disk.now).contents (V c.open_store.new.disk).contents is (R.state c.open_store.new.into)
+    opens_exactly (R.takes by) (R.refuses by) R.empty (law.one_state by) (law.one_count by) (law.one_fault by) (law.apart by) c.args.limit c.args.digest.now x (V c.args.disk.now).contents (V c.open_store.new.disk).contents is (R.state c.open_store.new.into)
     c.open_store.result o.opened o.usable (o.kept x is) (λ why e. o.refused why e x is) size (on_ok_weaker c.open_store.result (λ within. within x is) o.within) why of_file cause

@@ -40,6 +40,10 @@ pub count_small : (k : CellKind) (n b : ℕ) → fits k n b ≡ true → n ≤ 1
 count_small Own n b h = grind (arith, nat_tests)
 count_small Partition n b h = grind (arith, nat_tests)
 
+-- no two cookies are the same without one of them
+pub removed_once : (cs : List PlainCookie) (p : ℕ) (d : PlainCookie) → p < length cs → ((c : PlainCookie) → copies c cs ≤ 1) → (c : PlainCookie) → copies c (remove cs p) ≤ 1
+removed_once cs p d lt once c = omega (arith, sum_by-remove (λ e. cond (same c e) 1 0) cs p d lt, once c)
+
 -- a cell without the cookie at a place
 pub removed_cell : (k : CellKind) (t : Tally) (cs : List PlainCookie) (p : ℕ) (d : PlainCookie) → IsCell k t cs → p < length cs
     → IsCell k (record { cookies = t.cookies - 1; bytes = t.bytes - counted k (get_or cs p d) }) (remove cs p)
@@ -50,7 +54,7 @@ removed_cell k t cs p d cell lt =
       cookies = omega (arith, cell.cookies, long);
       bytes = omega (arith, cell.bytes, heavy);
       within = fits_less k _ _ _ _ cell.within (omega (arith, long)) (omega (arith, heavy));
-      distinct = λ c. omega (arith, sum_by-remove (λ e. cond (same c e) 1 0) cs p d lt, cell.distinct c);
+      distinct = removed_once cs p d lt cell.distinct;
     }
 
 -- what was read at a place, as contracts see it
@@ -83,6 +87,14 @@ copies_alike a b cs h = ap (λ (f : PlainCookie → Bool). count_by f cs) (fun_e
 pub same_to : (c a b : PlainCookie) → same a b ≡ true → same c a ≡ same c b
 same_to c a b h = let p = same_parts a b h in rw (p.0, p.1, p.2, p.3) refl
 
+-- no two cookies are the same with one more that is not there
+pub inserted_once : (cs : List PlainCookie) (p : ℕ) (x : PlainCookie) → copies x cs ≡ 0 → ((c : PlainCookie) → copies c cs ≤ 1) → (c : PlainCookie) → copies c (insert cs p x) ≤ 1
+inserted_once cs p x absent once c = at (same c x) refl
+  where
+    at : (b : Bool) → same c x ≡ b → copies c (insert cs p x) ≤ 1
+    at true is = let more = sum_by-insert (λ e. cond (same c e) 1 0) cs p x in let none = copies_alike c x cs is in let one : ◌≡◌ {A = ℕ} (cond (same c x) 1 0) 1 = rw is refl in omega (arith, more, none, one, absent)
+    at false is = let more = sum_by-insert (λ e. cond (same c e) 1 0) cs p x in let one : ◌≡◌ {A = ℕ} (cond (same c x) 1 0) 0 = rw is refl in omega (arith, more, one, once c)
+
 -- a cell with one more cookie
 pub inserted_cell : (k : CellKind) (t : Tally) (cs : List PlainCookie) (p : ℕ) (x : PlainCookie) → IsCell k t cs → p ≤ length cs → copies x cs ≡ 0
     → keeps_limits k (insert cs p x) ≡ true → IsCell k (record { cookies = t.cookies + 1; bytes = t.bytes + counted k x }) (insert cs p x)
@@ -91,15 +103,18 @@ inserted_cell k t cs p x cell le absent within =
       cookies = omega (arith, cell.cookies, length-insert cs p x le);
       bytes = omega (arith, cell.bytes, sum_by-insert (counted k) cs p x);
       within = within;
-      distinct = λ c. at c (same c x) refl;
+      distinct = inserted_once cs p x absent cell.distinct;
     }
-  where
-    at : (c : PlainCookie) (b : Bool) → same c x ≡ b → copies c (insert cs p x) ≤ 1
-    at c true is = let more = sum_by-insert (λ e. cond (same c e) 1 0) cs p x in let none = copies_alike c x cs is in let one : ◌≡◌ {A = ℕ} (cond (same c x) 1 0) 1 = rw is refl in omega (arith, more, none, one, absent)
-    at c false is = let more = sum_by-insert (λ e. cond (same c e) 1 0) cs p x in let one : ◌≡◌ {A = ℕ} (cond (same c x) 1 0) 0 = rw is refl in omega (arith, more, one, cell.distinct c)
 
 pub ok_then : {A E X : Type 0} (r : Result A E) (x y z : X) → IsOk r → z ≡ cond (is_ok r) x y → z ≡ x
 ok_then r x y z h e = e ∙ ap (λ b. cond b x y) h
+
+-- no two cookies are the same with a same one in the place of another
+pub replaced_once : (cs : List PlainCookie) (p : ℕ) (x d : PlainCookie) → p < length cs → same x (get_or cs p d) ≡ true → ((c : PlainCookie) → copies c cs ≤ 1) → (c : PlainCookie) → copies c (slice_set cs p x) ≤ 1
+replaced_once cs p x d lt is_same once c =
+    let more = sum_by-set (λ e. cond (same c e) 1 0) cs p x d lt in
+    let alike = ap {B = ℕ} (λ b. cond b 1 0) (same_to c x (get_or cs p d) is_same) in
+    omega (arith, more, alike, once c)
 
 -- a cell with a same cookie in the place of another
 pub replaced_cell : (k : CellKind) (t : Tally) (cs : List PlainCookie) (p : ℕ) (x d : PlainCookie) → IsCell k t cs → p < length cs → same x (get_or cs p d) ≡ true
@@ -109,5 +124,5 @@ replaced_cell k t cs p x d cell lt is_same within =
       cookies = omega (arith, cell.cookies, length-set cs p x);
       bytes = omega (arith, cell.bytes, sum_by-set (counted k) cs p x d lt, get_or-le-sum_by (counted k) cs p d lt);
       within = within;
-      distinct = λ c. let more = sum_by-set (λ e. cond (same c e) 1 0) cs p x d lt in let alike = ap {B = ℕ} (λ b. cond b 1 0) (same_to c x (get_or cs p d) is_same) in omega (arith, more, alike, cell.distinct c);
+      distinct = replaced_once cs p x d lt is_same cell.distinct;
     }

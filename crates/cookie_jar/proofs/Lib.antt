@@ -1,14 +1,14 @@
-mod CellLemmas
+pub mod CellLemmas
 pub mod PersistentLaws
 pub mod StepLaws
 pub mod ValidLaws
 mod RemovalLemmas
-mod PutLemmas
+pub mod PutLemmas
 mod NewCookieLemmas
-mod PlanLemmas
-mod PerformLemmas
+pub mod PlanLemmas
+pub mod PerformLemmas
 mod SendingLemmas
-mod MarkLemmas
+pub mod MarkLemmas
 mod OrderLemmas
 mod HeaderLemmas
 mod StandardFacts

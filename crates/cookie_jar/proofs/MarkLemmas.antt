@@ -13,7 +13,7 @@ use Rattle.partition_limits.specs.declared.tally.CellKind.TheVariants.{Own, Part
 use Rattle.partition_limits.specs.declared.tally.Tally.{Tally}
 use Rattle.cookie_jar.specs.declared.cookie.Cookie.{Cookie}
 use Rattle.cookie_jar.specs.Views.{plain_cookie}
-use Rattle.cookie_jar.specs.Cookie.{PlainCookie, IsCell, counted, same}
+use Rattle.cookie_jar.specs.Cookie.{PlainCookie, IsCell, copies, counted, same}
 use Rattle.cookie_jar.specs.Lifetime.{is_persistent}
 use Rattle.cookie_jar.specs.Marked.{used_at}
 use Rattle.cookie_jar.specs.Persistent.{kept, kept_cookie}
@@ -96,6 +96,10 @@ sum_from f h n ps now (c ∷ cs) =
     at true = h now c
     at false = refl
 
+-- no use makes a cookie another one's same
+pub marked_copies : (c : PlainCookie) (ps : List ℕ) (now : ℤ) (cs : List PlainCookie) → copies c (marked ps now cs) ≡ copies c cs
+marked_copies c ps now cs = sum_from (λ d. cond (same c d) 1 0) (λ now d. refl) 0 ps now cs
+
 counted_used : (kind : CellKind) (now : ℤ) (c : PlainCookie) → counted kind (used now c) ≡ counted kind c
 counted_used Own now c = refl
 counted_used Partition now c = refl
@@ -125,7 +129,7 @@ marked_cell kind tally ps now cs cell =
       cookies = cell.cookies ∙ sym long;
       bytes = cell.bytes ∙ sym heavy;
       within = fits_less kind _ _ _ _ cell.within (omega (arith, long)) (omega (arith, heavy));
-      distinct = λ c. omega (arith, sum_from (λ d. cond (same c d) 1 0) (λ now d. refl) 0 ps now cs, cell.distinct c);
+      distinct = λ c. omega (arith, marked_copies c ps now cs, cell.distinct c);
     }
 
 -- one cookie's last use is set in its place

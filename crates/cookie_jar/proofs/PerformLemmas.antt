@@ -28,7 +28,7 @@ last_is ss s = let e : length (ss ++ s ∷ []) - 1 ≡ length ss = omega (arith,
     at (x ∷ ss) = at ss
 
 -- what stands first from a place
-head_at : (f : PlainCookie) (cs : List PlainCookie) (i : ℕ) → i < length cs → list_any (λ d. same f d) (take 1 (drop i cs)) ≡ true → same f (get_or cs i f) ≡ true
+pub head_at : (f : PlainCookie) (cs : List PlainCookie) (i : ℕ) → i < length cs → list_any (λ d. same f d) (take 1 (drop i cs)) ≡ true → same f (get_or cs i f) ≡ true
 head_at f [] i lt h = absurd (omega arith)
 head_at f (c ∷ cs) zero lt h = plain (same f c) h
   where

@@ -16,24 +16,35 @@ use Rattle.cookie_jar.specs.declared.step.JarStep.{JarStep}
 use Rattle.cookie_jar.specs.declared.step.JarStep.TheVariants.{Insert, Replace}
 use Rattle.cookie_jar.specs.Steps.{rank, persists_at, after_step, after_steps, removals, remove_step, put_step, place_now, steps, stored, going, place_of, put}
 use Rattle.cookie_jar.specs.Lifetime.{is_persistent, is_expired}
-use Rattle.cookie_jar.specs.Persistent.{CookieRow, RowInsert, RowReplace, RowRemove, kept, kept_cookie, after_rows, row_edit, row_fits, apply_row, apply_rows, rows_of_step, rows_of_steps, insert_row, remove_row, replace_row}
+use Rattle.cookie_jar.specs.Persistent.{CookieRow, RowInsert, kept, kept_cookie, after_rows, row_edit, row_fits, apply_rows, rows_of_step, rows_of_steps, insert_row, remove_row, replace_row}
 use Rattle.cookie_jar.proofs.CellLemmas.{fits_less, copies_alike, same_to}
-use Rattle.cookie_jar.proofs.PersistentLaws.{persistent, rank_le, rank_below, drop_rank, remove_kept, insert_kept, replace_kept}
+use Rattle.cookie_jar.proofs.PersistentLaws.{persistent, rank_le, rank_below, drop_rank, remove_kept, insert_kept, replace_kept, steps_kept, removals_right, rows_keep}
 use Rattle.cookie_jar.proofs.StepLaws.{among, place_from, place_more, place_end, going_apart, fresh_stays, stored_is, stored_fits, removals_from_all, put_there, put_last}
 
--- a valid row change is done
-apply_one : (kind : CellKind) (cs : List PlainCookie) (row : CookieRow) → row_fits kind cs row ≡ true → apply_rows kind cs (row ∷ []) ≡ row_edit cs row
-apply_one kind cs row h = ap (λ b. cond b (row_edit cs row) cs) h
+-- each row change is valid where it is done
+abbrev pub AreFitting : CellKind → List PlainCookie → List CookieRow → Type 0
+AreFitting kind cs [] = Unit {0}
+AreFitting kind cs (row ∷ rows) = (row_fits kind cs row ≡ true) × AreFitting kind (row_edit cs row) rows
+
+-- such row changes are done
+fitting_done : (kind : CellKind) (cs : List PlainCookie) (rows : List CookieRow) → AreFitting kind cs rows → apply_rows kind cs rows ≡ after_rows cs rows
+fitting_done kind cs [] fits = refl
+fitting_done kind cs (row ∷ rows) fits = ap (λ b. apply_rows kind (cond b (row_edit cs row) cs) rows) fits.0 ∙ fitting_done kind (row_edit cs row) rows fits.1
+
+-- one list of them behind another
+fits_append : (kind : CellKind) (cs : List PlainCookie) (first more : List CookieRow) → AreFitting kind cs first → AreFitting kind (after_rows cs first) more → AreFitting kind cs (first ++ more)
+fits_append kind cs [] more fits rest = rest
+fits_append kind cs (row ∷ first) more fits rest = (fits.0, fits_append kind (row_edit cs row) first more fits.1 rest)
 
 kept_length : (cs : List PlainCookie) → length (kept cs) ≡ length (persistent cs)
 kept_length cs = length-map (persistent cs) kept_cookie
 
-remove_valid : (kind : CellKind) (i : ℕ) (cs : List PlainCookie) → apply_rows kind (kept cs) (remove_row (persists_at i cs) (rank i cs)) ≡ kept (remove cs i)
-remove_valid kind i cs = at (persists_at i cs) refl ∙ sym (remove_kept i cs)
+remove_fits : (kind : CellKind) (i : ℕ) (cs : List PlainCookie) → AreFitting kind (kept cs) (remove_row (persists_at i cs) (rank i cs))
+remove_fits kind i cs = at (persists_at i cs) refl
   where
-    at : (b : Bool) → persists_at i cs ≡ b → apply_rows kind (kept cs) (remove_row b (rank i cs)) ≡ after_rows (kept cs) (remove_row b (rank i cs))
-    at true is = apply_one kind (kept cs) (RowRemove (rank i cs)) (lt-ltb (rank i cs) (length (kept cs)) (omega (arith, kept_length cs, rank_below i cs is)))
-    at false is = refl
+    at : (b : Bool) → persists_at i cs ≡ b → AreFitting kind (kept cs) (remove_row b (rank i cs))
+    at true is = (lt-ltb (rank i cs) (length (kept cs)) (omega (arith, kept_length cs, rank_below i cs is)), tt)
+    at false is = tt
 
 -- what a cell within its limits keeps is within them
 filter_sum_le : (f : PlainCookie → ℕ) (cs : List PlainCookie) → sum_by f (filter is_persistent cs) ≤ sum_by f cs
@@ -91,50 +102,48 @@ same_at_rank : (f : PlainCookie) (i : ℕ) (cs : List PlainCookie) → persists_
 same_at_rank f i cs h k =
     ap (λ ds. list_any (λ d. same (kept_cookie f) d) (take 1 ds)) (drop-map kept_cookie (rank i cs) (persistent cs) ∙ ap (map kept_cookie) (drop_rank i cs)) ∙ head_same f (drop i cs) h k
 
-pub last_valid : (kind : CellKind) (fresh : PlainCookie) (i : ℕ) (cs : List PlainCookie)
+last_fits : (kind : CellKind) (fresh : PlainCookie) (i : ℕ) (cs : List PlainCookie)
     → keeps_limits kind (after_step fresh cs (put_step i cs)) ≡ true
     → ((c : PlainCookie) → copies c (after_step fresh cs (put_step i cs)) ≤ 1)
     → (i < length cs → list_any (λ d. same fresh d) (take 1 (drop i cs)) ≡ true)
-    → apply_rows kind (kept cs) (rows_of_step fresh (put_step i cs)) ≡ kept (after_step fresh cs (put_step i cs))
-last_valid kind fresh i cs = at (nat_lt i (length cs)) refl
+    → AreFitting kind (kept cs) (rows_of_step fresh (put_step i cs))
+last_fits kind fresh i cs = at (nat_lt i (length cs)) refl
   where
     replaced : (a b : Bool) → persists_at i cs ≡ b → (b ≡ true → list_any (λ d. same fresh d) (take 1 (drop i cs)) ≡ true)
         → keeps_limits kind (after_rows (kept cs) (replace_row a b (rank i cs) fresh)) ≡ true → ((c : PlainCookie) → copies c (after_rows (kept cs) (replace_row a b (rank i cs) fresh)) ≤ 1)
-        → apply_rows kind (kept cs) (replace_row a b (rank i cs) fresh) ≡ after_rows (kept cs) (replace_row a b (rank i cs) fresh)
-    replaced true true is there within once =
-        apply_one kind (kept cs) (RowReplace (rank i cs) (kept_cookie fresh)) (and_from _ _ (lt-ltb (rank i cs) (length (kept cs)) (omega (arith, kept_length cs, rank_below i cs is))) (and_from _ _ (same_at_rank fresh i cs is (there refl)) within))
-    replaced true false is there within once =
-        apply_one kind (kept cs) (RowInsert (rank i cs) (kept_cookie fresh)) (insert_valid kind (kept cs) (rank i cs) (kept_cookie fresh) (omega (arith, kept_length cs, rank_le i cs)) (once (kept_cookie fresh)) within)
-    replaced false true is there within once =
-        apply_one kind (kept cs) (RowRemove (rank i cs)) (lt-ltb (rank i cs) (length (kept cs)) (omega (arith, kept_length cs, rank_below i cs is)))
-    replaced false false is there within once = refl
+        → AreFitting kind (kept cs) (replace_row a b (rank i cs) fresh)
+    replaced true true is there within once = (and_from _ _ (lt-ltb (rank i cs) (length (kept cs)) (omega (arith, kept_length cs, rank_below i cs is))) (and_from _ _ (same_at_rank fresh i cs is (there refl)) within), tt)
+    replaced true false is there within once = (insert_valid kind (kept cs) (rank i cs) (kept_cookie fresh) (omega (arith, kept_length cs, rank_le i cs)) (once (kept_cookie fresh)) within, tt)
+    replaced false true is there within once = (lt-ltb (rank i cs) (length (kept cs)) (omega (arith, kept_length cs, rank_below i cs is)), tt)
+    replaced false false is there within once = tt
 
     added : (a : Bool) → keeps_limits kind (after_rows (kept cs) (insert_row a (rank i cs) fresh)) ≡ true → ((c : PlainCookie) → copies c (after_rows (kept cs) (insert_row a (rank i cs) fresh)) ≤ 1)
-        → apply_rows kind (kept cs) (insert_row a (rank i cs) fresh) ≡ after_rows (kept cs) (insert_row a (rank i cs) fresh)
-    added true within once = apply_one kind (kept cs) (RowInsert (rank i cs) (kept_cookie fresh)) (insert_valid kind (kept cs) (rank i cs) (kept_cookie fresh) (omega (arith, kept_length cs, rank_le i cs)) (once (kept_cookie fresh)) within)
-    added false within once = refl
+        → AreFitting kind (kept cs) (insert_row a (rank i cs) fresh)
+    added true within once = (insert_valid kind (kept cs) (rank i cs) (kept_cookie fresh) (omega (arith, kept_length cs, rank_le i cs)) (once (kept_cookie fresh)) within, tt)
+    added false within once = tt
 
     at : (b : Bool) → nat_lt i (length cs) ≡ b
         → keeps_limits kind (after_step fresh cs (cond b (Replace i (rank i cs) (persists_at i cs)) (Insert i (rank i cs)))) ≡ true
         → ((c : PlainCookie) → copies c (after_step fresh cs (cond b (Replace i (rank i cs) (persists_at i cs)) (Insert i (rank i cs)))) ≤ 1)
         → (i < length cs → list_any (λ d. same fresh d) (take 1 (drop i cs)) ≡ true)
-        → apply_rows kind (kept cs) (rows_of_step fresh (cond b (Replace i (rank i cs) (persists_at i cs)) (Insert i (rank i cs)))) ≡ kept (after_step fresh cs (cond b (Replace i (rank i cs) (persists_at i cs)) (Insert i (rank i cs))))
+        → AreFitting kind (kept cs) (rows_of_step fresh (cond b (Replace i (rank i cs) (persists_at i cs)) (Insert i (rank i cs))))
     at true is within once there =
         let lt = ltb-true i (length cs) is in
         let e = replace_kept i fresh cs lt in
         replaced (is_persistent fresh) (persists_at i cs) refl (λ _. there lt) (ap (keeps_limits kind) (sym e) ∙ kept_limits kind (slice_set cs i fresh) within)
-        (λ c. subst (λ k. copies c k ≤ 1) e (omega (arith, kept_copies c (slice_set cs i fresh), once c))) ∙ sym e
+        (λ c. subst (λ k. copies c k ≤ 1) e (omega (arith, kept_copies c (slice_set cs i fresh), once c)))
     at false is within once there =
         let e = insert_kept i fresh cs in
         added (is_persistent fresh) (ap (keeps_limits kind) (sym e) ∙ kept_limits kind (insert cs i fresh) within)
-        (λ c. subst (λ k. copies c k ≤ 1) e (omega (arith, kept_copies c (insert cs i fresh), once c))) ∙ sym e
+        (λ c. subst (λ k. copies c k ≤ 1) e (omega (arith, kept_copies c (insert cs i fresh), once c)))
 
-removals_valid : (kind : CellKind) (fresh : PlainCookie) (cs : List PlainCookie) (gone ps : List ℕ) → apply_rows kind (kept cs) (rows_of_steps fresh (removals cs gone ps)) ≡ kept (after_steps fresh cs (removals cs gone ps))
-removals_valid kind fresh cs gone [] = refl
-removals_valid kind fresh cs gone (p ∷ ps) =
-    fold-append (apply_row kind) (kept cs) (rows_of_step fresh (remove_step (place_now gone p) cs)) (rows_of_steps fresh (removals (remove cs (place_now gone p)) (p ∷ gone) ps))
-    ∙ ap (λ k. apply_rows kind k (rows_of_steps fresh (removals (remove cs (place_now gone p)) (p ∷ gone) ps))) (remove_valid kind (place_now gone p) cs)
-    ∙ removals_valid kind fresh (remove cs (place_now gone p)) (p ∷ gone) ps
+removals_fit : (kind : CellKind) (fresh : PlainCookie) (cs : List PlainCookie) (gone ps : List ℕ) → AreFitting kind (kept cs) (rows_of_steps fresh (removals cs gone ps))
+removals_fit kind fresh cs gone [] = tt
+removals_fit kind fresh cs gone (p ∷ ps) =
+    let i = place_now gone p in
+    let more = rows_of_steps fresh (removals (remove cs i) (p ∷ gone) ps) in
+    fits_append kind (kept cs) (rows_of_step fresh (remove_step i cs)) more (remove_fits kind i cs)
+    (subst (λ k. AreFitting kind k more) (remove_kept i cs) (removals_fit kind fresh (remove cs i) (p ∷ gone) ps))
 
 -- leaving out adds no copies
 others_sum_le : (f : PlainCookie → ℕ) (n : ℕ) (gone : List ℕ) (cs : List PlainCookie) → sum_by f (others_from n gone cs) ≤ sum_by f cs
@@ -226,13 +235,13 @@ there_now kind now fresh cs lt = at (nat_lt (place_of fresh cs) (length cs)) ref
         let past : place_now (going kind now fresh cs) (place_of fresh cs) ≡ length (without (going kind now fresh cs) cs) = ap (place_now (going kind now fresh cs)) end ∙ place_end 0 (going kind now fresh cs) cs in
         absurd (omega (arith, past, lt))
 
--- one step's rows
-one_step : (kind : CellKind) (fresh : PlainCookie) (k : List PlainCookie) (s : JarStep) → apply_rows kind k (rows_of_steps fresh (s ∷ [])) ≡ apply_rows kind k (rows_of_step fresh s)
-one_step kind fresh k s = ap (apply_rows kind k) (append-nil (rows_of_step fresh s))
+-- the row changes of one step alone
+one_fits : (kind : CellKind) (fresh : PlainCookie) (k : List PlainCookie) (s : JarStep) → AreFitting kind k (rows_of_step fresh s) → AreFitting kind k (rows_of_steps fresh (s ∷ []))
+one_fits kind fresh k s fits = subst (AreFitting kind k) (sym (append-nil (rows_of_step fresh s))) fits
 
-live_rows : (kind : CellKind) (now : ℤ) (fresh : PlainCookie) (cs : List PlainCookie) → counted kind fresh ≤ 10240 → ((c : PlainCookie) → copies c cs ≤ 1) → is_expired now fresh ≡ false
-    → apply_rows kind (kept cs) (rows_of_steps fresh (steps kind now fresh cs)) ≡ kept (stored kind now fresh cs)
-live_rows kind now fresh cs small once live =
+live_fit : (kind : CellKind) (now : ℤ) (fresh : PlainCookie) (cs : List PlainCookie) → counted kind fresh ≤ 10240 → ((c : PlainCookie) → copies c cs ≤ 1) → is_expired now fresh ≡ false
+    → AreFitting kind (kept cs) (rows_of_steps fresh (steps kind now fresh cs))
+live_fit kind now fresh cs small once live =
     let gone = going kind now fresh cs in
     let first = removals cs [] gone in
     let cur = after_steps fresh cs first in
@@ -244,21 +253,26 @@ live_rows kind now fresh cs small once live =
     let single : (c : PlainCookie) → copies c (after_step fresh cur last) ≤ 1 = λ c. subst (λ xs. copies c xs ≤ 1) whole (stored_once kind now fresh cs live once c) in
     let there : place < length cur → list_any (λ d. same fresh d) (take 1 (drop place cur)) ≡ true = subst (λ xs. place < length xs → list_any (λ d. same fresh d) (take 1 (drop place xs)) ≡ true) (sym left) (there_now kind now fresh cs) in
     let all : steps kind now fresh cs ≡ first ++ last ∷ [] = rw live refl in
-    ap (λ ss. apply_rows kind (kept cs) (rows_of_steps fresh ss)) all
-    ∙ ap (apply_rows kind (kept cs)) (flat_map-append (rows_of_step fresh) first (last ∷ []))
-    ∙ fold-append (apply_row kind) (kept cs) (rows_of_steps fresh first) (rows_of_steps fresh (last ∷ []))
-    ∙ ap (λ k. apply_rows kind k (rows_of_steps fresh (last ∷ []))) (removals_valid kind fresh cs [] gone)
-    ∙ one_step kind fresh (kept cur) last ∙ last_valid kind fresh place cur within single there ∙ ap kept (sym whole)
+    subst (AreFitting kind (kept cs)) (sym (ap (rows_of_steps fresh) all ∙ flat_map-append (rows_of_step fresh) first (last ∷ [])))
+    (fits_append kind (kept cs) (rows_of_steps fresh first) (rows_of_steps fresh (last ∷ [])) (removals_fit kind fresh cs [] gone)
+    (subst (λ k. AreFitting kind k (rows_of_steps fresh (last ∷ []))) (sym (steps_kept fresh cs first (removals_right fresh cs [] gone)))
+    (one_fits kind fresh (kept cur) last (last_fits kind fresh place cur within single there))))
 
--- the row changes of a store are valid one after another, and lead from what was kept to what is kept
+-- the row changes of a store are valid one after another
+pub rows_fit : (kind : CellKind) (now : ℤ) (fresh : PlainCookie) (cs : List PlainCookie) → counted kind fresh ≤ 10240 → ((c : PlainCookie) → copies c cs ≤ 1)
+    → AreFitting kind (kept cs) (rows_of_steps fresh (steps kind now fresh cs))
+rows_fit kind now fresh cs small once = at (is_expired now fresh) refl
+  where
+    gone_row : (b : Bool) → AreFitting kind (kept cs) (rows_of_steps fresh (cond b (remove_step (place_of fresh cs) cs ∷ []) []))
+    gone_row true = one_fits kind fresh (kept cs) (remove_step (place_of fresh cs) cs) (remove_fits kind (place_of fresh cs) cs)
+    gone_row false = tt
+
+    at : (b : Bool) → is_expired now fresh ≡ b → AreFitting kind (kept cs) (rows_of_steps fresh (steps kind now fresh cs))
+    at true is = rw is (gone_row (nat_lt (place_of fresh cs) (length cs)))
+    at false is = live_fit kind now fresh cs small once is
+
+-- and lead from what was kept to what is kept
 pub valid_rows : (kind : CellKind) (now : ℤ) (fresh : PlainCookie) (cs : List PlainCookie) → counted kind fresh ≤ 10240 → ((c : PlainCookie) → copies c cs ≤ 1)
     → apply_rows kind (kept cs) (rows_of_steps fresh (steps kind now fresh cs)) ≡ kept (stored kind now fresh cs)
-valid_rows kind now fresh cs small once = at (is_expired now fresh) refl
-  where
-    gone_row : (b : Bool) → apply_rows kind (kept cs) (rows_of_steps fresh (cond b (remove_step (place_of fresh cs) cs ∷ []) [])) ≡ kept (after_steps fresh cs (cond b (remove_step (place_of fresh cs) cs ∷ []) []))
-    gone_row true = one_step kind fresh (kept cs) (remove_step (place_of fresh cs) cs) ∙ remove_valid kind (place_of fresh cs) cs
-    gone_row false = refl
-
-    at : (b : Bool) → is_expired now fresh ≡ b → apply_rows kind (kept cs) (rows_of_steps fresh (steps kind now fresh cs)) ≡ kept (stored kind now fresh cs)
-    at true is = rw is (gone_row (nat_lt (place_of fresh cs) (length cs)))
-    at false is = live_rows kind now fresh cs small once is
+valid_rows kind now fresh cs small once =
+    fitting_done kind (kept cs) (rows_of_steps fresh (steps kind now fresh cs)) (rows_fit kind now fresh cs small once) ∙ rows_keep kind now fresh cs

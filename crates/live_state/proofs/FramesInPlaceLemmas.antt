@@ -1,16 +1,17 @@
 -- The open tabs after a change of one, at its place.
 use Rattle.std.proofs.Common.{◌≡◌, ◌<◌, ℕ, Bool, false, true, cond, not, List, [], length, get_or, map, set, Option, Some, refl, ap, sym, subst, ◌∙◌}
-use Rattle.std.specs.Prelude.{◌&&◌, ◌==◌, None, if◌then◌else◌, option_map}
+use Rattle.std.specs.Prelude.{◌&&◌, ◌==◌, None, OnOk, Result, if◌then◌else◌, option_map}
 use Rattle.std.specs.BTreeMap.{BTreeMap}
 use Rattle.std.specs.Global.{Vec}
 use Rattle.std.proofs.lemmas.Bool.{eq-eqb}
+use Rattle.std.proofs.lemmas.Result.{on_ok_weaker}
 use Rattle.agent_base.specs.declared.refusals.Label.{Label}
 use Rattle.origin_site.specs.declared.site.Site.{Site}
 use Rattle.frame_tree.specs.Calls.{consumed, flagged, with_mark}
 use Rattle.frame_tree.specs.Tree.{IsTree, PlainFrame, top_site}
 use Rattle.frame_tree.proofs.ShapeLemmas.{tree-mark}
-use Rattle.live_state.specs.ExistingQueues.{FramesStayReadyBut, PlainOpenTab}
-use Rattle.live_state.specs.FramesInPlace.{IsPutIn, IsRemade, frames_at, given, requested}
+use Rattle.live_state.specs.ExistingQueues.{ChangesFrames, PlainOpenTab}
+use Rattle.live_state.specs.FramesInPlace.{IsPutIn, frames_at, given, requested}
 use Rattle.live_state.specs.Queues.{frames_by, goes, is_among}
 use Rattle.live_state.specs.SiteTabs.{AreIndexed}
 use Rattle.live_state.specs.TabPlaces.{IsAt, IsGap}
@@ -70,13 +71,6 @@ module _ {n : ℕ} {tabs : List PlainTab} {ts : List PlainOpenTab} {place : ℕ}
   framed So so =
       subst (So (frames_at n tabs)) (sym frames_after) (subst (λ (fs : List PlainFrame). So fs new.plain.frames) frames_before so)
 
-  -- the tabs have the tab with its frames
-  pub put-in : (fresh : Option ℕ) → IsRemade fresh old.plain new.plain → IsPutIn n fresh tabs (plain_of (set ts place new))
-  put-in fresh remade =
-      put-open n new.plain.frames fresh ts place is.at old new is.within is.read remade
-      ∙ ap (λ frames. tabs_put n frames fresh (plain_of ts)) (sym frames_after)
-      ∙ ap (tabs_put n (frames_at n (plain_of (set ts place new))) fresh) is.seen
-
   -- what was ready and stays is ready still
   pub ready-written : (l : Label) → (l.tab ≡ n → is_among l.frame old.ready ≡ true → is_among l.frame new.ready ≡ true)
       → live_ready l ts ≡ true → live_ready l (set ts place new) ≡ true
@@ -88,21 +82,7 @@ module _ {n : ℕ} {tabs : List PlainTab} {ts : List PlainOpenTab} {place : ℕ}
   pub ready-after : (l : Label) → l.tab ≡ n → live_ready l (set ts place new) ≡ is_among l.frame new.ready
   ready-after l here = ready-set n ts place is.at old is.within is.read new number-after l here
 
-  pub ready-remade : (fresh : Option ℕ) → FramesStayReadyBut (λ m. not (stays fresh new.plain.frames m)) old new → (l : Label)
-      → goes n (frames_at n (plain_of (set ts place new))) fresh l ≡ false → live_ready l ts ≡ true → live_ready l (set ts place new) ≡ true
-  ready-remade fresh kept l stay ready =
-      ready-written l
-      (λ here. kept l.frame
-      (ap (λ fs. not (stays fresh fs l.frame)) (sym frames_after)
-      ∙ ap (λ b. b && not (stays fresh (frames_at n (plain_of (set ts place new))) l.frame)) (sym (eq-eqb l.tab n here))
-      ∙ stay)) ready
-
   -- the map of the tabs' numbers is theirs still
-  pub indexed-written : (numbers : BTreeMap Site (Vec ℕ)) → AreIndexed (plain_of ts) numbers → IsTree new.plain.frames
-      → top_site new.plain.frames ≡ top_site old.plain.frames → AreIndexed (plain_of (set ts place new)) numbers
-  indexed-written numbers before tree site =
-      indexed-same n ts place is.at old is.within is.read numbers before new number-after tree site
-
   pub indexed-told : (numbers : BTreeMap Site (Vec ℕ)) → AreIndexed (plain_of ts) numbers → new.plain.frames ≡ old.plain.frames
       → AreIndexed (plain_of (set ts place new)) numbers
   indexed-told numbers before frames =
@@ -113,6 +93,35 @@ module _ {n : ℕ} {tabs : List PlainTab} {ts : List PlainOpenTab} {place : ℕ}
       → new.plain ≡ change old.plain → plain_of (set ts place new) ≡ map change tabs
   tabs-changed change others own =
       changed-set n change others ts place is.at old new is.within is.read own ∙ ap (map change) is.seen
+
+-- a call changed the frames of the tab
+module _ {n : ℕ} {tabs : List PlainTab} {ts : List PlainOpenTab} {place : ℕ} {old new : PlainOpenTab} {T E : Type 0} {result : Result T E} {fresh : Option ℕ}
+    (is : IsWritten n tabs ts place old new) (changes : ChangesFrames result fresh old new) where
+  -- the tabs have the tab with its frames
+  pub put-in : OnOk result (IsPutIn n fresh tabs (plain_of (set ts place new)))
+  put-in = on_ok_weaker result (λ remade.
+      put-open n new.plain.frames fresh ts place is.at old new is.within is.read remade
+      ∙ ap (λ frames. tabs_put n frames fresh (plain_of ts)) (sym (frames_after is))
+      ∙ ap (tabs_put n (frames_at n (plain_of (set ts place new))) fresh) is.seen) changes.put
+
+  -- it is at its site still
+  pub site-in : top_site (frames_at n (plain_of (set ts place new))) ≡ top_site (frames_at n tabs)
+  site-in = framed is (λ before after. top_site after ≡ top_site before) changes.site
+
+  -- what was ready and stays is ready still
+  pub kept-in : (l : Label) → goes n (frames_at n (plain_of (set ts place new))) fresh l ≡ false → live_ready l ts ≡ true
+      → live_ready l (set ts place new) ≡ true
+  kept-in l stay ready =
+      ready-written is l
+      (λ here. changes.kept l.frame
+      (ap (λ fs. not (stays fresh fs l.frame)) (sym (frames_after is))
+      ∙ ap (λ b. b && not (stays fresh (frames_at n (plain_of (set ts place new))) l.frame)) (sym (eq-eqb l.tab n here))
+      ∙ stay)) ready
+
+  -- the map of the tabs' numbers is theirs still
+  pub indexed-in : (numbers : BTreeMap Site (Vec ℕ)) → AreIndexed (plain_of ts) numbers → AreIndexed (plain_of (set ts place new)) numbers
+  indexed-in numbers before =
+      indexed-same n ts place is.at old is.within is.read numbers before new (number-after is) changes.tree changes.site
 
 -- a tab that is not open has no frames
 pub frames-gap : {n : ℕ} {tabs : List PlainTab} {ts searched : List PlainOpenTab} {place : ℕ} → searched ≡ ts → IsGap n (plain_of searched) place

@@ -1,14 +1,14 @@
 -- What contracts see of an open tab after a write to one of its queues.
 use Rattle.std.proofs.Common.{◌≡◌, ℕ, Bool, true, false, cond, not, List, [], ◌∷◌, map, Option, Some, None, refl, ap, sym, ◌∙◌, inl, inr}
 use Rattle.std.proofs.lemmas.Bool.{and_parts, and_from}
-use Rattle.std.specs.Prelude.{◌&&◌, ◌||◌, ◌==◌, ◌≢◌, ◌⊎◌, filter, unwrap_or, if◌then◌else◌}
+use Rattle.std.specs.Prelude.{◌&&◌, ◌||◌, ◌==◌, ◌≢◌, ◌⊎◌, Ok, filter, unwrap_or, if◌then◌else◌}
 use Rattle.std.proofs.lemmas.Bool.Decides.{eqb_tells}
-use Rattle.frame_tree.specs.Tree.{PlainFrame, has_frame}
+use Rattle.frame_tree.specs.Tree.{IsTree, PlainFrame, has_frame, top_site}
 use Rattle.live_state.specs.declared.frame_queue.FrameQueue.{FrameQueue}
-use Rattle.live_state.specs.ExistingQueues.{IsChangedAt, existing_at, are_of_frames, plain_by, queues_of, ready_by, ready_of}
+use Rattle.live_state.specs.ExistingQueues.{ChangesFrames, FramesStayReadyBut, IsChangedAt, PlainOpenTab, existing_at, are_of_frames, plain_by, queues_of, ready_by, ready_of}
 use Rattle.live_state.specs.Queues.{is_among}
-use Rattle.live_state.specs.Tabs.{PlainFrameQueue, PlainTab, empty_queue, is_fresh, made_tab, queue_of, stays}
-use Rattle.live_state.proofs.ExistingQueueLemmas.{existing-absent, existing-put, find-queues, frame_by, queues-put}
+use Rattle.live_state.specs.Tabs.{PlainFrameQueue, empty_queue, is_fresh, made_tab, queue_of, stays}
+use Rattle.live_state.proofs.ExistingQueueLemmas.{existing-absent, find-queues, frame_by, queues-put}
 use Rattle.live_state.proofs.ListLemmas.{fails_too, find-kept, not_false}
 
 pub queues-same : (frames : List PlainFrame) (old new : List FrameQueue)
@@ -108,16 +108,33 @@ queues-each (f ∷ fs) existing =
 
 -- ---- other frames in the tab, and the queues that are kept
 
-module _ (fresh : Option ℕ) (frames made : List PlainFrame) (existing kept : List FrameQueue) (is : kept ≡ filter (λ q. stays fresh made q.frame) existing) where
-  pub of-made : are_of_frames made kept ≡ true
-  of-made = ap (are_of_frames made) is ∙ existing-put fresh made existing
+-- a tab of these frames and existing queues
+abbrev pub open_tab : ℕ → List PlainFrame → List FrameQueue → PlainOpenTab
+open_tab number frames existing = record {
+  plain = record { number = number; frames = frames; queues = queues_of frames existing };
+  ready = ready_of frames existing;
+}
 
-  pub tab-made : (number : ℕ) → are_of_frames frames existing ≡ true
-      → ◌≡◌ {A = PlainTab} (record { number = number; frames = made; queues = queues_of made kept })
-      (made_tab number made fresh (Some (record { number = number; frames = frames; queues = queues_of frames existing })))
-  tab-made number all =
+module _ (fresh : Option ℕ) (frames made : List PlainFrame) (existing kept : List FrameQueue) (is : kept ≡ filter (λ q. stays fresh made q.frame) existing)
+    (number : ℕ) (old : PlainOpenTab) (seen : open_tab number frames existing ≡ old) where
+  pub tab-made : are_of_frames frames existing ≡ true → (open_tab number made kept).plain ≡ made_tab old.plain.number made fresh (Some old.plain)
+  tab-made all =
       ap (λ qs. record { number = number; frames = made; queues = qs })
       (ap (queues_of made) is ∙ sym (queues-put fresh frames made existing all))
+      ∙ ap (λ tab. made_tab tab.plain.number made fresh (Some tab.plain)) seen
 
-  pub ready-made : (n : ℕ) → not (stays fresh made n) ≡ false → is_among n (ready_of frames existing) ≡ true → is_among n (ready_of made kept) ≡ true
-  ready-made n stay ready = ap (λ l. is_among n (ready_of made l)) is ∙ ready-put fresh frames made existing n stay ready
+  pub ready-made : FramesStayReadyBut (λ n. not (stays fresh made n)) old (open_tab number made kept)
+  ready-made = λ n stay ready.
+      ap (λ l. is_among n (ready_of made l)) is ∙ ready-put fresh frames made existing n stay (ap (λ tab. is_among n tab.ready) seen ∙ ready)
+
+  -- where a call changed the frames
+  pub frames-changed : {T E : Type 0} {value : T} → are_of_frames frames existing ≡ true → top_site made ≡ top_site frames → IsTree made
+      → ChangesFrames {T = T} {E = E} (Ok value) fresh old (open_tab number made kept)
+  frames-changed all site tree = record {
+    put = tab-made all;
+    unchanged = tt;
+    number = ap (λ tab. tab.plain.number) seen;
+    site = site ∙ ap (λ tab. top_site tab.plain.frames) seen;
+    tree = tree;
+    kept = ready-made;
+  }

@@ -1,10 +1,12 @@
 -- An open tab, as the list of open tabs sees it, and the queues that exist: a frame whose
 -- document has heard of no event may have none.
-use Rattle.std.specs.Prelude.{◌≡◌, ℕ, Bool, true, false, ◌==◌, List, map, filter, find, Option, Some, None, if◌then◌else◌}
+use Rattle.std.specs.Prelude.{◌≡◌, ℕ, Bool, true, false, ◌==◌, not, List, map, filter, find, Option, Some, None}
+use Rattle.std.specs.Prelude.{Result, OnErr, OnOk, if◌then◌else◌}
 use Rattle.std.specs.List.{list_all}
-use Rattle.frame_tree.specs.Tree.{PlainFrame, has_frame}
+use Rattle.frame_tree.specs.Tree.{IsTree, PlainFrame, has_frame, top_site}
+use Rattle.live_state.specs.FramesInPlace.{IsRemade}
 use Rattle.live_state.specs.Queues.{is_among}
-use Rattle.live_state.specs.Tabs.{PlainFrameQueue, PlainTab, ReadyTab, empty_queue}
+use Rattle.live_state.specs.Tabs.{PlainFrameQueue, PlainTab, ReadyTab, empty_queue, stays}
 use Rattle.live_state.specs.declared.frame_queue.FrameQueue.{FrameQueue}
 
 -- an open tab, and the frames whose queue takes one event more without taking memory
@@ -34,6 +36,17 @@ ready_by (Some q) = q.queue.reserved
 abbrev pub FramesStayReadyBut : (ℕ → Bool) → PlainOpenTab → PlainOpenTab → Type 0
 FramesStayReadyBut but old new =
     (n : ℕ) → but n ≡ false → is_among n old.ready ≡ true → is_among n new.ready ≡ true
+
+-- a call changes the frames of a tab. The tab keeps its number, its site and each queue that stays,
+-- and a refusal leaves all of it.
+pub record ChangesFrames {T E : Type 0} (result : Result T E) (fresh : Option ℕ)
+    (old new : PlainOpenTab) : Type 0 where
+  pub put : OnOk result (IsRemade fresh old.plain new.plain)
+  pub unchanged : OnErr result (new ≡ old)
+  pub number : new.plain.number ≡ old.plain.number
+  pub site : top_site new.plain.frames ≡ top_site old.plain.frames
+  pub tree : IsTree new.plain.frames
+  pub kept : FramesStayReadyBut (λ n. not (stays fresh new.plain.frames n)) old new
 
 -- the queue of each frame
 abbrev pub queues_of : List PlainFrame → List FrameQueue → List PlainFrameQueue

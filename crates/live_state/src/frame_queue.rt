@@ -3,7 +3,7 @@ ghost use Rattle.std.specs.Prelude.{◌≡◌, ◌==◌, ℕ, List, OnErr, OnOk,
 ghost use Rattle.std.specs.List.{position};
 ghost use Rattle.storage_events.specs.Event.{plain_event};
 ghost use Rattle.frame_tree.specs.Tree.{IsTree, PlainFrame, has_frame};
-ghost use Rattle.live_state.specs.ExistingQueues.{IsChangedAt, SeenAlike, StayOfFrames, StaysReady, existing_at, plain_by, ready_by};
+ghost use Rattle.live_state.specs.ExistingQueues.{IsChangedAt, SeenAlike, StayOfFrames, StaysReady, are_of_frames, existing_at, plain_by, ready_by};
 ghost use Rattle.live_state.specs.Queues.{queue_told};
 ghost use Rattle.live_state.specs.Tabs.{empty_queue, is_fresh, stays};
 
@@ -22,6 +22,7 @@ pub struct FrameQueue {
 /// Drops the queues of documents that are fresh or gone.
 pub fn keep_queues(queues: &mut Vec<FrameQueue>, made: &Tab, fresh: Option<u8>)
     ensures kept { queues.new.items ≡ filter (λ q. stays fresh made.now q.frame) queues.old.items }
+    ensures of_frames { are_of_frames made.now queues.new.items ≡ true }
 {
     queues.retain(|q| !is_fresh(fresh, q.frame) && has_frame(made, q.frame));
 }

@@ -9,8 +9,8 @@ ghost use Rattle.frame_tree.specs.Tree.{IsTree, has_frame, top_site};
 ghost use Rattle.frame_tree.specs.Plain.{plain_sandbox};
 ghost use Rattle.frame_tree.specs.declared.tab.TreeFault.{TreeFault};
 ghost use Rattle.live_state.specs.Documents.{documents_in, plain_keyed};
-ghost use Rattle.live_state.specs.ExistingQueues.{FramesStayReadyBut, changed_at};
-ghost use Rattle.live_state.specs.FramesInPlace.{IsRemade, given, requested};
+ghost use Rattle.live_state.specs.ExistingQueues.{ChangesFrames, FramesStayReadyBut, changed_at};
+ghost use Rattle.live_state.specs.FramesInPlace.{given, requested};
 ghost use Rattle.live_state.specs.Hearers.{hearers_in};
 ghost use Rattle.live_state.specs.Queues.{is_among, queue_told};
 ghost use Rattle.live_state.specs.Tabs.{HasQueues, empty_queue, made_tab, queue_of, stays};
@@ -103,13 +103,7 @@ impl OpenTab {
         ensures decided { (why : TreeFault) → added list.now.rules parent frame
             (plain_address address) (plain_sandbox sandbox) deny self.old.plain.frames ≡ Err why
             → result ≡ Err why }
-        ensures put { OnOk result (IsRemade None self.old.plain self.new.plain) }
-        ensures unchanged { OnErr result (self.new ≡ self.old) }
-        ensures number { self.new.plain.number ≡ self.old.plain.number }
-        ensures site { top_site self.new.plain.frames ≡ top_site self.old.plain.frames }
-        ensures tree { IsTree self.new.plain.frames }
-        ensures kept { FramesStayReadyBut (λ n. not (stays None self.new.plain.frames n))
-            self.old self.new }
+        ensures changes { ChangesFrames result None self.old self.new }
     {
         self.tab.add(parent, frame, address, sandbox, deny, list)?;
         keep_queues(&mut self.queues, &self.tab, None);
@@ -132,13 +126,7 @@ impl OpenTab {
         ensures decided { (why : TreeFault) → navigated list.now.rules frame
             (plain_address address) keep_flag self.old.plain.frames ≡ Err why
             → result ≡ Err why }
-        ensures put { OnOk result (IsRemade (Some frame) self.old.plain self.new.plain) }
-        ensures unchanged { OnErr result (self.new ≡ self.old) }
-        ensures number { self.new.plain.number ≡ self.old.plain.number }
-        ensures site { top_site self.new.plain.frames ≡ top_site self.old.plain.frames }
-        ensures tree { IsTree self.new.plain.frames }
-        ensures kept { FramesStayReadyBut (λ n. not (stays (Some frame) self.new.plain.frames n))
-            self.old self.new }
+        ensures changes { ChangesFrames result (Some frame) self.old self.new }
     {
         self.tab.navigate(frame, address, keep_flag, list)?;
         keep_queues(&mut self.queues, &self.tab, Some(frame));
@@ -151,13 +139,7 @@ impl OpenTab {
         requires { frame ≢ 0 }
         ensures removed { IsDoneAt frame self.old.plain.frames self.new.plain.frames
             (without frame self.old.plain.frames) result }
-        ensures put { OnOk result (IsRemade None self.old.plain self.new.plain) }
-        ensures unchanged { OnErr result (self.new ≡ self.old) }
-        ensures number { self.new.plain.number ≡ self.old.plain.number }
-        ensures site { top_site self.new.plain.frames ≡ top_site self.old.plain.frames }
-        ensures tree { IsTree self.new.plain.frames }
-        ensures kept { FramesStayReadyBut (λ n. not (stays None self.new.plain.frames n))
-            self.old self.new }
+        ensures changes { ChangesFrames result None self.old self.new }
     {
         self.tab.remove(frame)?;
         keep_queues(&mut self.queues, &self.tab, None);
@@ -168,13 +150,7 @@ impl OpenTab {
     pub fn activate(&mut self, frame: u8, now: i64) -> Result<(), NoFrame>
         ensures activated { IsDoneAt frame self.old.plain.frames self.new.plain.frames
             (activated frame now self.old.plain.frames) result }
-        ensures put { OnOk result (IsRemade None self.old.plain self.new.plain) }
-        ensures unchanged { OnErr result (self.new ≡ self.old) }
-        ensures number { self.new.plain.number ≡ self.old.plain.number }
-        ensures site { top_site self.new.plain.frames ≡ top_site self.old.plain.frames }
-        ensures tree { IsTree self.new.plain.frames }
-        ensures kept { FramesStayReadyBut (λ n. not (stays None self.new.plain.frames n))
-            self.old self.new }
+        ensures changes { ChangesFrames result None self.old self.new }
     {
         self.tab.activate(frame, now)?;
         keep_queues(&mut self.queues, &self.tab, None);
@@ -186,13 +162,7 @@ impl OpenTab {
     pub fn finish_request(&mut self, frame: u8, gives: bool, consumes: bool) -> Result<(), NoFrame>
         ensures requested { IsDoneAt frame self.old.plain.frames self.new.plain.frames
             (requested gives consumes frame self.old.plain.frames) result }
-        ensures put { OnOk result (IsRemade None self.old.plain self.new.plain) }
-        ensures unchanged { OnErr result (self.new ≡ self.old) }
-        ensures number { self.new.plain.number ≡ self.old.plain.number }
-        ensures site { top_site self.new.plain.frames ≡ top_site self.old.plain.frames }
-        ensures tree { IsTree self.new.plain.frames }
-        ensures kept { FramesStayReadyBut (λ n. not (stays None self.new.plain.frames n))
-            self.old self.new }
+        ensures changes { ChangesFrames result None self.old self.new }
     {
         finish_request(&mut self.tab, frame, gives, consumes)?;
         keep_queues(&mut self.queues, &self.tab, None);

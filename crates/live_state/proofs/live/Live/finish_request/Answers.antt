@@ -1,20 +1,19 @@
 -- The frames of the tab at the place, or of none.
-use Rattle.std.proofs.Common.{◌≡◌, None, ap, refl, rules, ◌∙◌}
-use Rattle.std.proofs.lemmas.Result.{on_ok_weaker}
-use Rattle.frame_tree.specs.Tree.{has_frame, top_site}
+use Rattle.std.proofs.Common.{ap, refl, rules, ◌∙◌}
+use Rattle.frame_tree.specs.Tree.{has_frame}
 use Rattle.frame_tree.specs.Calls.{IsDoneAt}
 use Rattle.live_state.specs.FramesInPlace.{requested}
 use Rattle.live_state.specs.Queues.{is_ready}
-use Rattle.live_state.proofs.FramesInPlaceLemmas.{IsWritten, framed, frames-gap, indexed-written, put-in, ready-remade, written}
+use Rattle.live_state.proofs.FramesInPlaceLemmas.{IsWritten, framed, frames-gap, indexed-in, kept-in, put-in, site-in, written}
 use Rattle.live_state.proofs.live.Live.finish_request.Goals as goal
 use Rattle.live_state.proofs.live.Live.finish_request.Goals.{After-self-1}
 
 changed : (c : After-self-1) → IsWritten c.args.at.tab c.args.self.now.tabs c.self.inside.tabs.items c.in-Ok.place c.index_mut.result.now c.finish_request.new.self
-changed c = written c.as_slice.ensures.value c.in-Ok.ensures.place (search rules) c.index_mut.ensures.value c.finish_request.ensures.number (ap (λ live. live.tabs) c.self.view_is)
+changed c = written c.as_slice.ensures.value c.in-Ok.ensures.place (search rules) c.index_mut.ensures.value c.finish_request.ensures.changes.number (ap (λ live. live.tabs) c.self.view_is)
 
 pub invariant_of-self : goal.invariant_of-self
 invariant_of-self c =
-    indexed-written (changed c) c.self.inside.sites.numbers c.self.invariant c.finish_request.ensures.tree c.finish_request.ensures.site
+    indexed-in (changed c) c.finish_request.ensures.changes c.self.inside.sites.numbers c.self.invariant
 
 pub returns-in-Ok-clause-requested : goal.returns-in-Ok-clause-requested
 returns-in-Ok-clause-requested c =
@@ -22,16 +21,14 @@ returns-in-Ok-clause-requested c =
     c.finish_request.ensures.requested
 
 pub returns-in-Ok-clause-put : goal.returns-in-Ok-clause-put
-returns-in-Ok-clause-put c =
-    on_ok_weaker c.finish_request.result (put-in (changed c) None) c.finish_request.ensures.put
+returns-in-Ok-clause-put c = put-in (changed c) c.finish_request.ensures.changes
 
 pub returns-in-Ok-clause-site : goal.returns-in-Ok-clause-site
-returns-in-Ok-clause-site c =
-    framed (changed c) (λ before after. top_site after ≡ top_site before) c.finish_request.ensures.site
+returns-in-Ok-clause-site c = site-in (changed c) c.finish_request.ensures.changes
 
 pub returns-in-Ok-clause-kept : goal.returns-in-Ok-clause-kept
 returns-in-Ok-clause-kept c = λ other stay ready.
-    ready-remade (changed c) None c.finish_request.ensures.kept other stay (ap (λ live. is_ready live other) c.self.view_is ∙ ready)
+    kept-in (changed c) c.finish_request.ensures.changes other stay (ap (λ live. is_ready live other) c.self.view_is ∙ ready)
 
 pub returns-in-Err-clause-requested : goal.returns-in-Err-clause-requested
 returns-in-Err-clause-requested c =

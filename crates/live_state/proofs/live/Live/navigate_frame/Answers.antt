@@ -1,24 +1,22 @@
 -- The frames of the tab at the place, or of none.
-use Rattle.std.proofs.Common.{◌≡◌, Some, ap, inr, rules, sym, ◌∙◌}
-use Rattle.std.proofs.lemmas.Result.{on_ok_weaker}
+use Rattle.std.proofs.Common.{◌≡◌, ap, inr, rules, sym, ◌∙◌}
 use Rattle.std.specs.Prelude.{Err}
 use Rattle.agent_base.specs.Answers.{Answers}
 use Rattle.origin_site.specs.Plain.{plain_address}
-use Rattle.frame_tree.specs.Tree.{top_site}
 use Rattle.frame_tree.specs.declared.tab.TreeFault.{TreeFault}
 use Rattle.frame_tree.specs.declared.tab.TreeFault.TheVariants.{NoMemory}
 use Rattle.frame_tree.specs.Calls.{navigated}
 use Rattle.live_state.specs.Queues.{is_ready}
-use Rattle.live_state.proofs.FramesInPlaceLemmas.{IsWritten, framed, frames-gap, indexed-written, put-in, ready-remade, written}
+use Rattle.live_state.proofs.FramesInPlaceLemmas.{IsWritten, framed, frames-gap, indexed-in, kept-in, put-in, site-in, written}
 use Rattle.live_state.proofs.live.Live.navigate_frame.Goals as goal
 use Rattle.live_state.proofs.live.Live.navigate_frame.Goals.{After-self-1}
 
 changed : (c : After-self-1) → IsWritten c.args.at.tab c.args.self.now.tabs c.self.inside.tabs.items c.in-Ok.place c.index_mut.result.now c.navigate_frame.new.self
-changed c = written c.as_slice.ensures.value c.in-Ok.ensures.place (search rules) c.index_mut.ensures.value c.navigate_frame.ensures.number (ap (λ live. live.tabs) c.self.view_is)
+changed c = written c.as_slice.ensures.value c.in-Ok.ensures.place (search rules) c.index_mut.ensures.value c.navigate_frame.ensures.changes.number (ap (λ live. live.tabs) c.self.view_is)
 
 pub invariant_of-self : goal.invariant_of-self
 invariant_of-self c =
-    indexed-written (changed c) c.self.inside.sites.numbers c.self.invariant c.navigate_frame.ensures.tree c.navigate_frame.ensures.site
+    indexed-in (changed c) c.navigate_frame.ensures.changes c.self.inside.sites.numbers c.self.invariant
 
 pub returns-in-Ok-clause-answer : goal.returns-in-Ok-clause-answer
 returns-in-Ok-clause-answer c =
@@ -29,16 +27,14 @@ returns-in-Ok-clause-decided c =
     framed (changed c) (λ before after. (why : TreeFault) → navigated c.args.list.now.rules c.args.at.frame (plain_address c.args.address) c.args.keep_flag before ≡ Err why → c.navigate_frame.result ≡ Err why) c.navigate_frame.ensures.decided
 
 pub returns-in-Ok-clause-put : goal.returns-in-Ok-clause-put
-returns-in-Ok-clause-put c =
-    on_ok_weaker c.navigate_frame.result (put-in (changed c) (Some c.args.at.frame)) c.navigate_frame.ensures.put
+returns-in-Ok-clause-put c = put-in (changed c) c.navigate_frame.ensures.changes
 
 pub returns-in-Ok-clause-site : goal.returns-in-Ok-clause-site
-returns-in-Ok-clause-site c =
-    framed (changed c) (λ before after. top_site after ≡ top_site before) c.navigate_frame.ensures.site
+returns-in-Ok-clause-site c = site-in (changed c) c.navigate_frame.ensures.changes
 
 pub returns-in-Ok-clause-kept : goal.returns-in-Ok-clause-kept
 returns-in-Ok-clause-kept c = λ other stay ready.
-    ready-remade (changed c) (Some c.args.at.frame) c.navigate_frame.ensures.kept other stay (ap (λ live. is_ready live other) c.self.view_is ∙ ready)
+    kept-in (changed c) c.navigate_frame.ensures.changes other stay (ap (λ live. is_ready live other) c.self.view_is ∙ ready)
 
 pub returns-in-Err-clause-answer : goal.returns-in-Err-clause-answer
 returns-in-Err-clause-answer c =

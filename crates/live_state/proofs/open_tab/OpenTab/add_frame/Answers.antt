@@ -1,18 +1,6 @@
 -- The queues that are kept are those of the frames afterwards.
-use Rattle.std.proofs.Common.{None, Some, ap, ◌∙◌}
-use Rattle.live_state.specs.Queues.{is_among}
-use Rattle.live_state.specs.Tabs.{made_tab}
-use Rattle.live_state.proofs.TabLemmas.{of-made, ready-made, tab-made}
+use Rattle.live_state.proofs.TabLemmas.{frames-changed}
 use Rattle.live_state.proofs.open_tab.OpenTab.add_frame.Goals as goal
 
-pub invariant_of-self-2 : goal.invariant_of-self-2
-invariant_of-self-2 c = of-made None c.self.inside.tab c.add.new.self c.self.inside.queues.items c.keep_queues.new.queues.items c.keep_queues.ensures.kept
-
-pub returns-clause-put : goal.returns-clause-put
-returns-clause-put c =
-    tab-made None c.self.inside.tab c.add.new.self c.self.inside.queues.items c.keep_queues.new.queues.items c.keep_queues.ensures.kept c.self.inside.number c.self.invariant
-    ∙ ap (λ tab. made_tab tab.plain.number c.add.new.self None (Some tab.plain)) c.self.view_is
-
-pub returns-clause-kept : goal.returns-clause-kept
-returns-clause-kept c = λ n stay ready.
-    ready-made None c.self.inside.tab c.add.new.self c.self.inside.queues.items c.keep_queues.new.queues.items c.keep_queues.ensures.kept n stay (ap (λ tab. is_among n tab.ready) c.self.view_is ∙ ready)
+pub returns-clause-changes : goal.returns-clause-changes
+returns-clause-changes c = frames-changed _ _ _ _ _ c.keep_queues.ensures.kept c.self.inside.number c.args.self.now c.self.view_is c.self.invariant c.add.ensures.site c.add.ensures.tree

@@ -141,7 +141,7 @@ keeps_behind rules code =
 
 -- ---- a count and a row change take a byte at least
 
-change_shorter : (rules : List Rule) (bytes : List ℕ) (change : PlainChange) (rest : List ℕ) → change_at rules bytes ≡ Some (change, rest) → length rest < length bytes
+pub change_shorter : (rules : List Rule) (bytes : List ℕ) (change : PlainChange) (rest : List ℕ) → change_at rules bytes ≡ Some (change, rest) → length rest < length bytes
 unfolding change_at
 change_shorter rules [] change rest e = absurd (none-some _ e)
 change_shorter rules (code ∷ bytes) change rest e =

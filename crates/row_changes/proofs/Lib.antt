@@ -4,6 +4,7 @@ pub mod RowLaws
 pub mod CookieLaws
 pub mod ChangeLaws
 pub mod BodyLaws
+pub mod PieceLaws
 pub mod TextLemmas
 pub mod WritingLemmas
 pub mod StandardFacts

@@ -14,7 +14,8 @@ use Rattle.row_changes.specs.Spelling.{change_bytes}
 use Rattle.row_changes.specs.Names.{origin_of_text, site_under_list, is_host_of, is_own_domain}
 use Rattle.row_changes.specs.Reading.{flags_of, same_site_of, answer_of}
 use Rattle.row_changes.specs.Spelled.{is_sound}
-use Rattle.row_changes.specs.Body.{changes_bytes}
+use Rattle.row_changes.specs.Body.{changes_bytes, Begins, Row}
+use Rattle.row_changes.specs.Laws.{row_pieces, body_pieces}
 
 -- `https://a.test`
 abbrev a_site : PlainSite
@@ -44,6 +45,15 @@ put_length = refl
 -- and the body of one durable change with it alone: 52 bytes
 put_body : changes_bytes (put_k ∷ []) ≡ 1 ∷ 0 ∷ 0 ∷ 0 ∷ change_bytes put_k
 put_body = refl
+
+-- two durable changes, of two row changes and of one: their row changes are behind their counts
+put_pieces : body_pieces 0 ((put_k ∷ put_k ∷ []) ∷ (put_k ∷ []) ∷ []) ≡
+    Begins ∷ Row 4 put_k ∷ Row 52 put_k ∷ Begins ∷ Row 104 put_k ∷ []
+put_pieces = refl
+
+-- a snapshot of two
+put_snapshot : row_pieces 0 (put_k ∷ put_k ∷ []) ≡ Row 0 put_k ∷ Row 48 put_k ∷ []
+put_snapshot = refl
 
 -- a partitioned cookie `n=1` of `w.test` under `https://a.test`, of all fields
 abbrev n_cookie : PlainCookie

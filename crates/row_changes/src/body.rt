@@ -98,12 +98,12 @@ fn is_over(progress: &Progress<'_>) -> bool
 }
 
 #[tactic(auto, unfolding(crate::specs::Body::count_at))]
-fn count_at(bytes: &[u8]) -> Result<(u32, &[u8]), Stop>
-    ensures { Gives (λ x. (x.0, x.1.now)) (spec.count_at bytes.now) result }
+fn count_at(bytes: &mut &[u8]) -> Result<u32, Stop>
+    ensures { Gives (λ count. (count, bytes.new.now)) (spec.count_at bytes.old.now) result }
 {
-    let (count, rest) = number_at(bytes)?;
+    let count = number_at(bytes)?;
     if 0 < count {
-        Ok((count, rest))
+        Ok(count)
     } else {
         Err(Stop::NoField)
     }
@@ -123,8 +123,9 @@ fn begun(size: usize, progress: Progress<'_>) -> Result<(Piece, Progress<'_>), N
         ≡ spec.begun size (plain_progress progress.entry)
         (spec.count_at progress.entry.rest.now)) }
 {
-    match count_at(progress.rest) {
-        Ok((left, rest)) => Ok((Piece::Begins, Progress { left, rest })),
+    let mut rest = progress.rest;
+    match count_at(&mut rest) {
+        Ok(left) => Ok((Piece::Begins, Progress { left, rest })),
         Err(Stop::NoField) => Ok(faulty(size, progress)),
         Err(Stop::NoMemory) => Err(NoMemory),
     }

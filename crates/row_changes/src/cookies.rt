@@ -28,32 +28,30 @@ struct Flags {
 }
 
 #[tactic(auto, unfolding(crate::specs::Reading::flags_at))]
-fn flags_at(bytes: &[u8]) -> Result<(Flags, &[u8]), Stop>
-    ensures { Gives (λ x. (((x.0.host_only, x.0.secure), x.0.http_only), x.1.now))
-        (spec.flags_at bytes.now) result }
+fn flags_at(bytes: &mut &[u8]) -> Result<Flags, Stop>
+    ensures { Gives (λ x. (((x.host_only, x.secure), x.http_only), bytes.new.now))
+        (spec.flags_at bytes.old.now) result }
 {
-    let (byte, rest) = byte_at(bytes)?;
+    let byte = byte_at(bytes)?;
     if byte >= 8 {
         return Err(Stop::NoField);
     }
-    let flags = Flags {
+    Ok(Flags {
         host_only: byte % 2 == 1,
         secure: byte / 2 % 2 == 1,
         http_only: byte / 4 == 1,
-    };
-    Ok((flags, rest))
+    })
 }
 
 #[tactic(auto, unfolding(crate::specs::Reading::same_site_at))]
-fn same_site_at(bytes: &[u8]) -> Result<(SameSite, &[u8]), Stop>
-    ensures { Gives (λ x. (x.0, x.1.now)) (spec.same_site_at bytes.now) result }
+fn same_site_at(bytes: &mut &[u8]) -> Result<SameSite, Stop>
+    ensures { Gives (λ x. (x, bytes.new.now)) (spec.same_site_at bytes.old.now) result }
 {
-    let (byte, rest) = byte_at(bytes)?;
-    match byte {
-        0 => Ok((SameSite::Default, rest)),
-        1 => Ok((SameSite::NoneSent, rest)),
-        2 => Ok((SameSite::Lax, rest)),
-        3 => Ok((SameSite::Strict, rest)),
+    match byte_at(bytes)? {
+        0 => Ok(SameSite::Default),
+        1 => Ok(SameSite::NoneSent),
+        2 => Ok(SameSite::Lax),
+        3 => Ok(SameSite::Strict),
         _ => Err(Stop::NoField),
     }
 }
@@ -68,22 +66,17 @@ struct Texts<'b> {
 }
 
 #[tactic(auto, unfolding(crate::specs::Reading::texts_at))]
-fn texts_at(bytes: &[u8]) -> Result<(Texts<'_>, &[u8]), Stop>
+fn texts_at<'b>(bytes: &mut &'b [u8]) -> Result<Texts<'b>, Stop>
     ensures { Gives
-        (λ x. ((((x.0.name.now, x.0.value.now), x.0.domain.now), x.0.path.now), x.1.now))
-        (spec.texts_at bytes.now) result }
+        (λ x. ((((x.name.now, x.value.now), x.domain.now), x.path.now), bytes.new.now))
+        (spec.texts_at bytes.old.now) result }
 {
-    let (name, rest) = text_at(bytes)?;
-    let (value, rest) = text_at(rest)?;
-    let (domain, rest) = text_at(rest)?;
-    let (path, rest) = text_at(rest)?;
-    let texts = Texts {
-        name,
-        value,
-        domain,
-        path,
-    };
-    Ok((texts, rest))
+    Ok(Texts {
+        name: text_at(bytes)?,
+        value: text_at(bytes)?,
+        domain: text_at(bytes)?,
+        path: text_at(bytes)?,
+    })
 }
 
 // What else the bytes of a cookie say.
@@ -96,32 +89,24 @@ struct Marks {
 }
 
 #[tactic(auto, unfolding(crate::specs::Reading::marks_at))]
-fn marks_at(bytes: &[u8]) -> Result<(Marks, &[u8]), Stop>
+fn marks_at(bytes: &mut &[u8]) -> Result<Marks, Stop>
     ensures { Gives (λ x. (
       (
         (
-          (
-            ((x.0.flags.host_only, x.0.flags.secure), x.0.flags.http_only),
-            x.0.same_site,
-          ),
-          x.0.creation,
+          (((x.flags.host_only, x.flags.secure), x.flags.http_only), x.same_site),
+          x.creation,
         ),
-        x.0.expiry,
+        x.expiry,
       ),
-      x.1.now,
-    )) (spec.marks_at bytes.now) result }
+      bytes.new.now,
+    )) (spec.marks_at bytes.old.now) result }
 {
-    let (flags, rest) = flags_at(bytes)?;
-    let (same_site, rest) = same_site_at(rest)?;
-    let (creation, rest) = signed_at(rest)?;
-    let (expiry, rest) = signed_at(rest)?;
-    let marks = Marks {
-        flags,
-        same_site,
-        creation,
-        expiry,
-    };
-    Ok((marks, rest))
+    Ok(Marks {
+        flags: flags_at(bytes)?,
+        same_site: same_site_at(bytes)?,
+        creation: signed_at(bytes)?,
+        expiry: signed_at(bytes)?,
+    })
 }
 
 // The texts over memory of their own.
@@ -144,13 +129,14 @@ fn shared(alloc: Global, texts: &Texts<'_>) -> Result<Rc<SharedTexts>, NoMemory>
 }
 
 #[tactic(auto, unfolding(crate::specs::Reading::cookie_at))]
-fn cookie_at(alloc: Global, bytes: &[u8]) -> Result<(Cookie, &[u8]), Stop>
-    ensures { Gives (λ x. (plain_cookie x.0, x.1.now)) (spec.cookie_at bytes.now) result }
+fn cookie_at(alloc: Global, bytes: &mut &[u8]) -> Result<Cookie, Stop>
+    ensures { Gives (λ cookie. (plain_cookie cookie, bytes.new.now))
+        (spec.cookie_at bytes.old.now) result }
 {
-    let (texts, rest) = texts_at(bytes)?;
-    let (marks, rest) = marks_at(rest)?;
+    let texts = texts_at(bytes)?;
+    let marks = marks_at(bytes)?;
     let texts = shared(alloc, &texts)?;
-    let cookie = Cookie {
+    Ok(Cookie {
         texts,
         host_only: marks.flags.host_only,
         secure: marks.flags.secure,
@@ -159,8 +145,7 @@ fn cookie_at(alloc: Global, bytes: &[u8]) -> Result<(Cookie, &[u8]), Stop>
         creation: marks.creation,
         expiry: Some(marks.expiry),
         last: 0,
-    };
-    Ok((cookie, rest))
+    })
 }
 
 fn begins_with_slash(path: &str) -> bool
@@ -231,24 +216,19 @@ pub struct Placed {
 }
 
 #[tactic(auto, unfolding(crate::specs::Reading::placed_at))]
-pub fn placed_at<'b>(
-    alloc: Global,
-    bytes: &'b [u8],
-    list: &SuffixList,
-) -> Result<(Placed, &'b [u8]), Stop>
-    ensures { Gives (λ x. (((plain_cell x.0.cell, x.0.place), plain_cookie x.0.cookie), x.1.now))
-        (spec.placed_at list.now.rules bytes.now) result }
+pub fn placed_at(alloc: Global, bytes: &mut &[u8], list: &SuffixList) -> Result<Placed, Stop>
+    ensures { Gives (λ x. (((plain_cell x.cell, x.place), plain_cookie x.cookie), bytes.new.now))
+        (spec.placed_at list.now.rules bytes.old.now) result }
 {
-    let (cell, rest) = cell_at(alloc, bytes, list)?;
-    let (place, rest) = byte_at(rest)?;
-    let (cookie, rest) = cookie_at(alloc, rest)?;
+    let cell = cell_at(alloc, bytes, list)?;
+    let place = byte_at(bytes)?;
+    let cookie = cookie_at(alloc, bytes)?;
     if !suits(alloc, &cell, &cookie, list)? {
         return Err(Stop::NoField);
     }
-    let placed = Placed {
+    Ok(Placed {
         cell,
         place,
         cookie,
-    };
-    Ok((placed, rest))
+    })
 }

@@ -121,42 +121,31 @@ pub fn is_host_of(
 }
 
 #[tactic(auto, unfolding(crate::specs::Reading::origin_at))]
-fn origin_at(alloc: Global, bytes: &[u8]) -> Result<(Origin, &[u8]), Stop>
-    ensures { Gives (λ x. (plain_origin x.0, x.1.now)) (reading.origin_at bytes.now) result }
+fn origin_at(alloc: Global, bytes: &mut &[u8]) -> Result<Origin, Stop>
+    ensures { Gives (λ origin. (plain_origin origin, bytes.new.now))
+        (reading.origin_at bytes.old.now) result }
 {
-    let (text, rest) = text_at(bytes)?;
-    let origin = origin_of(alloc, text)?;
-    Ok((origin, rest))
+    origin_of(alloc, text_at(bytes)?)
 }
 
 #[tactic(auto, unfolding(crate::specs::Reading::site_at))]
-pub fn site_at<'b>(
-    alloc: Global,
-    bytes: &'b [u8],
-    list: &SuffixList,
-) -> Result<(Site, &'b [u8]), Stop>
-    ensures { Gives (λ x. (plain_site x.0, x.1.now)) (reading.site_at list.now.rules bytes.now)
-        result }
+pub fn site_at(alloc: Global, bytes: &mut &[u8], list: &SuffixList) -> Result<Site, Stop>
+    ensures { Gives (λ site. (plain_site site, bytes.new.now))
+        (reading.site_at list.now.rules bytes.old.now) result }
 {
-    let (text, rest) = text_at(bytes)?;
-    let site = site_under(alloc, text, list)?;
-    Ok((site, rest))
+    site_under(alloc, text_at(bytes)?, list)
 }
 
 #[tactic(auto, unfolding(crate::specs::Reading::domain_at))]
-fn domain_at<'b>(
-    alloc: Global,
-    bytes: &'b [u8],
-    list: &SuffixList,
-) -> Result<(String, &'b [u8]), Stop>
-    ensures { Gives (λ x. (string_bytes x.0, x.1.now)) (reading.domain_at list.now.rules bytes.now)
-        result }
+fn domain_at(alloc: Global, bytes: &mut &[u8], list: &SuffixList) -> Result<String, Stop>
+    ensures { Gives (λ domain. (string_bytes domain, bytes.new.now))
+        (reading.domain_at list.now.rules bytes.old.now) result }
 {
-    let (domain, rest) = text_at(bytes)?;
+    let domain = text_at(bytes)?;
     if !is_host_of(alloc, domain, domain, list)? {
         return Err(Stop::NoField);
     }
-    Ok((String::from_str(alloc, domain)?, rest))
+    Ok(String::from_str(alloc, domain)?)
 }
 
 // The key of these parts, where its bit is that of its sites.
@@ -180,52 +169,30 @@ fn key_of(
 }
 
 #[tactic(auto, unfolding(crate::specs::Reading::key_at))]
-pub fn key_at<'b>(
-    alloc: Global,
-    bytes: &'b [u8],
-    list: &SuffixList,
-) -> Result<(StorageKey, &'b [u8]), Stop>
-    ensures { Gives (λ x. (plain_key x.0, x.1.now)) (reading.key_at list.now.rules bytes.now)
-        result }
+pub fn key_at(alloc: Global, bytes: &mut &[u8], list: &SuffixList) -> Result<StorageKey, Stop>
+    ensures { Gives (λ key. (plain_key key, bytes.new.now))
+        (reading.key_at list.now.rules bytes.old.now) result }
 {
-    let (origin, rest) = origin_at(alloc, bytes)?;
-    let (top, rest) = site_at(alloc, rest, list)?;
-    let (bit, rest) = bit_at(rest)?;
-    let key = key_of(alloc, origin, top, bit, list)?;
-    Ok((key, rest))
-}
-
-// The partition of a domain under a top-level site and a bit.
-fn partition_at<'b>(
-    alloc: Global,
-    bytes: &'b [u8],
-    list: &SuffixList,
-) -> Result<(CellKey, &'b [u8]), Stop>
-    ensures { Gives (λ x. (plain_cell x.0, x.1.now))
-        (reading.cell_behind list.now.rules 1 bytes.now) result }
-{
-    let (top, rest) = site_at(alloc, bytes, list)?;
-    let (bit, rest) = bit_at(rest)?;
-    let (domain, rest) = domain_at(alloc, rest, list)?;
-    Ok((CellKey::Partition { top, bit, domain }, rest))
+    let origin = origin_at(alloc, bytes)?;
+    let top = site_at(alloc, bytes, list)?;
+    let bit = bit_at(bytes)?;
+    key_of(alloc, origin, top, bit, list)
 }
 
 #[tactic(auto, unfolding(crate::specs::Reading::cell_at))]
-pub fn cell_at<'b>(
-    alloc: Global,
-    bytes: &'b [u8],
-    list: &SuffixList,
-) -> Result<(CellKey, &'b [u8]), Stop>
-    ensures { Gives (λ x. (plain_cell x.0, x.1.now)) (reading.cell_at list.now.rules bytes.now)
-        result }
+pub fn cell_at(alloc: Global, bytes: &mut &[u8], list: &SuffixList) -> Result<CellKey, Stop>
+    ensures { Gives (λ cell. (plain_cell cell, bytes.new.now))
+        (reading.cell_at list.now.rules bytes.old.now) result }
 {
-    let (kind, rest) = byte_at(bytes)?;
-    match kind {
-        0 => {
-            let (domain, rest) = domain_at(alloc, rest, list)?;
-            Ok((CellKey::Own { domain }, rest))
-        }
-        1 => partition_at(alloc, rest, list),
+    match byte_at(bytes)? {
+        0 => Ok(CellKey::Own {
+            domain: domain_at(alloc, bytes, list)?,
+        }),
+        1 => Ok(CellKey::Partition {
+            top: site_at(alloc, bytes, list)?,
+            bit: bit_at(bytes)?,
+            domain: domain_at(alloc, bytes, list)?,
+        }),
         _ => Err(Stop::NoField),
     }
 }

@@ -1,13 +1,16 @@
 //! Reading row changes.
-ghost use Rattle.std.specs.Prelude.{◌≡◌, IfOk, option_map};
+ghost use Rattle.std.specs.Prelude.{◌≡◌, IfOk, if◌then◌else◌, option_map, string_bytes};
 ghost use Rattle.access_grants.specs.Plain.{plain_grant};
+ghost use Rattle.cookie_jar.specs.Key.{plain_key as plain_cell};
+ghost use Rattle.cookie_jar.specs.Views.{plain_cookie};
+ghost use Rattle.row_changes.specs.Change.{CookieInsert, CookieReplace};
 ghost use Rattle.row_changes.specs.Fields as fields;
 ghost use Rattle.row_changes.specs.Plain.{plain_change};
 ghost use Rattle.row_changes.specs.Reading as spec;
 ghost use Rattle.row_changes.specs.Stops.{Gives};
 
 use crate::Change;
-use crate::cookies::placed_at;
+use crate::cookies::{Placed, placed_at};
 use crate::fields::{byte_at, signed_at, text_at};
 use crate::names::{cell_at, key_at, site_at};
 use crate::stop::Stop;
@@ -16,184 +19,118 @@ use agent_base::NoMemory;
 use std::alloc::Global;
 use suffix_list::SuffixList;
 
-fn answer_at(bytes: &[u8]) -> Result<(bool, &[u8]), Stop>
-    ensures { Gives (λ x. (x.0, x.1.now)) (fields.made spec.answer_of fields.byte_at bytes.now)
-        result }
+fn answer_at(bytes: &mut &[u8]) -> Result<bool, Stop>
+    ensures { Gives (λ granted. (granted, bytes.new.now))
+        (fields.made spec.answer_of fields.byte_at bytes.old.now) result }
 {
-    let (byte, rest) = byte_at(bytes)?;
-    match byte {
-        1 => Ok((true, rest)),
-        2 => Ok((false, rest)),
+    match byte_at(bytes)? {
+        1 => Ok(true),
+        2 => Ok(false),
         _ => Err(Stop::NoField),
     }
 }
 
 #[tactic(auto, unfolding(crate::specs::Reading::grant_at))]
-fn grant_at<'b>(
-    alloc: Global,
-    bytes: &'b [u8],
-    list: &SuffixList,
-) -> Result<(GrantRow, &'b [u8]), Stop>
-    ensures { Gives (λ x. (plain_grant x.0, x.1.now)) (spec.grant_at list.now.rules bytes.now)
-        result }
+fn grant_at(alloc: Global, bytes: &mut &[u8], list: &SuffixList) -> Result<GrantRow, Stop>
+    ensures { Gives (λ row. (plain_grant row, bytes.new.now))
+        (spec.grant_at list.now.rules bytes.old.now) result }
 {
-    let (top, rest) = site_at(alloc, bytes, list)?;
-    let (site, rest) = site_at(alloc, rest, list)?;
-    let (granted, rest) = answer_at(rest)?;
-    let (until, rest) = signed_at(rest)?;
+    let top = site_at(alloc, bytes, list)?;
+    let site = site_at(alloc, bytes, list)?;
+    let granted = answer_at(bytes)?;
+    let until = signed_at(bytes)?;
     if !top.https || !site.https {
         return Err(Stop::NoField);
     }
-    let row = GrantRow {
+    Ok(GrantRow {
         top,
         site,
         granted,
         until,
-    };
-    Ok((row, rest))
+    })
 }
 
-// A put, behind its code.
-fn put_at<'b>(alloc: Global, bytes: &'b [u8], list: &SuffixList) -> Result<(Change, &'b [u8]), Stop>
-    ensures { Gives (λ x. (plain_change x.0, x.1.now))
-        (spec.change_behind list.now.rules 1 bytes.now) result }
+// A text over memory of its own.
+fn own_text_at(alloc: Global, bytes: &mut &[u8]) -> Result<String, Stop>
+    ensures { Gives (λ text. (string_bytes text, bytes.new.now)) (fields.text_at bytes.old.now)
+        result }
 {
-    let (key, rest) = key_at(alloc, bytes, list)?;
-    let (name, rest) = text_at(rest)?;
-    let (value, rest) = text_at(rest)?;
-    let change = Change::AreaPut {
-        key,
-        name: String::from_str(alloc, name)?,
-        value: String::from_str(alloc, value)?,
-    };
-    Ok((change, rest))
+    Ok(String::from_str(alloc, text_at(bytes)?)?)
 }
 
-// A removal, behind its code.
-fn remove_at<'b>(
+// The change by which a cookie stands at its place: instead of the one there, or before it.
+fn cookie_change(placed: Placed, replaces: bool) -> Change
+    ensures { let cell = plain_cell placed.cell in
+        let cookie = plain_cookie placed.cookie in
+        plain_change result ≡ (if replaces then CookieReplace cell placed.place cookie
+        else CookieInsert cell placed.place cookie) }
+{
+    let Placed {
+        cell,
+        place,
+        cookie,
+    } = placed;
+    if replaces {
+        Change::CookieReplace {
+            cell,
+            place,
+            cookie,
+        }
+    } else {
+        Change::CookieInsert {
+            cell,
+            place,
+            cookie,
+        }
+    }
+}
+
+// The row change behind a code.
+fn change_behind(
     alloc: Global,
-    bytes: &'b [u8],
+    code: u8,
+    bytes: &mut &[u8],
     list: &SuffixList,
-) -> Result<(Change, &'b [u8]), Stop>
-    ensures { Gives (λ x. (plain_change x.0, x.1.now))
-        (spec.change_behind list.now.rules 2 bytes.now) result }
+) -> Result<Change, Stop>
+    ensures { Gives (λ change. (plain_change change, bytes.new.now))
+        (spec.change_behind list.now.rules code bytes.old.now) result }
 {
-    let (key, rest) = key_at(alloc, bytes, list)?;
-    let (name, rest) = text_at(rest)?;
-    let name = String::from_str(alloc, name)?;
-    Ok((Change::AreaRemove { key, name }, rest))
-}
-
-// A clear, behind its code.
-fn clear_at<'b>(
-    alloc: Global,
-    bytes: &'b [u8],
-    list: &SuffixList,
-) -> Result<(Change, &'b [u8]), Stop>
-    ensures { Gives (λ x. (plain_change x.0, x.1.now))
-        (spec.change_behind list.now.rules 3 bytes.now) result }
-{
-    let (key, rest) = key_at(alloc, bytes, list)?;
-    Ok((Change::AreaClear { key }, rest))
-}
-
-// A mode, behind its code.
-fn mode_at<'b>(
-    alloc: Global,
-    bytes: &'b [u8],
-    list: &SuffixList,
-) -> Result<(Change, &'b [u8]), Stop>
-    ensures { Gives (λ x. (plain_change x.0, x.1.now))
-        (spec.change_behind list.now.rules 4 bytes.now) result }
-{
-    let (key, rest) = key_at(alloc, bytes, list)?;
-    Ok((Change::SetMode { key }, rest))
-}
-
-// An insertion, behind its code.
-fn insert_at<'b>(
-    alloc: Global,
-    bytes: &'b [u8],
-    list: &SuffixList,
-) -> Result<(Change, &'b [u8]), Stop>
-    ensures { Gives (λ x. (plain_change x.0, x.1.now))
-        (spec.change_behind list.now.rules 5 bytes.now) result }
-{
-    let (placed, rest) = placed_at(alloc, bytes, list)?;
-    let change = Change::CookieInsert {
-        cell: placed.cell,
-        place: placed.place,
-        cookie: placed.cookie,
-    };
-    Ok((change, rest))
-}
-
-// A replacement, behind its code.
-fn replace_at<'b>(
-    alloc: Global,
-    bytes: &'b [u8],
-    list: &SuffixList,
-) -> Result<(Change, &'b [u8]), Stop>
-    ensures { Gives (λ x. (plain_change x.0, x.1.now))
-        (spec.change_behind list.now.rules 6 bytes.now) result }
-{
-    let (placed, rest) = placed_at(alloc, bytes, list)?;
-    let change = Change::CookieReplace {
-        cell: placed.cell,
-        place: placed.place,
-        cookie: placed.cookie,
-    };
-    Ok((change, rest))
-}
-
-// A removal of a cookie, behind its code.
-fn cookie_remove_at<'b>(
-    alloc: Global,
-    bytes: &'b [u8],
-    list: &SuffixList,
-) -> Result<(Change, &'b [u8]), Stop>
-    ensures { Gives (λ x. (plain_change x.0, x.1.now))
-        (spec.change_behind list.now.rules 7 bytes.now) result }
-{
-    let (cell, rest) = cell_at(alloc, bytes, list)?;
-    let (place, rest) = byte_at(rest)?;
-    Ok((Change::CookieRemove { cell, place }, rest))
-}
-
-// A permission, behind its code.
-fn permission_at<'b>(
-    alloc: Global,
-    bytes: &'b [u8],
-    list: &SuffixList,
-) -> Result<(Change, &'b [u8]), Stop>
-    ensures { Gives (λ x. (plain_change x.0, x.1.now))
-        (spec.change_behind list.now.rules 8 bytes.now) result }
-{
-    let (row, rest) = grant_at(alloc, bytes, list)?;
-    Ok((Change::Grant { row }, rest))
+    match code {
+        1 => Ok(Change::AreaPut {
+            key: key_at(alloc, bytes, list)?,
+            name: own_text_at(alloc, bytes)?,
+            value: own_text_at(alloc, bytes)?,
+        }),
+        2 => Ok(Change::AreaRemove {
+            key: key_at(alloc, bytes, list)?,
+            name: own_text_at(alloc, bytes)?,
+        }),
+        3 => Ok(Change::AreaClear {
+            key: key_at(alloc, bytes, list)?,
+        }),
+        4 => Ok(Change::SetMode {
+            key: key_at(alloc, bytes, list)?,
+        }),
+        5 => Ok(cookie_change(placed_at(alloc, bytes, list)?, false)),
+        6 => Ok(cookie_change(placed_at(alloc, bytes, list)?, true)),
+        7 => Ok(Change::CookieRemove {
+            cell: cell_at(alloc, bytes, list)?,
+            place: byte_at(bytes)?,
+        }),
+        8 => Ok(Change::Grant {
+            row: grant_at(alloc, bytes, list)?,
+        }),
+        _ => Err(Stop::NoField),
+    }
 }
 
 #[tactic(auto, unfolding(crate::specs::Reading::change_at))]
-fn change_at<'b>(
-    alloc: Global,
-    bytes: &'b [u8],
-    list: &SuffixList,
-) -> Result<(Change, &'b [u8]), Stop>
-    ensures { Gives (λ x. (plain_change x.0, x.1.now)) (spec.change_at list.now.rules bytes.now)
-        result }
+fn change_at(alloc: Global, bytes: &mut &[u8], list: &SuffixList) -> Result<Change, Stop>
+    ensures { Gives (λ change. (plain_change change, bytes.new.now))
+        (spec.change_at list.now.rules bytes.old.now) result }
 {
-    let (code, rest) = byte_at(bytes)?;
-    match code {
-        1 => put_at(alloc, rest, list),
-        2 => remove_at(alloc, rest, list),
-        3 => clear_at(alloc, rest, list),
-        4 => mode_at(alloc, rest, list),
-        5 => insert_at(alloc, rest, list),
-        6 => replace_at(alloc, rest, list),
-        7 => cookie_remove_at(alloc, rest, list),
-        8 => permission_at(alloc, rest, list),
-        _ => Err(Stop::NoField),
-    }
+    let code = byte_at(bytes)?;
+    change_behind(alloc, code, bytes, list)
 }
 
 /// Reads the row change at the front of bytes, and answers it with the bytes behind it. None is no
@@ -208,8 +145,9 @@ pub fn read_change<'b>(
     ensures change { IfOk result (λ found. option_map (λ f. (plain_change f.0, f.1.now)) found
         ≡ spec.change_at list.now.rules bytes.now) }
 {
-    match change_at(alloc, bytes, list) {
-        Ok(found) => Ok(Some(found)),
+    let mut rest = bytes;
+    match change_at(alloc, &mut rest, list) {
+        Ok(change) => Ok(Some((change, rest))),
         Err(Stop::NoField) => Ok(None),
         Err(Stop::NoMemory) => Err(NoMemory),
     }

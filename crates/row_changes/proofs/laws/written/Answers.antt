@@ -1,4 +1,5 @@
 use Rattle.row_changes.proofs.ChangeLaws.{change_again, change_takes}
+use Rattle.row_changes.proofs.PieceLaws.{body_again, snapshot_again}
 use Rattle.row_changes.proofs.laws.written.Goals as goal
 
 pub returns-clause-reads_back : goal.returns-clause-reads_back
@@ -6,3 +7,9 @@ returns-clause-reads_back c = change_again
 
 pub returns-clause-one_spelling : goal.returns-clause-one_spelling
 returns-clause-one_spelling c = λ rules bytes change rest fits e. let t = change_takes rules bytes change rest fits e in (t.is, t.parts)
+
+pub returns-clause-bodies : goal.returns-clause-bodies
+returns-clause-bodies c = body_again
+
+pub returns-clause-snapshots : goal.returns-clause-snapshots
+returns-clause-snapshots c = snapshot_again

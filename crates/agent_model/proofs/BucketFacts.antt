@@ -1,11 +1,13 @@
 -- Buckets, worked out by hand from the rules.
-use Rattle.std.proofs.Common.{◌≡◌, Bool, true, false, cond, not, refl, ap, ◌∙◌, [], Option, Some, None}
-use Rattle.std.specs.Prelude.{◌+◌, ◌-◌, ◌^◌, ◌&&◌, min, codes, is_some}
+use Rattle.std.proofs.Common.{◌≡◌, Bool, true, false, cond, not, refl, ap, sym, ◌∙◌, [], ◌∷◌, Option, Some, None}
+use Rattle.std.proofs.lemmas.List.{nil_from_length}
+use Rattle.std.specs.Prelude.{◌+◌, ◌-◌, ◌^◌, ◌&&◌, min, codes, is_some, map}
 use Rattle.std.specs.Ordering.{eq_by_cmp}
 use Rattle.std.specs.FinMap as finite
-use Rattle.std.specs.FinMap.{get-empty, get-insert, len-empty, len-insert}
+use Rattle.std.specs.FinMap.{entries-insert, get-empty, get-insert, len-empty, len-entries, len-insert, put}
 use Rattle.unwinding.specs.FiniteCells.{Full, get_cell, set_cell}
 use Rattle.origin_site.specs.Address.{PlainAddress}
+use Rattle.origin_site.specs.Origin.{origin_of_address}
 use Rattle.origin_site.specs.Site.{same_plain_site}
 use Rattle.storage_key.specs.Key.{PlainKey, key_order}
 use Rattle.storage_key.proofs.OrderLemmas.{key_order_total, key_order_same}
@@ -16,10 +18,12 @@ use Rattle.live_state.specs.Tabs.{made_tab}
 use Rattle.script_lines.specs.declared.words.Prompt.TheVariants.{Grant, Deny, Dismiss}
 use Rattle.reply_lines.specs.Reply.{Plain, Truth, Cleared}
 use Rattle.agent_model.specs.Partition.{Areas, Holdings, no_holdings, area_of}
-use Rattle.agent_model.specs.Done.{SharedCells, no_shared_cells, answers}
+use Rattle.row_changes.specs.Change.{AreaClear, SetMode}
+use Rattle.agent_model.specs.Done.{SharedCells, no_shared_cells, answers, changes_to}
+use Rattle.agent_model.specs.Changes.{clears}
 use Rattle.agent_model.specs.Buckets.{is_persistent, made_persistent, persist_by, persist, is_evicted, areas_taken, evict}
 use Rattle.agent_model.proofs.KeptLemmas as kept
-use Rattle.agent_model.proofs.StandardFacts.{site, a, b, widget_key}
+use Rattle.agent_model.proofs.StandardFacts.{address, site, a, b, widget, widget_key}
 use Rattle.agent_model.proofs.StorageFacts.{shows_a, key_a, writer, pairs}
 
 -- ---- persist
@@ -31,12 +35,12 @@ plain_http = record { text = codes "http://a.test/"; https = false; ip = false; 
 insecure : (cells : SharedCells) (held : Holdings) → persist (made_tab 1 (opened [] plain_http) None None) Grant writer cells held ≡ answers (Plain (codes "insecure")) cells held
 insecure cells held = refl
 
--- a grant makes a bucket persistent, and without one it stays as it is
+-- a grant makes a bucket persistent, which is a row change; without one it stays as it is
 best_effort : is_persistent key_a no_holdings ≡ false
 unfolding no_holdings
 best_effort = ap is_some (get-empty key_order key_a)
 
-granted : persist (shows_a 1) Grant writer no_shared_cells no_holdings ≡ answers (Truth true) no_shared_cells (made_persistent key_a no_holdings)
+granted : persist (shows_a 1) Grant writer no_shared_cells no_holdings ≡ changes_to (SetMode key_a ∷ []) (Truth true) no_shared_cells (made_persistent key_a no_holdings)
 granted = ap (λ before. persist_by before true writer no_shared_cells no_holdings) best_effort
 
 denied : persist (shows_a 1) Deny writer no_shared_cells no_holdings ≡ answers (Truth false) no_shared_cells no_holdings
@@ -118,3 +122,46 @@ counted =
   where
     nothing : Areas
     nothing = finite.empty
+
+-- ---- the row changes of an eviction
+
+-- the widget's key under `https://a.test`, with port 80: it stands before that of port 443 as a key,
+-- and behind it as a text
+abbrev key_80 : PlainKey
+key_80 = record (widget_key a true) { origin = record (origin_of_address (address widget)) { port = 80 } }
+
+abbrev two_full : Holdings
+two_full = record no_holdings { areas = set_cell key_order (widget_key a true) pairs (set_cell key_order key_80 pairs no_holdings.areas) }
+
+two_taken : areas_taken (site a) two_full ≡ finite.insert (finite.insert finite.empty key_80 full) (widget_key a true) full
+unfolding set_cell no_holdings
+two_taken =
+    kept.change_seen key_order key_order_total key_order_same _ taken taken (widget_key a true) (Some full) (best (widget_key a true)) (λ q apart. refl)
+    ∙ ap (λ m. finite.insert m (widget_key a true) full)
+    (kept.change_seen key_order key_order_total key_order_same _ taken taken key_80 (Some full) (best key_80) (λ q apart. refl)
+    ∙ ap (λ m. finite.insert m key_80 full) (kept.kept_nothing key_order key_order_total key_order_same taken))
+  where
+    taken : PlainKey → Bool
+    taken = is_evicted (site a) two_full
+
+    -- each bucket is best-effort
+    best : (key : PlainKey) → (same_plain_site (site a) key.top && not (is_persistent key two_full)) ≡ same_plain_site (site a) key.top
+    best key = at (same_plain_site (site a) key.top) (is_persistent key two_full) (ap is_some (get-empty key_order key))
+      where
+        at : (under is : Bool) → is ≡ false → (under && not is) ≡ under
+        at true is none = ap not none
+        at false is none = refl
+
+-- each area is cleared, in the order of the texts
+cleared : (evict (site a) no_shared_cells two_full).changes ≡ AreaClear (widget_key a true) ∷ AreaClear key_80 ∷ []
+cleared =
+    ap (λ m. clears (finite.keys m)) two_taken
+    ∙ ap (λ entries. clears (map (λ e. e.0) entries))
+    (entries-insert key_order_total (finite.insert nothing key_80 full) (widget_key a true) full
+    ∙ ap (put key_order (widget_key a true) full) (entries-insert key_order_total nothing key_80 full ∙ ap (put key_order key_80 full) none))
+  where
+    nothing : Areas
+    nothing = finite.empty
+
+    none : finite.entries nothing ≡ []
+    none = nil_from_length (finite.entries nothing) (sym (len-entries nothing) ∙ len-empty key_order (Full Pair))

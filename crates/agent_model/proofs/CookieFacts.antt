@@ -1,8 +1,11 @@
 -- Uses of cookies, worked out by hand: what each consults, and what it answers.
 use Rattle.std.proofs.Common.{◌≡◌, ℕ, true, false, List, [], ◌∷◌, Option, Some, None, pos, refl}
 use Rattle.std.specs.Prelude.{codes}
+use Rattle.setcookie_parse.specs.declared.cookie.SameSite.TheVariants as when
 use Rattle.stored_cookie.specs.StoredCookie.{PlainCookie}
+use Rattle.cookie_jar.specs.Key.{OwnCell, PartitionCell}
 use Rattle.cookie_jar.specs.Sending.{joined}
+use Rattle.row_changes.specs.Change.{PlainChange, CookieInsert, CookieReplace, CookieRemove}
 use Rattle.reply_lines.specs.Reply.{PlainBody, Load}
 use Rattle.script_lines.specs.declared.words.Method.TheVariants as method
 use Rattle.agent_model.specs.CookieUse.{CookieUse, consulted_by, key_of}
@@ -89,7 +92,7 @@ third_text = refl
 abbrev third_party : CookieUse
 third_party = fetch_use [] (site a) 1 (shown a None) (address widget) method.Get
 
-unpartitioned : store_text [] 7 third_party (own []) (codes "p=1; Secure; SameSite=None") ≡ record { both = own []; word = codes "third-party" }
+unpartitioned : store_text [] 7 third_party (own []) (codes "p=1; Secure; SameSite=None") ≡ record { both = own []; changes = []; word = codes "third-party" }
 unpartitioned = refl
 
 partitioned : (store_text [] 7 third_party (own []) (codes "p=1; Secure; SameSite=None; Partitioned")).word ≡ codes "added"
@@ -98,8 +101,46 @@ partitioned = refl
 lax : (store_text [] 7 third_party (own []) (codes "p=1; Secure; Partitioned")).word ≡ codes "same-site"
 lax = refl
 
--- a text that is no cookie
-control : store_text [] 7 third_party (own []) (1 ∷ []) ≡ record { both = own []; word = codes "control" }
+-- ---- row changes
+
+-- the cookie with an expiry, and as it outlives a restart
+abbrev lasting : List ℕ → PlainCookie
+lasting name = record (cookie name) { expiry = Some (pos 67) }
+
+abbrev row : List ℕ → PlainCookie
+row name = record (lasting name) { last = pos 0 }
+
+abbrev by_load : BothCells → List ℕ → List PlainChange
+by_load both text = (store_text [] 7 (top_use (site a) (address a) method.Get true) both text).changes
+
+-- a cookie with a Max-Age is one, at its place among those of its cell that have an expiry
+inserted : by_load (own (cookie (codes "s") ∷ lasting (codes "p") ∷ cookie (codes "q") ∷ [])) (codes "t=1; Max-Age=60") ≡ CookieInsert (OwnCell a) 1 (row (codes "t")) ∷ []
+inserted = refl
+
+replaced : by_load (own (cookie (codes "s") ∷ lasting (codes "t") ∷ [])) (codes "t=1; Max-Age=60") ≡ CookieReplace (OwnCell a) 0 (row (codes "t")) ∷ []
+replaced = refl
+
+-- one without an expiry is none, but in the place of one that has it
+session_cookie : by_load (own (lasting (codes "p") ∷ [])) (codes "t=1") ≡ []
+session_cookie = refl
+
+instead : by_load (own (lasting (codes "p") ∷ cookie (codes "s") ∷ lasting (codes "t") ∷ [])) (codes "t=1") ≡ CookieRemove (OwnCell a) 1 ∷ []
+instead = refl
+
+-- a partitioned one is of the partitioned cell
+partitioned_row : (store_text [] 7 third_party (own []) (codes "p=1; Secure; SameSite=None; Partitioned; Max-Age=60")).changes
+    ≡ CookieInsert (PartitionCell (site a) true widget) 0 (record (row (codes "p")) { domain = widget; secure = true; same_site = when.NoneSent }) ∷ []
+partitioned_row = refl
+
+-- the texts of a response have theirs in one list
+both_rows : (store_texts [] 7 (top_use (site a) (address a) method.Get true) (own []) (codes "s=1; Max-Age=60" ∷ codes "t=1; Max-Age=60" ∷ [])).changes
+    ≡ CookieInsert (OwnCell a) 0 (row (codes "s")) ∷ CookieInsert (OwnCell a) 1 (row (codes "t")) ∷ []
+both_rows = refl
+
+-- ---- what is no cookie
+
+-- a text that is none
+control : store_text [] 7 third_party (own []) (1 ∷ []) ≡ record { both = own []; changes = []; word = codes "control" }
 control = refl
 
 -- other fields of a response are passed over

@@ -84,7 +84,7 @@ module _ (rules : List Rule) (now : ℕ) where
       record {
         held = (request_from (found_seen rules how cells i)).held;
         cells = (left_seen rules how cells (request_own (own_found rules how cells)) ∙ ap (λ own. merge_cells domain_order (among (consulted_by rules how)) (own_left rules how (request_own own) (seen rules how cells)) cells) (found_seen rules how cells)) i;
-        changes = [];
+        changes = (request_from (found_seen rules how cells i)).changes;
         body = (request_from (found_seen rules how cells i)).body;
       }
     where
@@ -98,14 +98,14 @@ module _ (rules : List Rule) (now : ℕ) where
       request_own own = (stored own).both.own
 
       request_from : Cookies → Done
-      request_from own = leaves rules how (stored own).both (Load (header_text (sent now how (both own))) (stored own).words) cells held
+      request_from own = leaves rules how (stored own).both (stored own).changes (Load (header_text (sent now how (both own))) (stored own).words) cells held
 
   pub set_local : (site : PlainSite) (text : List ℕ) (writer : Keyed) → IsLocal (consulted_by rules (script_use site writer)) (set_cookie rules now site text writer)
   set_local site text writer cells held = λ i.
       record {
         held = (set_from (found_seen rules how cells i)).held;
         cells = (left_seen rules how cells (set_own (own_found rules how cells)) ∙ ap (λ own. merge_cells domain_order (among (consulted_by rules how)) (own_left rules how (set_own own) (seen rules how cells)) cells) (found_seen rules how cells)) i;
-        changes = [];
+        changes = (set_from (found_seen rules how cells i)).changes;
         body = (set_from (found_seen rules how cells i)).body;
       }
     where
@@ -122,7 +122,7 @@ module _ (rules : List Rule) (now : ℕ) where
       set_own own = (stored own).both.own
 
       set_from : Cookies → Done
-      set_from own = leaves rules how (stored own).both (SetOne (stored own).word) cells held
+      set_from own = leaves rules how (stored own).both (stored own).changes (SetOne (stored own).word) cells held
 
   -- a script's reading leaves all cells
   pub read_local : (site : PlainSite) (reader : Keyed) → IsLocal (consulted_by rules (script_use site reader)) (read_cookies rules now site reader)

@@ -1,50 +1,54 @@
 -- Which entries of local scripts hold the cookies of a domain by granted storage access, worked out by
--- hand: a widget of `w.test`, in a tab at `https://a.test`, is clicked and asks for access, and the
--- user grants it. It requests its own domain, and the response stores a cookie there. Then a tab at
--- `https://w.test` loads that site again.
-use Rattle.std.proofs.Common.{◌≡◌, ℕ, Bool, true, false, cond, pos, ◌||◌, List, [], ◌∷◌, ◌++◌, Option, Some, None, refl, ap, ◌∙◌}
+-- hand in a whole run. A load of `https://w.test` in tab 9 stores a cookie. Tab 1 is at
+-- `https://a.test`, where a widget of `w.test` is clicked and asks for access, and the user grants it.
+-- It requests a page of its own, and the response stores another value. Then tab 9 loads
+-- `https://w.test` again.
+use Rattle.std.proofs.Common.{◌≡◌, true, false, cond, pos, List, [], ◌∷◌, ◌++◌, ℕ, Some, None, refl, ap, ◌∙◌}
 use Rattle.std.specs.Cmp.{nat_cmp_total}
-use Rattle.std.specs.FinMap.{get-insert}
-use Rattle.std.specs.FinMap as finite
-use Rattle.std.specs.Prelude.{bytes_eq, codes, filter, map, option_map}
-use Rattle.unwinding.specs.FiniteCells.{get_cell, merge_cells, restrict_cells, set_cell}
-use Rattle.unwinding.specs.World.{after_main, after_sides, is_in, world_step}
-use Rattle.unwinding.specs.LocalEntries.{HeldCell, changed_cells, line_entries, line_touched, local_entries, main_touched}
-use Rattle.origin_site.specs.Site.{PlainSite, same_plain_site}
-use Rattle.storage_key.specs.Context.{is_of}
-use Rattle.frame_tree.specs.Calls.{activated, flagged, with_document}
+use Rattle.std.specs.Ordering.{nat_cmp}
+use Rattle.std.specs.FinMap.{get-empty, get-insert}
+use Rattle.std.specs.Prelude.{codes, map}
+use Rattle.unwinding.specs.FiniteCells.{get_cell, restrict_cells, set_cell}
+use Rattle.unwinding.specs.World.{world_step}
+use Rattle.unwinding.specs.LocalEntries.{changed_cells, line_entries, line_touched, local_entries}
+use Rattle.unwinding.proofs.FiniteCellsLemmas as cells
+use Rattle.origin_site.specs.Address.{PlainAddress}
+use Rattle.origin_site.specs.Site.{PlainSite}
+use Rattle.access_grants.specs.Grant.{PlainGrant}
+use Rattle.frame_tree.specs.Calls.{activated, flagged, opened, with_document}
 use Rattle.live_state.specs.Tabs.{PlainTab, made_tab}
 use Rattle.setcookie_parse.specs.declared.cookie.SameSite.TheVariants as when
 use Rattle.stored_cookie.specs.StoredCookie.{PlainCookie}
+use Rattle.row_changes.specs.Change.{Grant}
 use Rattle.reply_lines.specs.Reply.{Plain}
 use Rattle.script_lines.specs.declared.words.Method.TheVariants as method
-use Rattle.script_lines.specs.Script.{DocumentAction, Fetch, Request, HeadField, PlainAction, Act, Go}
+use Rattle.script_lines.specs.Script.{DocumentAction, Click, Fetch, Frame, Request, HeadField, PlainAction, Go}
 use Rattle.script_lines.specs.declared.words.Prompt.TheVariants as prompt
 use Rattle.agent_model.specs.CookieCells.{Domain, Cookies, domain_order, equal_cookies}
 use Rattle.agent_model.specs.PartitionedCells.{PartitionedKey, partitioned_order}
-use Rattle.agent_model.specs.Partition.{Holdings, empty_partition, no_holdings, tab_named, with_tab}
+use Rattle.agent_model.specs.Partition.{Holdings, Partition, empty_partition, no_holdings, tab_named, with_tab}
 use Rattle.agent_model.specs.Done.{SharedCells, no_shared_cells}
-use Rattle.agent_model.specs.SiteEvent.{SiteEvent, Acts, Arrives, Goes, SiteOutcome}
+use Rattle.agent_model.specs.SiteEvent.{SiteEvent, Arrives, Goes}
 use Rattle.agent_model.specs.CookieUse.{CookieUse}
-use Rattle.agent_model.specs.CookieUses.{fetch_use}
+use Rattle.agent_model.specs.CookieUses.{fetch_use, frame_use}
 use Rattle.agent_model.specs.CookieStore.{BothCells, both_marked, cookie_texts, header_text, sent, store_texts}
-use Rattle.agent_model.specs.SiteStep.{act, act_in, site_step}
-use Rattle.agent_model.specs.Consults.{names_at}
-use Rattle.agent_model.specs.Lines.{AgentWorld, Places, main_event, no_places, occurs, placed, site_at}
+use Rattle.agent_model.specs.Sessions.{arrive}
+use Rattle.agent_model.specs.SiteStep.{act_in, site_step}
+use Rattle.agent_model.specs.Lines.{AgentWorld, no_places, placed, site_at}
 use Rattle.agent_model.specs.SideEvents.{side_event}
-use Rattle.agent_model.specs.Rest.{rest_after}
-use Rattle.agent_model.specs.TheMachine.{machine}
-use Rattle.agent_model.specs.Given.{SiteEntry, entry_given, events_given, given, given_going, is_unknown}
-use Rattle.agent_model.proofs.CookieCellsLemmas.{get_merge, get_restrict, get_set}
-use Rattle.agent_model.proofs.CookieRunFacts.{nothing_partitioned}
+use Rattle.agent_model.specs.TheMachine.{beginning, machine}
+use Rattle.agent_model.specs.Isolation.{local_script}
+use Rattle.agent_model.specs.Given.{SiteEntry, entry_given, events_given, given_going}
+use Rattle.agent_model.proofs.CookieCellsLemmas.{get_merge, get_none, get_restrict, get_set}
+use Rattle.agent_model.proofs.PartitionedLemmas.{partitioned_order_total, partitioned_order_same}
 use Rattle.agent_model.proofs.GivenLemmas.{gives}
-use Rattle.agent_model.proofs.StandardFacts.{address, at_frame, at_seven, shown, site, stores, widget, a}
+use Rattle.agent_model.proofs.OpenedLemmas.{after_open, comes, cookies_after, left_in, nothing_partitioned, open_gives, open_stepped, open_touches, opens}
+use Rattle.agent_model.proofs.WidgetLemmas.{acts, asks, cells_by, done_by, entry, gives_a, gives_w, line, names_by, nine_is_at_w, places, stepped, touched_a, touched_w, world}
+use Rattle.agent_model.proofs.StandardFacts.{address, at_frame, shown, site, stores, widget, a}
 
--- ---- the world
-
--- the cookie `n` of `w.test` with this value, last used at this second
-abbrev cookie : List ℕ → ℕ → PlainCookie
-cookie value last =
+-- the cookie `n` of `w.test` with this value
+abbrev cookie : List ℕ → PlainCookie
+cookie value =
     record {
       name = codes "n";
       value = value;
@@ -54,145 +58,206 @@ cookie value last =
       secure = true;
       http_only = false;
       same_site = when.NoneSent;
-      creation = pos 5;
+      creation = pos 7;
       expiry = None;
-      last = pos last;
+      last = pos 7;
     }
 
--- the tab at `https://a.test`, whose frame 1 was just clicked, and the tab after a grant
-abbrev pub clicked_tab : PlainTab
-clicked_tab = made_tab 1 (activated 1 (pos 7) (shown a None)) None None
+-- ---- the loads of both tabs
 
-abbrev pub given_tab : PlainTab
-given_tab = made_tab 1 (with_document 1 flagged (activated 1 (pos 7) (shown a None))) None (Some clicked_tab)
+-- tab 9 is opened at `https://w.test`, and the response stores the cookie
+abbrev first : List HeadField
+first = stores (codes "n=1; SameSite=None; Secure")
+
+abbrev pub opens_w : PlainAction
+opens_w = opens 9 (address widget) first
+
+-- tab 1 is opened at `https://a.test`
+abbrev pub opens_a : PlainAction
+opens_a = opens 1 (address a) []
+
+abbrev pub w0 : AgentWorld
+w0 = beginning 7
+
+abbrev w1 : AgentWorld
+w1 = after_open w0 9 (address widget) first
+
+abbrev pub w2 : AgentWorld
+w2 = after_open w1 1 (address a) []
+
+nine_is_free : site_at 9 no_places ≡ None
+unfolding no_places
+nine_is_free = get-empty nat_cmp 9
+
+one_is_free : site_at 1 (placed 9 (site widget) no_places) ≡ None
+unfolding no_places
+one_is_free = get-insert nat_cmp_total no_places 9 (site widget) 1 ∙ get-empty nat_cmp 1
+
+-- what other sites have from then on, and `https://a.test`
+abbrev pub others : PlainSite → Partition
+others = w1.partition
+
+abbrev pub held_opened : Holdings
+held_opened = (arrive [] 7 (site a) 1 (address a) method.Get true [] no_shared_cells no_holdings).held
+
+is_world : w2 ≡ world others w2.cells held_opened
+unfolding beginning machine empty_partition site_step
+is_world = refl
+
+pub after_opens : world_step (machine []) (world_step (machine []) w0 opens_w) opens_a ≡ world others w2.cells held_opened
+unfolding beginning
+after_opens =
+    ap (λ w. world_step (machine []) w opens_a) (open_stepped w0 9 (address widget) first nine_is_free)
+    ∙ open_stepped w1 1 (address a) [] one_is_free ∙ is_world
+
+-- the cookies of `w.test`, and those of `a.test`
+own_w : get_cell domain_order w1.cells widget ≡ cookie (codes "1") ∷ []
+unfolding beginning machine empty_partition site_step
+own_w =
+    left_in (site widget) 9 (address widget) first (record { top = site widget; bit = false; domain = widget }) widget w0.cells refl refl
+    ∙ ap (λ own. cookies_after (site widget) (address widget) first own []) (get_none widget)
+
+own_second : get_cell domain_order w2.cells widget ≡ cookie (codes "1") ∷ []
+unfolding beginning machine empty_partition site_step
+own_second = get_merge _ _ w1.cells widget ∙ own_w
+
+none_first : get_cell domain_order w1.cells a ≡ []
+unfolding beginning machine empty_partition site_step
+none_first = get_merge _ _ w0.cells a ∙ get_none a
+
+none_second : get_cell domain_order w2.cells a ≡ []
+unfolding beginning machine empty_partition site_step
+none_second =
+    left_in (site a) 1 (address a) [] (record { top = site a; bit = false; domain = a }) a w1.cells refl refl
+    ∙ ap (λ own. cookies_after (site a) (address a) [] own []) none_first
+
+-- what each load gives either site, and what it leaves different for it
+first_gives_w : line_entries (machine []) (site widget) [] w0 opens_w ≡ entry (comes 9 (address widget) first) [] ∷ []
+unfolding beginning empty_partition
+first_gives_w = open_gives w0 9 (address widget) first nine_is_free (site widget) []
+
+first_gives_a : line_entries (machine []) (site a) [] w0 opens_w ≡ []
+unfolding beginning empty_partition
+first_gives_a = open_gives w0 9 (address widget) first nine_is_free (site a) []
+
+second_gives_w : line_entries (machine []) (site widget) [] w1 opens_a ≡ []
+unfolding beginning empty_partition
+second_gives_w = open_gives w1 1 (address a) [] one_is_free (site widget) []
+
+second_gives_a : line_entries (machine []) (site a) (widget ∷ []) w1 opens_a ≡ entry (comes 1 (address a) []) [] ∷ []
+unfolding beginning empty_partition
+second_gives_a = open_gives w1 1 (address a) [] one_is_free (site a) (widget ∷ [])
+
+first_touches_w : line_touched (machine []) (site widget) [] w0 opens_w ≡ []
+unfolding beginning machine
+first_touches_w = open_touches w0 9 (address widget) first nine_is_free (site widget) []
+
+first_touches_a : line_touched (machine []) (site a) [] w0 opens_w ≡ widget ∷ []
+unfolding beginning machine empty_partition side_event
+first_touches_a = open_touches w0 9 (address widget) first nine_is_free (site a) [] ∙ (λ i. cond (equal_cookies (get_none widget i) (own_w i)) [] (widget ∷ []))
+
+second_touches_w : line_touched (machine []) (site widget) [] w1 opens_a ≡ []
+unfolding beginning machine empty_partition side_event
+second_touches_w = open_touches w1 1 (address a) [] one_is_free (site widget) [] ∙ (λ i. cond (equal_cookies (none_first i) (none_second i)) [] (a ∷ []))
+
+second_touches_a : line_touched (machine []) (site a) (widget ∷ []) w1 opens_a ≡ widget ∷ []
+unfolding beginning machine
+second_touches_a = open_touches w1 1 (address a) [] one_is_free (site a) (widget ∷ [])
+
+-- ---- the widget and the click
+
+abbrev pub framing : DocumentAction
+framing = Frame 0 (address widget) None false []
+
+-- the tab at `https://a.test` after the load, with the widget, and after the click on it
+abbrev pub opened_tab : PlainTab
+opened_tab = made_tab 1 (opened [] (address a)) None None
+
+abbrev pub framed_tab : PlainTab
+framed_tab = made_tab 1 (shown a None) None (Some opened_tab)
+
+abbrev pub clicked_tab : PlainTab
+clicked_tab = made_tab 1 (activated 1 (pos 7) (shown a None)) None (Some framed_tab)
+
+-- the shared cells and what is held with the widget, and after the click
+abbrev pub cells_framed : SharedCells
+cells_framed = cells_by others w2.cells held_opened framing (Some opened_tab)
+
+abbrev pub held_framed : Holdings
+held_framed = (done_by others w2.cells held_opened framing (Some opened_tab)).partition.held
+
+abbrev pub cells_before : SharedCells
+cells_before = cells_by others cells_framed held_framed Click (Some framed_tab)
 
 abbrev pub held_before : Holdings
-held_before = record no_holdings { tabs = finite.insert no_holdings.tabs 1 clicked_tab; grants = [] }
+held_before = (done_by others cells_framed held_framed Click (Some framed_tab)).partition.held
 
-abbrev pub places : Places
-places = placed 9 (site widget) (placed 1 (site a) no_places)
+pub is_opened : tab_named 1 held_opened ≡ Some opened_tab
+is_opened = get-insert nat_cmp_total no_holdings.tabs 1 opened_tab 1
 
--- the world where `https://a.test` has this, and no other site has anything
-abbrev pub world : SharedCells → Holdings → AgentWorld
-world cells held =
-    record {
-      partition = λ s. cond (same_plain_site s (site a)) (record { site = site a; held = held }) (empty_partition s);
-      cells = cells;
-      rest = record { now = 7; places = places };
-    }
-
--- the cookies of each domain at the beginning
-abbrev pub cells_before : SharedCells
-cells_before = set_cell domain_order widget (cookie (codes "1") 5 ∷ []) no_shared_cells
-
-one_is_at_a : site_at 1 places ≡ Some (site a)
-one_is_at_a = get-insert nat_cmp_total (placed 1 (site a) no_places) 9 (site widget) 1 ∙ get-insert nat_cmp_total no_places 1 (site a) 1
-
-pub nine_is_at_w : site_at 9 places ≡ Some (site widget)
-nine_is_at_w = get-insert nat_cmp_total (placed 1 (site a) no_places) 9 (site widget) 9
+pub is_framed : tab_named 1 held_framed ≡ Some framed_tab
+is_framed = get-insert nat_cmp_total held_opened.tabs 1 framed_tab 1
 
 pub is_clicked : tab_named 1 held_before ≡ Some clicked_tab
-is_clicked = get-insert nat_cmp_total no_holdings.tabs 1 clicked_tab 1
+is_clicked = get-insert nat_cmp_total held_framed.tabs 1 clicked_tab 1
 
-own_first : get_cell domain_order cells_before widget ≡ cookie (codes "1") 5 ∷ []
-own_first = get_set widget widget (cookie (codes "1") 5 ∷ []) no_shared_cells
+own_first : get_cell domain_order cells_before widget ≡ cookie (codes "1") ∷ []
+own_first =
+    get_merge (asks Click (Some framed_tab)) (done_by others cells_framed held_framed Click (Some framed_tab)).cells cells_framed widget
+    ∙ get_merge (asks framing (Some opened_tab)) (done_by others w2.cells held_opened framing (Some opened_tab)).cells w2.cells widget
+    ∙ own_second
 
--- ---- an action of the widget
+-- ---- the first four lines
 
-abbrev pub acts : DocumentAction → SiteEvent
-acts action = Acts (at_frame 1 1) action
+abbrev pub after_four : List PlainAction → List PlainAction
+after_four lines = opens_w ∷ opens_a ∷ line framing ∷ line Click ∷ lines
 
-abbrev entry : SiteEvent → List (HeldCell Domain Cookies) → SiteEntry
-entry event held = record { event = at_seven event; held = held }
+begins_w : (lines : List PlainAction) → local_entries (machine []) (site widget) [] w0 (after_four lines)
+    ≡ entry (comes 9 (address widget) first) [] ∷ local_entries (machine []) (site widget) [] (world others cells_before held_before) lines
+unfolding beginning
+begins_w lines =
+    (λ i. first_gives_w i ++ local_entries (machine []) (site widget) (first_touches_w i) (open_stepped w0 9 (address widget) first nine_is_free i) (opens_a ∷ line framing ∷ line Click ∷ lines))
+    ∙ (λ i. given ++ (second_gives_w i ++ local_entries (machine []) (site widget) (second_touches_w i) ((open_stepped w1 1 (address a) [] one_is_free ∙ is_world) i) (line framing ∷ line Click ∷ lines)))
+    ∙ (λ i. given ++ (gives_w others w2.cells held_opened framing opened_tab is_opened [] i
+    ++ local_entries (machine []) (site widget) (touched_w others w2.cells held_opened framing opened_tab is_opened i) (stepped others w2.cells held_opened framing opened_tab is_opened i) (line Click ∷ lines)))
+    ∙ (λ i. given ++ (gives_w others cells_framed held_framed Click framed_tab is_framed [] i
+    ++ local_entries (machine []) (site widget) (touched_w others cells_framed held_framed Click framed_tab is_framed i) (stepped others cells_framed held_framed Click framed_tab is_framed i) lines))
+  where
+    given : List SiteEntry
+    given = entry (comes 9 (address widget) first) [] ∷ []
 
--- an entry with the cells that are consulted and unknown
-abbrev entry_of : PlainSite → List Domain → SharedCells → SiteEvent → List Domain → SiteEntry
-entry_of s touched cells event names = entry event (map (λ domain. record { cell = domain; content = get_cell domain_order cells domain }) (filter (is_unknown s touched) names))
+begins_a : (lines : List PlainAction) → local_entries (machine []) (site a) [] w0 (after_four lines)
+    ≡ entry (comes 1 (address a) []) [] ∷ entry (acts framing) [] ∷ entry (acts Click) [] ∷ local_entries (machine []) (site a) (widget ∷ []) (world others cells_before held_before) lines
+unfolding beginning
+begins_a lines =
+    (λ i. first_gives_a i ++ local_entries (machine []) (site a) (first_touches_a i) (open_stepped w0 9 (address widget) first nine_is_free i) (opens_a ∷ line framing ∷ line Click ∷ lines))
+    ∙ (λ i. second_gives_a i ++ local_entries (machine []) (site a) (second_touches_a i) ((open_stepped w1 1 (address a) [] one_is_free ∙ is_world) i) (line framing ∷ line Click ∷ lines))
+    ∙ (λ i. given ++ (gives_a others w2.cells held_opened framing opened_tab is_opened touched i
+    ++ local_entries (machine []) (site a) (touched_a others w2.cells held_opened framing opened_tab is_opened touched i) (stepped others w2.cells held_opened framing opened_tab is_opened i) (line Click ∷ lines)))
+    ∙ (λ i. given ++ (entry (acts framing) [] ∷ (gives_a others cells_framed held_framed Click framed_tab is_framed touched i
+    ++ local_entries (machine []) (site a) (touched_a others cells_framed held_framed Click framed_tab is_framed touched i) (stepped others cells_framed held_framed Click framed_tab is_framed i) lines)))
+  where
+    touched : List Domain
+    touched = widget ∷ []
 
--- the cells that an action consults, by the tab that is there
-abbrev pub names_by : DocumentAction → Option PlainTab → List Domain
-names_by action tab = names_at [] (site a) (at_frame 1 1) action tab
+    given : List SiteEntry
+    given = entry (comes 1 (address a) []) [] ∷ []
 
-abbrev pub asks : DocumentAction → Option PlainTab → Domain → Bool
-asks action tab c = is_in bytes_eq c (names_by action tab) || false
-
-module _ (cells : SharedCells) (held : Holdings) (action : DocumentAction) where
-  abbrev pub before : AgentWorld
-  before = world cells held
-
-  abbrev pub line : PlainAction
-  line = Act (at_frame 1 1) action
-
-  -- what is done, and the shared cells afterwards, by the tab that is there
-  abbrev pub done_by : Option PlainTab → SiteOutcome
-  done_by tab = act [] 7 (at_frame 1 1) action tab (restrict_cells domain_order (asks action tab) cells) (record { site = site a; held = held })
-
-  abbrev pub cells_by : Option PlainTab → SharedCells
-  cells_by tab = merge_cells domain_order (asks action tab) (done_by tab).cells cells
-
-  -- it happens at `https://a.test`
-  pub happens : main_event [] before line ≡ Some (occurs before (acts action) (site a))
-  unfolding main_event
-  happens = ap (option_map (occurs before (acts action))) one_is_at_a
-
-  module _ (tab : PlainTab) (found : tab_named 1 held ≡ Some tab) where
-    pub stepped : world_step (machine []) before line ≡ world (cells_by (Some tab)) (done_by (Some tab)).partition.held
-    unfolding world_step machine site_step side_event rest_after
-    stepped =
-        ap
-        (λ main.
-        record {
-          partition = (after_main (machine []) (after_sides (machine []) before line) main).partition;
-          cells = (after_main (machine []) (after_sides (machine []) before line) main).cells;
-          rest = before.rest;
-        })
-        happens
-        ∙ (λ i. record { partition = λ s. cond (same_plain_site s (site a)) (done_by (found i)).partition (before.partition s); cells = cells_by (found i); rest = before.rest })
-        ∙ (λ i. record { partition = λ s. twice (same_plain_site s (site a)) s i; cells = cells_by (Some tab); rest = before.rest })
-      where
-        twice : (b : Bool) (s : PlainSite)
-            → cond b (done_by (Some tab)).partition (cond b (record { site = site a; held = held }) (empty_partition s))
-            ≡ cond b (record { site = site a; held = (done_by (Some tab)).partition.held }) (empty_partition s)
-        twice true s = refl
-        twice false s = refl
-
-    -- what it gives `https://a.test`, and that it gives `https://w.test` nothing
-    gives_a : (touched : List Domain) → line_entries (machine []) (site a) touched before line ≡ entry_of (site a) touched cells (acts action) (names_by action (Some tab)) ∷ []
-    unfolding events_given machine
-    gives_a touched =
-        gives [] (site a) touched before line
-        ∙ (λ i. map (entry_given [] (site a) (before.partition (site a)) touched cells) (given (is_of (site a) (one_is_at_a i)) 7 (acts action)))
-        ∙ ap (λ t. entry_of (site a) touched cells (acts action) (names_by action t) ∷ []) found
-
-    gives_w : (touched : List Domain) → line_entries (machine []) (site widget) touched before line ≡ []
-    unfolding events_given machine
-    gives_w touched =
-        gives [] (site widget) touched before line
-        ∙ (λ i. map (entry_given [] (site widget) (before.partition (site widget)) touched cells) (given (is_of (site widget) (one_is_at_a i)) 7 (acts action)))
-
-    -- what it leaves different for either
-    touched_a : (touched : List Domain) → line_touched (machine []) (site a) touched before line ≡ touched
-    unfolding machine line_touched
-    touched_a touched = ap (main_touched (machine []) (site a) touched (after_sides (machine []) before line)) happens
-
-    touched_w : line_touched (machine []) (site widget) [] before line ≡ changed_cells (machine []) cells (cells_by (Some tab)) (names_by action (Some tab))
-    unfolding machine line_touched site_step side_event
-    touched_w =
-        ap (main_touched (machine []) (site widget) [] (after_sides (machine []) before line)) happens
-        ∙ ap (λ t. changed_cells (machine []) cells (cells_by t) (names_by action t)) found
-
--- ---- the lines
+-- ---- the lines behind them
 
 -- the widget asks for storage access, and the user grants it
 abbrev pub asking : DocumentAction
 asking = Request prompt.Grant
 
--- it requests its own domain, and a cookie is stored
-abbrev pub response : List HeadField
+-- it requests a page of its own origin, and the response stores another value
+abbrev page : PlainAddress
+page = record (address widget) { text = codes "https://w.test/p"; path = codes "/p" }
+
+abbrev response : List HeadField
 response = stores (codes "n=2; SameSite=None; Secure")
 
 abbrev pub fetch : DocumentAction
-fetch = Fetch (address widget) method.Get response
+fetch = Fetch page method.Get response
 
 -- the user loads the widget's site in tab 9
 abbrev pub goes : PlainAction
@@ -203,35 +268,52 @@ arrives = Arrives Goes 9 (address widget) method.Get true []
 
 -- ---- the request for access
 
--- what is held afterwards: the document has access, and the permission is kept
-abbrev pub held_after : Holdings
-held_after = record (with_tab 1 given_tab held_before) { grants = record { top = site a; site = site widget; granted = true; until = pos 2592007 } ∷ [] }
+-- the tab, the shared cells and what is held after it
+abbrev pub given_tab : PlainTab
+given_tab = made_tab 1 (with_document 1 flagged (activated 1 (pos 7) (shown a None))) None (Some clicked_tab)
 
--- it is granted, and touches no shared cell
-granted : (cells : SharedCells) → act_in [] 7 (site a) (at_frame 1 1) asking clicked_tab cells held_before ≡ record { held = held_after; cells = cells; changes = []; body = Plain (codes "granted") }
+abbrev pub cells_asked : SharedCells
+cells_asked = cells_by others cells_before held_before asking (Some clicked_tab)
+
+abbrev pub held_after : Holdings
+held_after = (done_by others cells_before held_before asking (Some clicked_tab)).partition.held
+
+-- it is granted, which is a row change, and touches no shared cell: the document has access, and
+-- the permission is kept
+abbrev permission : PlainGrant
+permission = record { top = site a; site = site widget; granted = true; until = pos 2592007 }
+
+granted : (cells : SharedCells) → act_in [] 7 (site a) (at_frame 1 1) asking clicked_tab cells held_before
+    ≡ record { held = record (with_tab 1 given_tab held_before) { grants = permission ∷ [] }; cells = cells; changes = Grant permission ∷ []; body = Plain (codes "granted") }
+unfolding no_holdings
 granted cells = refl
 
 pub is_given : tab_named 1 held_after ≡ Some given_tab
+unfolding no_holdings
 is_given = get-insert nat_cmp_total held_before.tabs 1 given_tab 1
 
--- the shared cells after it
-abbrev pub cells_asked : SharedCells
-cells_asked = cells_by cells_before held_before asking (Some clicked_tab)
+own_asked : get_cell domain_order cells_asked widget ≡ cookie (codes "1") ∷ []
+own_asked = get_merge (asks asking (Some clicked_tab)) (done_by others cells_before held_before asking (Some clicked_tab)).cells cells_before widget ∙ own_first
 
-own_asked : get_cell domain_order cells_asked widget ≡ cookie (codes "1") 5 ∷ []
-own_asked = get_merge (asks asking (Some clicked_tab)) (restrict_cells domain_order (asks asking (Some clicked_tab)) cells_before) cells_before widget ∙ own_first
-
--- ---- the request of its own domain
+-- ---- the request of its own origin
 
 abbrev how : CookieUse
-how = fetch_use [] (site a) 1 given_tab.frames (address widget) method.Get
+how = fetch_use [] (site a) 1 given_tab.frames page method.Get
 
 abbrev key : PartitionedKey
 key = record { top = site a; bit = true; domain = widget }
 
+-- its partitioned cell is empty, after the load of the widget too
+none_partitioned : get_cell partitioned_order held_after.cookies key ≡ []
+unfolding no_holdings
+none_partitioned =
+    cells.get_set partitioned_order partitioned_order_total partitioned_order_same key key _ held_opened.cookies
+    ∙ ap (λ found. (both_marked 7 (frame_use [] (site a) 0 opened_tab.frames (address widget)) (record { own = []; partition = found })).partition)
+    (cells.get_set partitioned_order partitioned_order_total partitioned_order_same key (record { top = site a; bit = false; domain = a }) _ no_holdings.cookies ∙ nothing_partitioned key)
+
 -- it sends the old cookie and replaces it
 abbrev both : BothCells
-both = record { own = cookie (codes "1") 5 ∷ []; partition = [] }
+both = record { own = cookie (codes "1") ∷ []; partition = [] }
 
 sends : header_text (sent 7 how both) ≡ Some (codes "n=1")
 sends = refl
@@ -242,27 +324,30 @@ replaces = refl
 abbrev own_after : Cookies → Cookies → Cookies
 own_after own partition = (store_texts [] 7 how (both_marked 7 how (record { own = own; partition = partition })) (cookie_texts response)).both.own
 
--- the shared cells after it
+-- the shared cells and what is held after it
 abbrev pub cells_fetched : SharedCells
-cells_fetched = cells_by cells_asked held_after fetch (Some given_tab)
+cells_fetched = cells_by others cells_asked held_after fetch (Some given_tab)
 
-own_fetched : get_cell domain_order cells_fetched widget ≡ cookie (codes "2") 7 ∷ []
+abbrev pub held_fetched : Holdings
+held_fetched = (done_by others cells_asked held_after fetch (Some given_tab)).partition.held
+
+own_fetched : get_cell domain_order cells_fetched widget ≡ cookie (codes "2") ∷ []
 own_fetched =
     let asked = asks fetch (Some given_tab) in
     let seen = restrict_cells domain_order asked cells_asked in
-    let left = own_after (get_cell domain_order seen widget) (get_cell partitioned_order no_holdings.cookies key) in
+    let left = own_after (get_cell domain_order seen widget) (get_cell partitioned_order held_after.cookies key) in
     get_merge asked (set_cell domain_order widget left seen) cells_asked widget
     ∙ get_set widget widget left seen
-    ∙ λ i. own_after ((get_restrict asked cells_asked widget ∙ own_asked) i) (nothing_partitioned key i)
+    ∙ λ i. own_after ((get_restrict asked cells_asked widget ∙ own_asked) i) (none_partitioned i)
 
 -- it leaves the cookies of `w.test` different
 left_different : changed_cells (machine []) cells_asked cells_fetched (names_by fetch (Some given_tab)) ≡ widget ∷ []
 unfolding machine
 left_different = λ i. cond (equal_cookies (own_asked i) (own_fetched i)) [] (widget ∷ [])
 
--- ---- the load
+-- ---- the second load
 
--- what a load of `https://w.test` gives either site, where others have left these different
+-- what it gives either site, where others have left these different
 load_gives : (w : AgentWorld) → w.rest ≡ record { now = 7; places = places } → (s : PlainSite) (touched : List Domain)
     → line_entries (machine []) s touched w goes ≡ map (entry_given [] s (w.partition s) touched w.cells) (given_going [] s 7 9 (address widget) false method.Get [] (Some (site widget)))
 unfolding events_given
@@ -271,40 +356,53 @@ load_gives w rest s touched =
     ∙ (λ i. map (entry_given [] s (w.partition s) touched w.cells) (given_going [] s (rest i).now 9 (address widget) false method.Get [] (site_at 9 (rest i).places)))
     ∙ (λ i. map (entry_given [] s (w.partition s) touched w.cells) (given_going [] s 7 9 (address widget) false method.Get [] (nine_is_at_w i)))
 
--- ---- the run
+-- ---- the whole run
+
+abbrev pub last_three : List PlainAction
+last_three = line asking ∷ line fetch ∷ goes ∷ []
 
 abbrev pub run : List PlainAction
-run = Act (at_frame 1 1) asking ∷ Act (at_frame 1 1) fetch ∷ goes ∷ []
+run = after_four last_three
 
--- what is held after the second line
-abbrev pub held_fetched : Holdings
-held_fetched = (done_by cells_asked held_after fetch (Some given_tab)).partition.held
-
--- the entry of `https://a.test` for the request of the widget holds the cookies of `w.test`
-held_at_a : local_entries (machine []) (site a) [] (world cells_before held_before) run
-    ≡ entry (acts asking) []
-    ∷ entry (acts fetch) (record { cell = widget; content = cookie (codes "1") 5 ∷ [] } ∷ [])
+-- the first load of `https://w.test` holds no cell. The second holds the cookies of the domain,
+-- which the widget has changed.
+held_at_w : (local_script [] (site widget) 7 run).script.entries
+    ≡ entry (comes 9 (address widget) first) []
+    ∷ entry arrives (record { cell = widget; content = cookie (codes "2") ∷ [] } ∷ [])
     ∷ []
-held_at_a =
-    (λ i. gives_a cells_before held_before asking clicked_tab is_clicked [] i
-    ++ local_entries (machine []) (site a) (touched_a cells_before held_before asking clicked_tab is_clicked [] i) (stepped cells_before held_before asking clicked_tab is_clicked i) (Act (at_frame 1 1) fetch ∷ goes ∷ []))
-    ∙ (λ i. first ++ (gives_a cells_asked held_after fetch given_tab is_given [] i
-    ++ local_entries (machine []) (site a) (touched_a cells_asked held_after fetch given_tab is_given [] i) (stepped cells_asked held_after fetch given_tab is_given i) (goes ∷ [])))
-    ∙ (λ i. first ++ (entry (acts fetch) (record { cell = widget; content = own_asked i } ∷ []) ∷ (load_gives (world cells_fetched held_fetched) refl (site a) [] i ++ [])))
-  where
-    first : List SiteEntry
-    first = entry (acts asking) [] ∷ []
-
--- and that of `https://w.test` for its load holds them too, since the widget has changed them
-held_at_w : local_entries (machine []) (site widget) [] (world cells_before held_before) run ≡ entry arrives (record { cell = widget; content = cookie (codes "2") 7 ∷ [] } ∷ []) ∷ []
+unfolding local_script
 held_at_w =
-    (λ i. gives_w cells_before held_before asking clicked_tab is_clicked [] i
-    ++ local_entries (machine []) (site widget) (touched_w cells_before held_before asking clicked_tab is_clicked i) (stepped cells_before held_before asking clicked_tab is_clicked i) (Act (at_frame 1 1) fetch ∷ goes ∷ []))
-    ∙ (λ i. gives_w cells_asked held_after fetch given_tab is_given [] i
-    ++ local_entries (machine []) (site widget) ((touched_w cells_asked held_after fetch given_tab is_given ∙ left_different) i) (stepped cells_asked held_after fetch given_tab is_given i) (goes ∷ []))
-    ∙ (λ i. load_gives (world cells_fetched held_fetched) refl (site widget) (widget ∷ []) i ++ [])
-    ∙ (λ i. entry arrives (record { cell = widget; content = own_fetched i } ∷ []) ∷ [])
+    begins_w last_three
+    ∙ ap (λ later. entry (comes 9 (address widget) first) [] ∷ later)
+    ((λ i. gives_w others cells_before held_before asking clicked_tab is_clicked [] i
+    ++ local_entries (machine []) (site widget) (touched_w others cells_before held_before asking clicked_tab is_clicked i) (stepped others cells_before held_before asking clicked_tab is_clicked i) (line fetch ∷ goes ∷ []))
+    ∙ (λ i. gives_w others cells_asked held_after fetch given_tab is_given [] i
+    ++ local_entries (machine []) (site widget) ((touched_w others cells_asked held_after fetch given_tab is_given ∙ left_different) i) (stepped others cells_asked held_after fetch given_tab is_given i) (goes ∷ []))
+    ∙ (λ i. load_gives (world others cells_fetched held_fetched) refl (site widget) (widget ∷ []) i ++ [])
+    ∙ (λ i. entry arrives (record { cell = widget; content = own_fetched i } ∷ []) ∷ []))
 
--- without these lines that entry holds none
-held_alone : local_entries (machine []) (site widget) [] (world cells_before held_before) (goes ∷ []) ≡ entry arrives [] ∷ []
-held_alone = λ i. load_gives (world cells_before held_before) refl (site widget) [] i ++ []
+-- without what the widget did by its access the second holds none either
+held_alone : (local_script [] (site widget) 7 (after_four (goes ∷ []))).script.entries ≡ entry (comes 9 (address widget) first) [] ∷ entry arrives [] ∷ []
+unfolding local_script
+held_alone = begins_w (goes ∷ []) ∙ ap (λ later. entry (comes 9 (address widget) first) [] ∷ later) (λ i. load_gives (world others cells_before held_before) refl (site widget) [] i ++ [])
+
+-- at `https://a.test` the request of the widget holds them, and nothing else does
+held_at_a : (local_script [] (site a) 7 run).script.entries
+    ≡ entry (comes 1 (address a) []) []
+    ∷ entry (acts framing) []
+    ∷ entry (acts Click) []
+    ∷ entry (acts asking) []
+    ∷ entry (acts fetch) (record { cell = widget; content = cookie (codes "1") ∷ [] } ∷ [])
+    ∷ []
+unfolding local_script
+held_at_a =
+    begins_a last_three
+    ∙ ap (λ later. entry (comes 1 (address a) []) [] ∷ entry (acts framing) [] ∷ entry (acts Click) [] ∷ later)
+    ((λ i. gives_a others cells_before held_before asking clicked_tab is_clicked touched i
+    ++ local_entries (machine []) (site a) (touched_a others cells_before held_before asking clicked_tab is_clicked touched i) (stepped others cells_before held_before asking clicked_tab is_clicked i) (line fetch ∷ goes ∷ []))
+    ∙ (λ i. entry (acts asking) [] ∷ (gives_a others cells_asked held_after fetch given_tab is_given touched i
+    ++ local_entries (machine []) (site a) (touched_a others cells_asked held_after fetch given_tab is_given touched i) (stepped others cells_asked held_after fetch given_tab is_given i) (goes ∷ [])))
+    ∙ (λ i. entry (acts asking) [] ∷ entry (acts fetch) (record { cell = widget; content = own_asked i } ∷ []) ∷ (load_gives (world others cells_fetched held_fetched) refl (site a) touched i ++ [])))
+  where
+    touched : List Domain
+    touched = widget ∷ []

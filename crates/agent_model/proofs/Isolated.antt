@@ -168,7 +168,7 @@ abbrev line_of : PlainSite → Answer → List ℕ
 line_of site answer = reply_text (printed (record { site = Some site; reply = answer }))
 
 -- the lines of a site are the text of the answers that belong to it
-site_lines : (rules : List Rule) (site : PlainSite) (told : List (SiteReply PlainSite Answer)) → lines_of_site site told ≡ lines_alone site (answers_of rules site told)
+pub site_lines : (rules : List Rule) (site : PlainSite) (told : List (SiteReply PlainSite Answer)) → lines_of_site site told ≡ lines_alone site (answers_of rules site told)
 unfolding lines_of_site lines_alone answers_of text_of machine
 site_lines rules site [] = refl
 site_lines rules site (one ∷ told) = at one.site one.reply (site_lines rules site told)

@@ -28,9 +28,11 @@ pub mod StorageFacts
 mod BucketFacts
 mod SessionFacts
 pub mod GivenFacts
+pub mod OpenedLemmas
 mod CookieCellFacts
 pub mod CookieRunFacts
 mod CookieFacts
 mod StorageAccessFacts
+pub mod WidgetLemmas
 pub mod GrantRunFacts
 mod GrantGroupFacts

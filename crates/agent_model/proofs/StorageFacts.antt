@@ -4,7 +4,8 @@ use Rattle.std.specs.Prelude.{codes, nat_lt, option_map}
 use Rattle.std.specs.Cmp.{nat_cmp_total}
 use Rattle.std.specs.Ordering.{nat_cmp}
 use Rattle.std.specs.FinMap as finite
-use Rattle.std.specs.FinMap.{nat_cmp-IsAntisymmetric, get-insert}
+use Rattle.std.specs.FinMap.{nat_cmp-IsAntisymmetric, get-empty, get-insert}
+use Rattle.unwinding.specs.FiniteCells.{list_of, get_cell}
 use Rattle.unwinding.proofs.FiniteCellsLemmas.{get_set}
 use Rattle.origin_site.specs.Origin.{origin_of_address}
 use Rattle.storage_key.specs.Key.{PlainKey, key_order}
@@ -19,8 +20,10 @@ use Rattle.storage_events.specs.declared.event.AreaKind.TheVariants.{Local, Sess
 use Rattle.storage_events.specs.Event.{PlainEvent}
 use Rattle.live_state.specs.Tabs.{PlainTab, made_tab}
 use Rattle.reply_lines.specs.Reply as reply
-use Rattle.agent_model.specs.Partition.{Holdings, Tabs, no_holdings, tab_named, with_tab, area_of, with_area}
-use Rattle.agent_model.specs.Done.{SharedCells, Effect, no_shared_cells, answers, ok}
+use Rattle.agent_model.specs.Partition.{Holdings, Tabs, no_holdings, session_order, tab_named, with_tab, area_of, with_area}
+use Rattle.row_changes.specs.Change.{AreaPut, AreaRemove, AreaClear}
+use Rattle.agent_model.specs.Done.{SharedCells, Done, Effect, no_shared_cells, answers, ok}
+use Rattle.agent_model.specs.Changes.{changes_of_write, durable_in}
 use Rattle.agent_model.specs.Documents.{Keyed, with_document, with_key, told_tab}
 use Rattle.agent_model.specs.AreaActions.{change_event, write, store, set_by, set_item, remove_by, remove_item, clear_area}
 use Rattle.agent_model.specs.Queues.{take_events}
@@ -60,6 +63,12 @@ written kind = with_area kind 1 key_a pairs two_tabs
 local_pairs : area_of Local 1 key_a (written Local) ≡ pairs
 local_pairs = get_set key_order key_order_total key_order_same key_a key_a pairs two_tabs.areas
 
+-- before that it is empty
+no_pairs : (kind : AreaKind) → area_of kind 1 key_a two_tabs ≡ []
+unfolding get_cell no_holdings
+no_pairs Local = ap list_of (get-empty key_order key_a)
+no_pairs Session = ap list_of (get-empty session_order (1, key_a))
+
 -- ---- who may act
 
 acts : (action : Keyed → Effect) → with_key (at_frame 1 0) (shows_a 1) action ≡ action writer
@@ -98,6 +107,41 @@ removed =
 
 removed_none : remove_item Local v writer no_shared_cells (written Local) ≡ answers ok no_shared_cells (written Local)
 removed_none = ap (λ found. remove_by (area_get v found) Local writer v no_shared_cells (written Local)) local_pairs
+
+-- ---- row changes
+
+-- a value that is set is one, and the same value once more is none
+put : (set_item Local k v writer no_shared_cells two_tabs).changes ≡ AreaPut key_a k v ∷ []
+put = ap (λ found. (set_by (put_answer k v found) Local writer k v (area_put k v found) no_shared_cells two_tabs).changes) (no_pairs Local)
+
+put_twice : (set_item Local k v writer no_shared_cells (written Local)).changes ≡ []
+put_twice = ap (λ (done : Done). done.changes) same_value
+
+put_over : (set_item Local k k writer no_shared_cells (written Local)).changes ≡ AreaPut key_a k k ∷ []
+put_over = ap (λ (done : Done). done.changes) other_value
+
+-- so is a removal, and that of an absent name is none
+taken_out : (remove_item Local k writer no_shared_cells (written Local)).changes ≡ AreaRemove key_a k ∷ []
+taken_out = ap (λ (done : Done). done.changes) removed
+
+taken_out_none : (remove_item Local v writer no_shared_cells (written Local)).changes ≡ []
+taken_out_none = ap (λ (done : Done). done.changes) removed_none
+
+-- and a clear, but that of an empty area
+emptied : (clear_area Local writer no_shared_cells (written Local)).changes ≡ AreaClear key_a ∷ []
+emptied = ap (λ found. durable_in Local (changes_of_write key_a None None found)) local_pairs
+
+emptied_none : (clear_area Local writer no_shared_cells two_tabs).changes ≡ []
+emptied_none = ap (λ found. durable_in Local (changes_of_write key_a None None found)) (no_pairs Local)
+
+-- a session area has none
+session_put : (set_item Session k v writer no_shared_cells two_tabs).changes ≡ []
+session_put = ap (λ found. (set_by (put_answer k v found) Session writer k v (area_put k v found) no_shared_cells two_tabs).changes) (no_pairs Session)
+
+session_emptied : (clear_area Session writer no_shared_cells (written Session)).changes ≡ []
+session_emptied = refl
+
+-- ---- the quota and the events
 
 -- five mebibytes are stored, and one byte more is not
 fits : (heavy : List Pair) (event : PlainEvent) (cells : SharedCells) (held : Holdings) → area_weight heavy ≡ 5242880 → store Local writer heavy event cells held ≡ write Local writer heavy event cells held

@@ -9,7 +9,8 @@ use Rattle.storage_events.specs.declared.event.AreaKind.{AreaKind}
 use Rattle.storage_events.specs.Event.{PlainEvent}
 use Rattle.reply_lines.specs.Reply.{Plain, Text, Number}
 use Rattle.agent_model.specs.Partition.{Holdings, area_of, with_area}
-use Rattle.agent_model.specs.Done.{Effect, answers, ok}
+use Rattle.agent_model.specs.Done.{Effect, answers, changes_to, ok}
+use Rattle.agent_model.specs.Changes.{changes_of_write, durable_in}
 use Rattle.agent_model.specs.Documents.{Keyed, told}
 
 -- the pairs of a document's area
@@ -32,7 +33,9 @@ change_event kind writer name before after =
 abbrev pub write : AreaKind → Keyed → List Pair → PlainEvent → Effect
 write kind writer pairs event cells held =
     let stored = with_area kind writer.at.tab writer.key pairs held in
-    answers ok cells (record stored { tabs = told kind writer event stored.tabs })
+    let change = changes_of_write writer.key event.key event.after (pairs_of kind writer held) in
+    changes_to (durable_in kind change) ok cells
+    (record stored { tabs = told kind writer event stored.tabs })
 
 -- ---- setItem
 

@@ -6,7 +6,8 @@
 -- a prompt stands in the script. An estimate counts the local area alone. An eviction is asked for,
 -- and takes the local areas of all best-effort buckets under a site at once; no document is told.
 -- Its count has 32 bits and stays at its last value.
-use Rattle.std.specs.Prelude.{ℕ, ◌-◌, ◌^◌, Bool, true, false, not, ◌&&◌, min, codes, if◌then◌else◌}
+use Rattle.std.specs.Prelude.{ℕ, ◌-◌, ◌^◌, Bool, true, false, not, ◌&&◌, min, [], ◌∷◌}
+use Rattle.std.specs.Prelude.{codes, if◌then◌else◌}
 use Rattle.std.specs.FinMap as finite
 use Rattle.origin_site.specs.Site.{PlainSite}
 use Rattle.storage_key.specs.Key.{PlainKey}
@@ -17,8 +18,10 @@ use Rattle.live_state.specs.Tabs.{PlainTab}
 use Rattle.script_lines.specs.declared.words.Prompt.{Prompt}
 use Rattle.script_lines.specs.declared.words.Prompt.TheVariants as prompt
 use Rattle.reply_lines.specs.Reply.{Plain, Truth, Estimate, Cleared}
+use Rattle.row_changes.specs.Change.{SetMode}
 use Rattle.agent_model.specs.Partition.{Areas, Holdings, is_under}
-use Rattle.agent_model.specs.Done.{Effect, answers}
+use Rattle.agent_model.specs.Done.{Effect, answers, changes_to}
+use Rattle.agent_model.specs.Changes.{clears}
 use Rattle.agent_model.specs.Documents.{Keyed}
 use Rattle.agent_model.specs.AreaActions.{pairs_of}
 
@@ -51,7 +54,7 @@ made_persistent key held = record held { persistent = finite.insert held.persist
 abbrev pub persist_by : Bool → Bool → Keyed → Effect
 persist_by true granted asker cells held = answers (Truth true) cells held
 persist_by false true asker cells held =
-    answers (Truth true) cells (made_persistent asker.key held)
+    changes_to (SetMode asker.key ∷ []) (Truth true) cells (made_persistent asker.key held)
 persist_by false false asker cells held = answers (Truth false) cells held
 
 -- `persist`, which is for secure contexts alone
@@ -86,4 +89,5 @@ evicted_count site held = min (finite.len (areas_taken site held)) (2 ^ 32 - 1)
 -- the local areas of the best-effort buckets under a site are emptied and counted
 abbrev pub evict : PlainSite → Effect
 evict site cells held =
-    answers (Cleared (evicted_count site held)) cells (without_evicted site held)
+    changes_to (clears (finite.keys (areas_taken site held))) (Cleared (evicted_count site held))
+    cells (without_evicted site held)

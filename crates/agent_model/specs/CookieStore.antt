@@ -3,7 +3,7 @@
 -- last step sets the last-access-time) and "Storage Model"; CHIPS, "Using Set-Cookie with
 -- Partitioned".
 -- Our own choice: a script's reading sets no time of last use, where the draft's algorithm sets it.
-use Rattle.std.specs.Prelude.{ℕ, pos, List, [], ◌∷◌, map, filter, codes, Option, Some, None}
+use Rattle.std.specs.Prelude.{ℕ, pos, List, [], ◌∷◌, ◌++◌, map, filter, codes, Option, Some, None}
 use Rattle.std.specs.Prelude.{Result, Ok, Err}
 use Rattle.case_tables.specs.Rows.{same_in_any_case}
 use Rattle.suffix_list.specs.Suffix.{Rule}
@@ -16,10 +16,14 @@ use Rattle.cookie_jar.specs.Access.{destination}
 use Rattle.cookie_jar.specs.Planned.{PlainPlan, planned}
 use Rattle.cookie_jar.specs.Sending.{PlainSent, select, marked, ordered, joined}
 use Rattle.cookie_jar.specs.Sending as sending
+use Rattle.cookie_jar.specs.Key.{PlainKey as PlainCell}
+use Rattle.cookie_jar.specs.Persistent.{CookieRow, RowInsert, RowReplace, RowRemove}
+use Rattle.cookie_jar.specs.Persistent.{rows_of_steps}
 use Rattle.cookie_jar.specs.Steps.{after_steps}
+use Rattle.row_changes.specs.Change.{PlainChange, CookieInsert, CookieReplace, CookieRemove}
 use Rattle.script_lines.specs.Script.{HeadField}
 use Rattle.agent_model.specs.CookieCells.{Cookies}
-use Rattle.agent_model.specs.CookieUse.{CookieUse, access_of}
+use Rattle.agent_model.specs.CookieUse.{CookieUse, access_of, own_cell, partition_cell}
 use Rattle.agent_model.specs.CookieWords.{drop_word, parse_word, stored_word}
 
 -- the cookies of the unpartitioned and of the partitioned cell
@@ -57,33 +61,53 @@ both_marked now how both =
 
 -- ---- what is stored
 
--- both cells after a text, and the word that answers it
+-- both cells after a text, the row changes, and the word that answers it
 pub record StoredText : Type 0 where
   pub both : BothCells
+  pub changes : List PlainChange
   pub word : List ℕ
 
+-- a change of the persistent cookies of a cell, as a row change
+abbrev pub in_cell : PlainCell → CookieRow → PlainChange
+in_cell cell (RowInsert place cookie) = CookieInsert cell place cookie
+in_cell cell (RowReplace place cookie) = CookieReplace cell place cookie
+in_cell cell (RowRemove place) = CookieRemove cell place
+
+-- nothing is stored
+abbrev pub stores_none : BothCells → List ℕ → StoredText
+stores_none both word = record { both = both; changes = []; word = word }
+
 -- a plan for one of the cells is done, or the cookie is dropped
-abbrev pub done_by : (Cookies → BothCells) → Cookies → BothCells → Result PlainPlan CookieDrop
-    → StoredText
-done_by with cs both (Ok plan) =
-    record { both = with (after_steps plan.fresh cs plan.steps); word = stored_word plan.kind }
-done_by with cs both (Err why) = record { both = both; word = drop_word why }
+abbrev pub done_by : PlainCell → (Cookies → BothCells) → Cookies → BothCells
+    → Result PlainPlan CookieDrop → StoredText
+done_by cell with cs both (Ok plan) =
+    record {
+      both = with (after_steps plan.fresh cs plan.steps);
+      changes = map (in_cell cell) (rows_of_steps plan.fresh plan.steps);
+      word = stored_word plan.kind;
+    }
+done_by cell with cs both (Err why) = stores_none both (drop_word why)
+
+-- a cookie that goes to no cell is dropped
+abbrev pub dropped_by : BothCells → Result PlainPlan CookieDrop → StoredText
+dropped_by both (Ok plan) = stores_none both (stored_word plan.kind)
+dropped_by both (Err why) = stores_none both (drop_word why)
 
 -- a cookie is stored in the cell that it goes to
 abbrev pub stored_in : Destination → List Rule → ℕ → CookieUse → CookieText → BothCells
     → StoredText
 stored_in to.Own rules now how text both =
-    done_by (λ cs. record both { own = cs }) both.own both
+    done_by (own_cell rules how) (λ cs. record both { own = cs }) both.own both
     (planned rules text (access_of how) kind.Own (pos now) both.own)
 stored_in to.Partition rules now how text both =
-    done_by (λ cs. record both { partition = cs }) both.partition both
+    done_by (partition_cell rules how) (λ cs. record both { partition = cs }) both.partition both
     (planned rules text (access_of how) kind.Partition (pos now) both.partition)
 stored_in to.Nowhere rules now how text both =
-    done_by (λ cs. both) [] both (planned rules text (access_of how) kind.Own (pos now) [])
+    dropped_by both (planned rules text (access_of how) kind.Own (pos now) [])
 
 -- the same of what a text was read as
 abbrev pub store_parsed : List Rule → ℕ → CookieUse → BothCells → Parsed → StoredText
-store_parsed rules now how both (Dropped why) = record { both = both; word = parse_word why }
+store_parsed rules now how both (Dropped why) = stores_none both (parse_word why)
 store_parsed rules now how both (Kept text) =
     stored_in (destination text (access_of how)) rules now how text both
 
@@ -92,18 +116,23 @@ abbrev pub store_text : List Rule → ℕ → CookieUse → BothCells → List �
 store_text rules now how both text =
     store_parsed rules now how both (set_cookie_text text (pos now))
 
--- both cells after texts, and the words that answer them
+-- both cells after texts, the row changes, and the words that answer them
 pub record StoredTexts : Type 0 where
   pub both : BothCells
+  pub changes : List PlainChange
   pub words : List (List ℕ)
 
 -- texts are stored in their order
 abbrev pub store_texts : List Rule → ℕ → CookieUse → BothCells → List (List ℕ) → StoredTexts
-store_texts rules now how both [] = record { both = both; words = [] }
+store_texts rules now how both [] = record { both = both; changes = []; words = [] }
 store_texts rules now how both (text ∷ texts) =
     let one = store_text rules now how both text in
     let more = store_texts rules now how one.both texts in
-    record { both = more.both; words = one.word ∷ more.words }
+    record {
+      both = more.both;
+      changes = one.changes ++ more.changes;
+      words = one.word ∷ more.words;
+    }
 
 -- the Set-Cookie texts of a response, whose field names count in any case
 abbrev pub cookie_texts : List HeadField → List (List ℕ)

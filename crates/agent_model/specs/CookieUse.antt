@@ -9,6 +9,7 @@ use Rattle.origin_site.specs.Address.{PlainAddress}
 use Rattle.origin_site.specs.Site.{PlainSite, site_of_address}
 use Rattle.storage_key.specs.Context.{PlainContext}
 use Rattle.cookie_jar.specs.Access.{PlainAccess}
+use Rattle.cookie_jar.specs.Key.{PlainKey as PlainCell, OwnCell, PartitionCell}
 use Rattle.agent_model.specs.CookieCells.{Domain}
 use Rattle.agent_model.specs.PartitionedCells.{PartitionedKey}
 
@@ -54,6 +55,13 @@ key_of rules how =
       bit = how.context.bit;
       domain = cookie_domain rules how;
     }
+
+-- the names of both cells
+abbrev pub own_cell : List Rule → CookieUse → PlainCell
+own_cell rules how = OwnCell (cookie_domain rules how)
+
+abbrev pub partition_cell : List Rule → CookieUse → PlainCell
+partition_cell rules how = PartitionCell how.top how.context.bit (cookie_domain rules how)
 
 -- the unpartitioned cookies are used: the context is first party, or access is granted
 abbrev pub uses_own : CookieUse → Bool

@@ -13,6 +13,7 @@ use Rattle.origin_site.specs.Site.{PlainSite}
 use Rattle.script_lines.specs.declared.words.Method.{Method}
 use Rattle.script_lines.specs.Script.{HeadField}
 use Rattle.live_state.specs.Tabs.{PlainTab}
+use Rattle.row_changes.specs.Change.{PlainChange}
 use Rattle.reply_lines.specs.Reply.{PlainBody, Load, Cookie, SetOne}
 use Rattle.agent_model.specs.CookieCells.{Cookies, domain_order}
 use Rattle.agent_model.specs.PartitionedCells.{partitioned_order}
@@ -42,15 +43,15 @@ abbrev pub own_left : List Rule → CookieUse → Cookies → SharedCells → Sh
 own_left rules how cookies cells =
     if uses_own how then set_cell domain_order (cookie_domain rules how) cookies cells else cells
 
--- both cells are left so, and this is answered
-abbrev pub leaves : List Rule → CookieUse → BothCells → PlainBody → Effect
-leaves rules how both body cells held =
+-- both cells are left so, by these row changes, and this is answered
+abbrev pub leaves : List Rule → CookieUse → BothCells → List PlainChange → PlainBody → Effect
+leaves rules how both changes body cells held =
     record {
       held = record held {
         cookies = set_cell partitioned_order (key_of rules how) both.partition held.cookies;
       };
       cells = own_left rules how both.own cells;
-      changes = [];
+      changes = changes;
       body = body;
     }
 
@@ -60,7 +61,8 @@ abbrev pub request : List Rule → ℕ → CookieUse → List HeadField → Effe
 request rules now how head cells held =
     let found = both_found rules how cells held in
     let stored = store_texts rules now how (both_marked now how found) (cookie_texts head) in
-    leaves rules how stored.both (Load (header_text (sent now how found)) stored.words) cells held
+    leaves rules how stored.both stored.changes
+    (Load (header_text (sent now how found)) stored.words) cells held
 
 -- a document requests an address
 abbrev pub fetch : List Rule → ℕ → PlainSite → Label → PlainAddress → Method → List HeadField
@@ -78,7 +80,7 @@ read_cookies_by rules now how cells held =
 abbrev pub set_cookie_by : List Rule → ℕ → CookieUse → List ℕ → Effect
 set_cookie_by rules now how text cells held =
     let stored = store_text rules now how (both_found rules how cells held) text in
-    leaves rules how stored.both (SetOne stored.word) cells held
+    leaves rules how stored.both stored.changes (SetOne stored.word) cells held
 
 -- the script of a document reads its cookies
 abbrev pub read_cookies : List Rule → ℕ → PlainSite → Keyed → Effect

@@ -3,6 +3,7 @@ pub mod CookieCells
 pub mod PartitionedCells
 pub mod Partition
 pub mod Done
+pub mod Changes
 pub mod Documents
 pub mod AreaActions
 pub mod Buckets

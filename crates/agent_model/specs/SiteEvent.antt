@@ -8,9 +8,10 @@ use Rattle.unwinding.specs.Machine.{Outcome}
 use Rattle.origin_site.specs.Address.{PlainAddress}
 use Rattle.script_lines.specs.declared.words.Method.{Method}
 use Rattle.script_lines.specs.Script.{DocumentAction, HeadField}
+use Rattle.row_changes.specs.Change.{PlainChange}
 use Rattle.reply_lines.specs.Reply.{PlainBody}
 use Rattle.agent_model.specs.Partition.{Holdings, Partition}
-use Rattle.agent_model.specs.Done.{SharedCells, Change, Done}
+use Rattle.agent_model.specs.Done.{SharedCells, Done}
 
 -- a load of a top document: a tab that is opened, or one that goes to an address
 pub data TopLoad : Type 0 where
@@ -40,7 +41,7 @@ pub record Answer : Type 0 where
 
 -- what an event gives
 abbrev pub SiteOutcome : Type 0
-SiteOutcome = Outcome SharedCells Partition Answer Change
+SiteOutcome = Outcome SharedCells Partition Answer PlainChange
 
 -- what an action did at a site, and the reply to a line of this name
 abbrev pub replied : Partition → List ℕ → Done → SiteOutcome

@@ -4,7 +4,7 @@
 -- Our own choice: the answer of the prompt stands in the script. Both calls are answered for an
 -- opaque document too. A document with access keeps it until it is replaced, whatever becomes of
 -- the permission.
-use Rattle.std.specs.Prelude.{ℕ, not, pos, List, [], Option, Some, None, is_some, codes, Ok}
+use Rattle.std.specs.Prelude.{ℕ, not, pos, List, [], ◌∷◌, Option, Some, None, is_some, codes, Ok}
 use Rattle.agent_base.specs.declared.refusals.Label.{Label}
 use Rattle.suffix_list.specs.Suffix.{Rule}
 use Rattle.origin_site.specs.Site.{PlainSite, site_of_address}
@@ -29,7 +29,8 @@ use Rattle.live_state.specs.Tabs.{PlainTab}
 use Rattle.script_lines.specs.declared.words.Prompt.{Prompt}
 use Rattle.script_lines.specs.declared.words.Prompt.TheVariants as prompt
 use Rattle.reply_lines.specs.Reply.{PlainBody, Plain, Truth}
-use Rattle.agent_model.specs.Done.{Effect, answers}
+use Rattle.row_changes.specs.Change.{PlainChange, Grant}
+use Rattle.agent_model.specs.Done.{Effect, answers, changes_to}
 use Rattle.agent_model.specs.Documents.{with_document}
 use Rattle.agent_model.specs.Frames.{on_frames}
 
@@ -81,22 +82,31 @@ abbrev pub decision_word : Decision → List ℕ
 decision_word (decision.Granted prompted) = codes "granted"
 decision_word (decision.Refused cause) = refusal_word cause
 
--- the permissions after what is kept of a request of a site under a top-level site
-abbrev pub grants_requested : Option Permission → (top site : PlainSite) → List PlainGrant
-    → List PlainGrant
-grants_requested None top site grants = grants
-grants_requested (Some permission) top site grants =
-    kept (record {
+-- the permission of a request of a site under a top-level site
+abbrev pub row_of : Permission → (top site : PlainSite) → PlainGrant
+row_of permission top site =
+    record {
       top = top;
       site = site;
       granted = permission.granted;
       until = permission.until;
-    }) grants
+    }
+
+-- the permissions after what is kept of a request
+abbrev pub grants_requested : Option Permission → (top site : PlainSite) → List PlainGrant
+    → List PlainGrant
+grants_requested None top site grants = grants
+grants_requested (Some permission) top site grants = kept (row_of permission top site) grants
+
+-- and its row change
+abbrev pub change_requested : Option Permission → (top site : PlainSite) → List PlainChange
+change_requested None top site = []
+change_requested (Some permission) top site = Grant (row_of permission top site) ∷ []
 
 -- what is kept is held, and this is answered
 abbrev pub keeps_grant : Option Permission → (top site : PlainSite) → PlainBody → Effect
 keeps_grant permission top site body cells held =
-    answers body cells
+    changes_to (change_requested permission top site) body cells
     (record held { grants = grants_requested permission top site held.grants })
 
 -- what a request of a site comes to is done. One of the rows of its table applies.

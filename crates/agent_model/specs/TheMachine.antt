@@ -6,11 +6,12 @@ use Rattle.unwinding.specs.Machine.{Machine}
 use Rattle.unwinding.specs.FiniteCells.{get_cell, set_cell, restrict_cells, merge_cells}
 use Rattle.suffix_list.specs.Suffix.{Rule}
 use Rattle.origin_site.specs.Site.{PlainSite, same_plain_site}
+use Rattle.row_changes.specs.Change.{PlainChange}
 use Rattle.script_lines.specs.Script.{PlainAction}
 use Rattle.agent_model.specs.CookieCells.{Domain, Cookies, domain_order, is_home, is_own}
 use Rattle.agent_model.specs.CookieCells.{equal_cookies}
 use Rattle.agent_model.specs.Partition.{Partition, empty_partition}
-use Rattle.agent_model.specs.Done.{SharedCells, Change, no_shared_cells}
+use Rattle.agent_model.specs.Done.{SharedCells, no_shared_cells}
 use Rattle.agent_model.specs.SiteEvent.{TimedEvent, Answer}
 use Rattle.agent_model.specs.SiteStep.{site_step}
 use Rattle.agent_model.specs.Consults.{event_names}
@@ -21,7 +22,7 @@ use Rattle.agent_model.specs.Rest.{refusal, rest_after}
 -- the machine under a list of rules
 unfoldable pub machine : List Rule
     → Machine PlainSite Domain SharedCells Partition Cookies Rest PlainAction TimedEvent Answer
-    Change
+    PlainChange
 machine rules =
     record {
       same_site = same_plain_site;

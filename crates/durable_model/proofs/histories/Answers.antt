@@ -1,0 +1,5 @@
+use Rattle.durable_model.proofs.HistoryLemmas.{has_isolated_histories, restarts_project}
+use Rattle.durable_model.proofs.histories.Goals as goal
+
+pub returns : goal.returns
+returns c = record { lines = has_isolated_histories; restarts = restarts_project }

@@ -8,7 +8,9 @@ use Rattle.storage_events.specs.declared.event.AreaKind.{AreaKind}
 use Rattle.storage_events.specs.Event.{PlainEvent}
 use Rattle.reply_lines.specs.Reply.{PlainBody, Plain, Text, Number}
 use Rattle.agent_model.specs.Partition.{Holdings, is_under, with_area}
-use Rattle.agent_model.specs.Done.{SharedCells, Effect, answers, ok}
+use Rattle.row_changes.specs.Change.{PlainChange}
+use Rattle.agent_model.specs.Done.{SharedCells, Effect, answers, changes_to, ok}
+use Rattle.agent_model.specs.Changes.{changes_of_write, durable_in}
 use Rattle.agent_model.specs.Documents.{Keyed, told}
 use Rattle.agent_model.specs.AreaActions.{pairs_of, change_event, write, store, set_by, set_item, remove_by, remove_item, clear_area, get_item, get_name, get_length}
 use Rattle.one_store.specs.HeldAt.{held_at, done_at, IsKeyed}
@@ -32,8 +34,13 @@ module _ (site : PlainSite) (here : ℕ → Bool) (kind : AreaKind) (writer : Ke
       ∙ each (pairs_of kind writer held)
 
   pub write_seen : (pairs : List Pair) (event : PlainEvent) (held : Holdings) → write kind writer pairs event cells (held_at site here held) ≡ done_at site here (write kind writer pairs event cells held)
-  write_seen pairs event held = ap (answers ok cells) (stored ∙ heard (with_area kind writer.at.tab writer.key pairs held))
+  write_seen pairs event held =
+      ap (λ before. changes_to (changes before) ok cells (with_told kind writer event (with_area kind writer.at.tab writer.key pairs (held_at site here held)))) (area_seen site here held kind writer.at.tab writer.key under)
+      ∙ ap (changes_to (changes (pairs_of kind writer held)) ok cells) (stored ∙ heard (with_area kind writer.at.tab writer.key pairs held))
     where
+      changes : List Pair → List PlainChange
+      changes before = durable_in kind (changes_of_write writer.key event.key event.after before)
+
       stored : with_told kind writer event (with_area kind writer.at.tab writer.key pairs (held_at site here held)) ≡ with_told kind writer event (held_at site here (with_area kind writer.at.tab writer.key pairs held))
       stored = ap (with_told kind writer event) (sym (with_area_seen site here held kind writer.at.tab writer.key pairs under))
 

@@ -1,5 +1,5 @@
 -- Modes of buckets and evictions, at one site and in all.
-use Rattle.std.proofs.Common.{◌≡◌, ℕ, Bool, true, false, cond, not, ◌&&◌, Some, None, refl, sym, ap, ◌∙◌}
+use Rattle.std.proofs.Common.{◌≡◌, ℕ, Bool, true, false, cond, not, ◌&&◌, [], ◌∷◌, Some, None, refl, sym, ap, ◌∙◌}
 use Rattle.std.specs.Prelude.{◌-◌, ◌^◌, min, is_some, codes}
 use Rattle.std.specs.FinMap as finite
 use Rattle.origin_site.specs.Site.{PlainSite, same_plain_site}
@@ -12,7 +12,9 @@ use Rattle.script_lines.specs.declared.words.Prompt.{Prompt}
 use Rattle.reply_lines.specs.Reply.{Plain, Truth, Estimate, Cleared}
 use Rattle.live_state.specs.Tabs.{PlainTab}
 use Rattle.agent_model.specs.Partition.{Holdings, is_under}
-use Rattle.agent_model.specs.Done.{SharedCells, answers}
+use Rattle.row_changes.specs.Change.{SetMode}
+use Rattle.agent_model.specs.Done.{SharedCells, answers, changes_to}
+use Rattle.agent_model.specs.Changes.{clears}
 use Rattle.agent_model.specs.Documents.{Keyed}
 use Rattle.agent_model.specs.Buckets.{is_persistent, get_mode, get_usage, is_grant, made_persistent, persist_by, persist, is_evicted, areas_left, areas_taken, evict}
 use Rattle.unwinding.proofs.FiniteCellsLemmas.{get_kept}
@@ -48,7 +50,7 @@ module _ (site : PlainSite) (here : ℕ → Bool) (held : Holdings) where
 
     persist_by_seen : (before granted : Bool) → persist_by before granted asker cells (held_at site here held) ≡ done_at site here (persist_by before granted asker cells held)
     persist_by_seen true granted = refl
-    persist_by_seen false true = ap (answers (Truth true) cells) made_persistent_seen
+    persist_by_seen false true = ap (changes_to (SetMode asker.key ∷ []) (Truth true) cells) made_persistent_seen
     persist_by_seen false false = refl
 
     pub persist_seen : (tab : PlainTab) (answer : Prompt) → persist tab answer asker cells (held_at site here held) ≡ done_at site here (persist tab answer asker cells held)
@@ -117,7 +119,7 @@ module _ (site : PlainSite) (here : ℕ → Bool) (held : Holdings) where
   -- at the site itself
   pub evict_seen : (cells : SharedCells) → evict site cells (held_at site here held) ≡ done_at site here (evict site cells held)
   evict_seen cells = λ i.
-      answers (Cleared (min (finite.len (taken_seen i)) (2 ^ 32 - 1))) cells (record (held_at site here held) { areas = left_seen i })
+      changes_to (clears (finite.keys (taken_seen i))) (Cleared (min (finite.len (taken_seen i)) (2 ^ 32 - 1))) cells (record (held_at site here held) { areas = left_seen i })
 
 -- at another site
 pub evict_unseen : (site other : PlainSite) (here : ℕ → Bool) (cells : SharedCells) (held : Holdings) → same_plain_site other site ≡ false → held_at other here (evict site cells held).held ≡ held_at other here held

@@ -9,6 +9,7 @@ use Rattle.script_lines.specs.Script.{HeadField}
 use Rattle.agent_model.specs.CookieCells.{Cookies}
 use Rattle.agent_model.specs.PartitionedCells.{PartitionedKey, partitioned_order}
 use Rattle.agent_model.specs.Partition.{Holdings, is_cell_under}
+use Rattle.row_changes.specs.Change.{PlainChange}
 use Rattle.agent_model.specs.Done.{SharedCells, Done, answers}
 use Rattle.agent_model.specs.Documents.{Keyed}
 use Rattle.agent_model.specs.CookieUse.{CookieUse, key_of}
@@ -26,10 +27,10 @@ module _ (site : PlainSite) (here : ℕ → Bool) (held : Holdings) where
       kept.kept_cell partitioned_order partitioned_order_total partitioned_order_same held.cookies (is_cell_under site) key
       ∙ ap (λ b. cond b (get_cell partitioned_order held.cookies key) []) is
 
-  module _ (rules : List Rule) (how : CookieUse) (own : Cookies → Cookies) (left : Cookies → Cookies) (body : Cookies → PlainBody) (cells : SharedCells) where
+  module _ (rules : List Rule) (how : CookieUse) (own left : Cookies → Cookies) (changes : Cookies → List PlainChange) (body : Cookies → PlainBody) (cells : SharedCells) where
     -- what is done, from the cookies of the partitioned cell
     abbrev made : Cookies → Holdings → Done
-    made found all = leaves rules how (record { own = own found; partition = left found }) (body found) cells all
+    made found all = leaves rules how (record { own = own found; partition = left found }) (changes found) (body found) cells all
 
     abbrev key : PartitionedKey
     key = key_of rules how
@@ -58,10 +59,10 @@ module _ (site : PlainSite) (here : ℕ → Bool) (held : Holdings) (rules : Lis
 
     -- a request
     pub request_seen : is_cell_under site (key_of rules how) ≡ true → request rules now how head cells (held_at site here held) ≡ done_at site here (request rules now how head cells held)
-    request_seen = use_seen site here held rules how (λ found. (stored found).both.own) (λ found. (stored found).both.partition) (λ found. Load (header_text (sent now how (both found))) (stored found).words) cells
+    request_seen = use_seen site here held rules how (λ found. (stored found).both.own) (λ found. (stored found).both.partition) (λ found. (stored found).changes) (λ found. Load (header_text (sent now how (both found))) (stored found).words) cells
 
     pub request_unseen : is_cell_under site (key_of rules how) ≡ false → held_at site here (request rules now how head cells held).held ≡ held_at site here held
-    request_unseen = use_unseen site here held rules how (λ found. (stored found).both.own) (λ found. (stored found).both.partition) (λ found. Load (header_text (sent now how (both found))) (stored found).words) cells
+    request_unseen = use_unseen site here held rules how (λ found. (stored found).both.own) (λ found. (stored found).both.partition) (λ found. (stored found).changes) (λ found. Load (header_text (sent now how (both found))) (stored found).words) cells
 
   module _ (top : PlainSite) (own : Keyed) where
     abbrev found_by : Cookies → BothCells
@@ -79,8 +80,8 @@ module _ (site : PlainSite) (here : ℕ → Bool) (held : Holdings) (rules : Lis
 
     pub set_seen : (text : List ℕ) → same_plain_site site top ≡ true → set_cookie rules now top text own cells (held_at site here held) ≡ done_at site here (set_cookie rules now top text own cells held)
     set_seen text =
-        use_seen site here held rules (script_use top own) (λ found. (set_by text found).both.own) (λ found. (set_by text found).both.partition) (λ found. SetOne (set_by text found).word) cells
+        use_seen site here held rules (script_use top own) (λ found. (set_by text found).both.own) (λ found. (set_by text found).both.partition) (λ found. (set_by text found).changes) (λ found. SetOne (set_by text found).word) cells
 
     pub set_unseen : (text : List ℕ) → same_plain_site site top ≡ false → held_at site here (set_cookie rules now top text own cells held).held ≡ held_at site here held
     set_unseen text =
-        use_unseen site here held rules (script_use top own) (λ found. (set_by text found).both.own) (λ found. (set_by text found).both.partition) (λ found. SetOne (set_by text found).word) cells
+        use_unseen site here held rules (script_use top own) (λ found. (set_by text found).both.own) (λ found. (set_by text found).both.partition) (λ found. (set_by text found).changes) (λ found. SetOne (set_by text found).word) cells

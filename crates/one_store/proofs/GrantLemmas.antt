@@ -18,8 +18,8 @@ use Rattle.live_state.specs.Tabs.{PlainTab}
 use Rattle.script_lines.specs.declared.words.Prompt.{Prompt}
 use Rattle.reply_lines.specs.Reply.{PlainBody, Plain}
 use Rattle.agent_model.specs.Partition.{Holdings}
-use Rattle.agent_model.specs.Done.{SharedCells, Effect, answers}
-use Rattle.agent_model.specs.StorageAccess.{access_facts, answer_of, decision_word, done_by, embedded_site, grants_requested, keeps_grant, outcome_of, request_access}
+use Rattle.agent_model.specs.Done.{SharedCells, Effect, changes_to}
+use Rattle.agent_model.specs.StorageAccess.{access_facts, answer_of, change_requested, decision_word, done_by, embedded_site, grants_requested, keeps_grant, outcome_of, request_access, row_of}
 use Rattle.one_store.specs.HeldAt.{held_at, done_at}
 use Rattle.one_store.proofs.DocumentLemmas.{with_document_seen, with_document_unseen}
 use Rattle.one_store.proofs.TabLemmas.{on_frames_seen, on_frames_unseen}
@@ -27,10 +27,6 @@ use Rattle.one_store.proofs.TabLemmas.{on_frames_seen, on_frames_unseen}
 -- what a request comes to goes by the permissions under its own top-level site
 outcome_seen : (top site : PlainSite) (facts : Facts) (answer : Answer) (now : ℕ) (grants : List PlainGrant) → outcome_of top site facts answer now (grants_under top grants) ≡ outcome_of top site facts answer now grants
 outcome_seen top site facts answer now grants = ap (λ found. first_row (request_rows facts (state_by (pos now) found) answer (pos now))) (find_under top site grants)
-
--- the row of a permission
-abbrev row_of : Permission → (top site : PlainSite) → PlainGrant
-row_of permission top site = record { top = top; site = site; granted = permission.granted; until = permission.until }
 
 -- what is kept is kept under that site
 requested_seen : (permission : Option Permission) (top site : PlainSite) (grants : List PlainGrant)
@@ -56,7 +52,7 @@ module _ (rules : List Rule) (now : ℕ) (top : PlainSite) (cells : SharedCells)
   module _ (here : ℕ → Bool) (is : here at.tab ≡ true) where
     keeps_seen : (permission : Option Permission) (site : PlainSite) (body : PlainBody) (all : Holdings)
         → keeps_grant permission top site body cells (held_at top here all) ≡ done_at top here (keeps_grant permission top site body cells all)
-    keeps_seen permission site body all = ap (λ grants. answers body cells (record (held_at top here all) { grants = grants })) (requested_seen permission top site all.grants)
+    keeps_seen permission site body all = ap (λ grants. changes_to (change_requested permission top site) body cells (record (held_at top here all) { grants = grants })) (requested_seen permission top site all.grants)
 
     done_seen : (outcome : Option Outcome) (site : PlainSite) → done_by outcome at tab top site cells (held_at top here held) ≡ done_at top here (done_by outcome at tab top site cells held)
     done_seen None site = refl

@@ -10,7 +10,8 @@ use Rattle.script_lines.specs.Script.{PlainAction}
 use Rattle.reply_lines.specs.Reply.{PlainBody}
 use Rattle.agent_model.specs.CookieCells.{Domain, domain_order, is_own}
 use Rattle.agent_model.specs.Partition.{Partition}
-use Rattle.agent_model.specs.Done.{SharedCells, Change, no_shared_cells}
+use Rattle.row_changes.specs.Change.{PlainChange}
+use Rattle.agent_model.specs.Done.{SharedCells, no_shared_cells}
 use Rattle.agent_model.specs.SiteEvent.{TimedEvent, Answer, SiteOutcome}
 use Rattle.agent_model.specs.Consults.{event_names}
 use Rattle.agent_model.specs.SiteStep.{site_step}
@@ -35,7 +36,7 @@ pub record LineMakes (rules : List Rule) (before : AgentWorld) (action : PlainAc
   pub reply : line_reply (machine rules) before action ≡ told
 
 -- an outcome with a reply
-abbrev pub outcome_of : Partition → SharedCells → List Change → Answer → SiteOutcome
+abbrev pub outcome_of : Partition → SharedCells → List PlainChange → Answer → SiteOutcome
 outcome_of partition cells changes answer = record { partition = partition; cells = cells; reply = Some answer; changes = changes }
 
 -- a partition after the event beside the main one, which sees no shared cell
@@ -62,7 +63,7 @@ module _ (rules : List Rule) (w : AgentWorld) (action : PlainAction) where
     abbrev world_then : SharedCells → AgentWorld
     world_then cells = record { partition = after; cells = cells; rest = rest }
 
-    module _ (site : PlainSite) (event : TimedEvent) (changes : List Change) (answer : Answer) (main : main_event rules w action ≡ Some (record { site = site; event = event }))
+    module _ (site : PlainSite) (event : TimedEvent) (changes : List PlainChange) (answer : Answer) (main : main_event rules w action ≡ Some (record { site = site; event = event }))
         (others : (other : PlainSite) → same_plain_site other site ≡ false → beside other ≡ after other) where
       -- the cells that the event consults
       abbrev asked : Domain → Bool

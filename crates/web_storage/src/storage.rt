@@ -145,7 +145,10 @@ impl Storage {
     {
         match self.present_mut(kind, tab, key) {
             Some(area) => area.put(name, value),
-            None => self.put_first(kind, tab, key, name, value),
+            None => match self.area_mut(kind, tab, key) {
+                Ok(area) => area.put(name, value),
+                Err(NoMemory) => Err(AreaFault::without_area(&name, &value)),
+            },
         }
     }
 
@@ -251,43 +254,6 @@ impl Storage {
 }
 
 impl Storage {
-    // The same as `put`, with room made where the area is not there.
-    fn put_first(
-        &mut self,
-        kind: AreaKind,
-        tab: u16,
-        key: &StorageKey,
-        name: String,
-        value: String,
-    ) -> Result<Put, AreaFault>
-        ensures stored { (beside : Holdings) → let before = held_with beside self.old in
-            let here = area_of kind tab (plain_key key.now) before in
-            let pairs = area_put (string_bytes name) (string_bytes value) here in
-            OnOk result (held_with beside self.new
-            ≡ with_area kind tab (plain_key key.now) pairs before) }
-        ensures answer { (beside : Holdings)
-            → let pairs = area_of kind tab (plain_key key.now) (held_with beside self.old) in
-            IfOk result (λ p. plain_put p
-            ≡ put_answer (string_bytes name) (string_bytes value) pairs) }
-        ensures quota { (beside : Holdings)
-            → let pairs = area_of kind tab (plain_key key.now) (held_with beside self.old) in
-            let after = area_weight (area_put (string_bytes name) (string_bytes value) pairs) in
-            (result ≡ Err (AreaFault.Quota after)) ↔ (quota < after) }
-        ensures causes { (beside : Holdings)
-            → let pairs = area_of kind tab (plain_key key.now) (held_with beside self.old) in
-            let after = area_weight (area_put (string_bytes name) (string_bytes value) pairs) in
-            IfErr result (λ e. (e ≡ AreaFault.Quota after) ⊎ (e ≡ AreaFault.NoMemory)) }
-        ensures memory { (beside : Holdings)
-            → let pairs = area_of kind tab (plain_key key.now) (held_with beside self.old) in
-            result ≡ Err AreaFault.NoMemory → area_get (string_bytes name) pairs ≡ None }
-        ensures unchanged { OnErr result (HoldsSame self.old self.new) }
-    {
-        match self.area_mut(kind, tab, key) {
-            Ok(area) => area.put(name, value),
-            Err(NoMemory) => Err(AreaFault::without_area(&name, &value)),
-        }
-    }
-
     // Makes room for an area.
     fn reserve(&mut self, kind: AreaKind, tab: u16, key: &StorageKey) -> Result<(), NoMemory>
         ensures same { HoldsSame self.old self.new }

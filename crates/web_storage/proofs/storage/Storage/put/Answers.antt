@@ -1,6 +1,7 @@
 -- An area that is there is written through its loan, and one that a refusal leaves is given back as it was.
 use Rattle.std.proofs.Common.{◌∙◌, ap}
 use Rattle.std.specs.Prelude.{string_bytes}
+use Rattle.std.specs.Result.{is_ok}
 use Rattle.std.proofs.lemmas.Result.{on_err_weaker, on_ok_weaker}
 use Rattle.storage_key.specs.Plain.{plain_key}
 use Rattle.local_area.specs.Area.{area_put}
@@ -26,3 +27,11 @@ returns-in-Some-clause-unchanged c =
     on_err_weaker c.put.result (λ kept beside. held beside
     ∙ area_itself beside c.args.kind c.args.tab (plain_key c.args.key.now) c.put.new.self c.args.self.now (kept ∙ c.in-Some.ensures.area beside))
     c.put.ensures.unchanged
+
+pub returns-in-Ok-clause-unchanged : goal.returns-in-Ok-clause-unchanged
+returns-in-Ok-clause-unchanged c =
+    on_err_weaker c.put-in-Ok.result (λ kept beside.
+    c.area_mut.follows.holds c.put-in-Ok.new.self (ap is_ok c.in-Ok.is) beside
+    ∙ area_itself beside c.args.kind c.args.tab (plain_key c.args.key.now) c.put-in-Ok.new.self _ (kept ∙ c.in-Ok.ensures.area beside)
+    ∙ c.present_mut.follows.holds-at-none beside)
+    c.put-in-Ok.ensures.unchanged

@@ -23,7 +23,7 @@ pub cookies_cond : (b : Bool) (x : PlainJar) (y : Option PlainJar) → cookies_o
 cookies_cond true x y = refl
 cookies_cond false x y = refl
 
-shared_with : (d : Domain) (key : PlainKey) (cookies : Cookies) (m : CookieCells)
+pub shared_with : (d : Domain) (key : PlainKey) (cookies : Cookies) (m : CookieCells)
     → get_cell domain_order (with_shared key cookies m) d ≡ cond (eq_by_cmp cell_order (OwnCell d) key) cookies (get_cell domain_order m d)
 shared_with d (OwnCell c) cookies m = cells.get_set domain_order domain_order_total domain_order_same d c cookies m
 shared_with d (PartitionCell top bit c) cookies m = refl
@@ -36,7 +36,7 @@ shared_at d (e ∷ es) =
     ∙ ap (λ r. cond (eq_by_cmp cell_order (OwnCell d) (plain_key e.0)) e.1.cookies r) (shared_at d es)
     ∙ sym (cookies_cond (eq_by_cmp cell_order (OwnCell d) (plain_key e.0)) e.1 (jar_at (OwnCell d) es))
 
-partitioned_with : (k : PartitionedKey) (key : PlainKey) (cookies : Cookies) (m : PartitionedCells)
+pub partitioned_with : (k : PartitionedKey) (key : PlainKey) (cookies : Cookies) (m : PartitionedCells)
     → get_cell partitioned_order (with_partitioned key cookies m) k ≡ cond (eq_by_cmp cell_order (cell_key k) key) cookies (get_cell partitioned_order m k)
 partitioned_with k (OwnCell c) cookies m = refl
 partitioned_with k (PartitionCell top bit c) cookies m =

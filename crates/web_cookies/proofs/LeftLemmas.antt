@@ -13,6 +13,7 @@ use Rattle.agent_model.specs.Partition.{Holdings}
 use Rattle.agent_model.specs.Done.{Effect}
 use Rattle.agent_model.specs.CookieUse.{CookieUse, cookie_domain, key_of, uses_own}
 use Rattle.agent_model.specs.CookieStore.{BothCells}
+use Rattle.row_changes.specs.Change.{PlainChange}
 use Rattle.agent_model.specs.Cookies.{both_found, leaves, own_left}
 use Rattle.agent_model.proofs.CookieCellsLemmas.{domain_order_total, domain_order_same, same_cells}
 use Rattle.agent_model.proofs.PartitionedLemmas.{partitioned_order_total, partitioned_order_same}
@@ -87,10 +88,10 @@ module _ (rules : List Rule) (how : CookieUse) where
         none k false = refl
 
     -- so an effect that leaves both cells so is done
-    pub done_leaves : (does : Effect) (body : PlainBody)
-        → ((held : Holdings) → does (shared_in old) (held_with old held) ≡ leaves rules how both body (shared_in old) (held_with old held))
+    pub done_leaves : (does : Effect) (changes : List PlainChange) (body : PlainBody)
+        → ((held : Holdings) → does (shared_in old) (held_with old held) ≡ leaves rules how both changes body (shared_in old) (held_with old held))
         → IsDoneBy does old new body
-    done_leaves does body is = λ held. record {
+    done_leaves does changes body is = λ held. record {
       cells = shared_left ∙ sym (ap (λ done. done.cells) (is held));
       held = ap (λ cookies. record held { cookies = cookies }) partitioned_left ∙ sym (ap (λ done. done.held) (is held));
       body = sym (ap (λ done. done.body) (is held));

@@ -9,5 +9,8 @@ pub mod HeaderLemmas
 pub mod PreparedLemmas
 -- Texts that are stored.
 pub mod TextLemmas
+-- Cookies at places of cells.
+mod LimitLemmas
+pub mod RowsLemmas
 -- Values of the definitions.
 mod StandardFacts

@@ -17,6 +17,8 @@ use Rattle.agent_model.specs.Done.{Effect, answers}
 use Rattle.agent_model.specs.CookieUse.{CookieUse, cookie_domain, uses_own}
 use Rattle.agent_model.specs.CookieStore.{BothCells, both_marked, cookie_texts, header_text, own_places, partition_places, sent, store_text, store_texts}
 use Rattle.agent_model.specs.Cookies.{leaves, read_cookies_by, request, set_cookie_by}
+use Rattle.row_changes.specs.Change.{PlainChange}
+use Rattle.web_cookies.specs.Words.{AreStored, IsStored}
 use Rattle.web_cookies.specs.Stored.{Entries, IsDoneBy, held_with, shared_in}
 use Rattle.web_cookies.specs.Cells.{HaveKinds, cell_order, cookies_at, jar_at, kind_of}
 use Rattle.web_cookies.specs.Prepared.{HasPlace, IsReady, IsReadyIf, Prepares, changed, changed_if, cookies_after}
@@ -35,20 +37,23 @@ module _ (rules : List Rule) (now : ℕ) (how : CookieUse) (entries : Entries) (
   pub request_is : (head : List HeadField)
       → request rules now how head (shared_in entries) (held_with entries held)
       ≡ leaves rules how (store_texts rules now how (both_marked now how (found rules how entries)) (cookie_texts head)).both
+      (store_texts rules now how (both_marked now how (found rules how entries)) (cookie_texts head)).changes
       (Load (header_text (sent now how (found rules how entries))) (store_texts rules now how (both_marked now how (found rules how entries)) (cookie_texts head)).words)
       (shared_in entries) (held_with entries held)
   request_is head =
       ap (λ both. leaves rules how (store_texts rules now how (both_marked now how both) (cookie_texts head)).both
+      (store_texts rules now how (both_marked now how both) (cookie_texts head)).changes
       (Load (header_text (sent now how both)) (store_texts rules now how (both_marked now how both) (cookie_texts head)).words)
       (shared_in entries) (held_with entries held)) (found_is rules how entries held)
 
   pub set_is : (text : List ℕ)
       → set_cookie_by rules now how text (shared_in entries) (held_with entries held)
-      ≡ leaves rules how (store_text rules now how (found rules how entries) text).both
+      ≡ leaves rules how (store_text rules now how (found rules how entries) text).both (store_text rules now how (found rules how entries) text).changes
       (SetOne (store_text rules now how (found rules how entries) text).word)
       (shared_in entries) (held_with entries held)
   set_is text =
-      ap (λ both. leaves rules how (store_text rules now how both text).both (SetOne (store_text rules now how both text).word)
+      ap (λ both. leaves rules how (store_text rules now how both text).both (store_text rules now how both text).changes
+      (SetOne (store_text rules now how both text).word)
       (shared_in entries) (held_with entries held)) (found_is rules how entries held)
 
   pub read_is : read_cookies_by rules now how (shared_in entries) (held_with entries held)
@@ -59,13 +64,13 @@ module _ (rules : List Rule) (now : ℕ) (how : CookieUse) (entries : Entries) (
 
 module _ (rules : List Rule) (how : CookieUse) (entries : Entries) (prepared : Prepared) where
   -- an effect that leaves what was prepared
-  pub prepares_left : (both : BothCells) (does : Effect) → CanBeDone prepared entries → LeavesBoth rules how both entries prepared
-      → ((held : Holdings) → does (shared_in entries) (held_with entries held) ≡ leaves rules how both (body_of prepared.body) (shared_in entries) (held_with entries held))
+  pub prepares_left : (both : BothCells) (changes : List PlainChange) (does : Effect) → CanBeDone prepared entries → LeavesBoth rules how both entries prepared
+      → ((held : Holdings) → does (shared_in entries) (held_with entries held) ≡ leaves rules how both changes (body_of prepared.body) (shared_in entries) (held_with entries held))
       → Prepares does entries prepared
-  prepares_left both does can left is = record {
+  prepares_left both changes does can left is = record {
     own = can.own;
     partition = can.partition;
-    done = λ new after. done_leaves rules how both entries new (λ key. after key ∙ left key) does (body_of prepared.body) is;
+    done = λ new after. done_leaves rules how both entries new (λ key. after key ∙ left key) does changes (body_of prepared.body) is;
   }
 
   not_own : is_key (partition_key rules how) (own_key rules how) ≡ false
@@ -175,21 +180,23 @@ module _ (rules : List Rule) (now : ℕ) (how : CookieUse) where
       (before after : BothCells) (header : Option (List ℕ)) (words : List (List ℕ))
       → HoldSame old new
       → before ≡ both_marked now how (found rules how old)
-      → store_texts rules now how before (cookie_texts head) ≡ record { both = after; words = words }
+      → AreStored (store_texts rules now how before (cookie_texts head)) after words
       → header ≡ header_text (sent now how (found rules how old))
       → body_of prepared.body ≡ Load header words
       → LeavesBoth rules how after new prepared → CanBeDone prepared new
       → Prepares (request rules now how head) new prepared
   request_prepared old new head prepared before after header words same marks stores tells is_body left can =
-      prepares_left rules how new prepared after (request rules now how head) can left (λ held.
+      let stored = store_texts rules now how before (cookie_texts head) in
+      prepares_left rules how new prepared after stored.changes (request rules now how head) can left (λ held.
       request_is rules now how new held head
       ∙ ap (λ f. leaves rules how (store_texts rules now how (both_marked now how f) (cookie_texts head)).both
+      (store_texts rules now how (both_marked now how f) (cookie_texts head)).changes
       (Load (header_text (sent now how f)) (store_texts rules now how (both_marked now how f) (cookie_texts head)).words)
       (shared_in new) (held_with new held)) (found_same rules how old new same)
-      ∙ ap (λ t. leaves rules how t.both (Load (header_text (sent now how (found rules how old))) t.words) (shared_in new) (held_with new held))
-      (ap (λ b. store_texts rules now how b (cookie_texts head)) (sym marks) ∙ stores)
-      ∙ ap (λ h. leaves rules how after (Load h words) (shared_in new) (held_with new held)) (sym tells)
-      ∙ ap (λ b. leaves rules how after b (shared_in new) (held_with new held)) (sym is_body))
+      ∙ ap (λ b. let t = store_texts rules now how b (cookie_texts head) in
+      leaves rules how t.both t.changes (Load (header_text (sent now how (found rules how old))) t.words) (shared_in new) (held_with new held)) (sym marks)
+      ∙ (λ i. leaves rules how (stores.0 i) stored.changes (Load (sym tells i) (stores.1 i)) (shared_in new) (held_with new held))
+      ∙ ap (λ b. leaves rules how after stored.changes b (shared_in new) (held_with new held)) (sym is_body))
 
   -- a request whose response stores nothing
   pub marking_prepared : (entries : Entries) (head : List HeadField) (prepared : Prepared) (own : Option PlainKey) (partition : PlainKey)
@@ -205,7 +212,10 @@ module _ (rules : List Rule) (now : ℕ) (how : CookieUse) where
       → Prepares (request rules now how head) entries prepared
   marking_prepared entries head prepared own partition own_at partition_at header is_own is_partition owns partitions are_own are_partition can tells is_body none =
       request_prepared entries entries head prepared (both_marked now how (found rules how entries)) (both_marked now how (found rules how entries)) header []
-      (λ key. refl) refl (ap (store_texts rules now how (both_marked now how (found rules how entries))) none) tells is_body
+      (λ key. refl) refl (
+        ap (λ texts. (store_texts rules now how (both_marked now how (found rules how entries)) texts).both) none,
+        ap (λ texts. (store_texts rules now how (both_marked now how (found rules how entries)) texts).words) none,
+      ) tells is_body
       (marked_left rules how entries prepared now own_at partition_at
       (subst (λ key. IsChange key (marked own_at (pos now)) prepared.own) is_own owns)
       (subst (λ key. IsChange (Some key) (marked partition_at (pos now)) (Some prepared.partition)) is_partition partitions)
@@ -215,16 +225,18 @@ module _ (rules : List Rule) (now : ℕ) (how : CookieUse) where
   -- a script that sets a cookie
   pub set_prepared : (old new : Entries) (text : List ℕ) (prepared : Prepared) (after : BothCells) (word : List ℕ)
       → HoldSame old new
-      → store_text rules now how (found rules how old) text ≡ record { both = after; word = word }
+      → IsStored (store_text rules now how (found rules how old) text) after word
       → body_of prepared.body ≡ SetOne word
       → LeavesBoth rules how after new prepared → CanBeDone prepared new
       → Prepares (set_cookie_by rules now how text) new prepared
   set_prepared old new text prepared after word same stores is_body left can =
-      prepares_left rules how new prepared after (set_cookie_by rules now how text) can left (λ held.
+      let stored = store_text rules now how (found rules how old) text in
+      prepares_left rules how new prepared after stored.changes (set_cookie_by rules now how text) can left (λ held.
       set_is rules now how new held text
-      ∙ ap (λ t. leaves rules how t.both (SetOne t.word) (shared_in new) (held_with new held))
-      (ap (λ f. store_text rules now how f text) (found_same rules how old new same) ∙ stores)
-      ∙ ap (λ b. leaves rules how after b (shared_in new) (held_with new held)) (sym is_body))
+      ∙ ap (λ f. let t = store_text rules now how f text in
+      leaves rules how t.both t.changes (SetOne t.word) (shared_in new) (held_with new held)) (found_same rules how old new same)
+      ∙ (λ i. leaves rules how (stores.0 i) stored.changes (SetOne (stores.1 i)) (shared_in new) (held_with new held))
+      ∙ ap (λ b. leaves rules how after stored.changes b (shared_in new) (held_with new held)) (sym is_body))
 
   pub read_done : (entries : Entries) (text : List ℕ) → text ≡ joined (sent now how (found rules how entries)) → IsDoneBy (read_cookies_by rules now how) entries entries (Cookie text)
   read_done entries text is = λ held. record {

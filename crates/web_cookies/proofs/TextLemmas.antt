@@ -19,13 +19,13 @@ use Rattle.cookie_jar.specs.Steps.{after_steps}
 use Rattle.cookie_jar.specs.Stored.{plain_stored}
 use Rattle.agent_model.specs.CookieCells.{Cookies}
 use Rattle.agent_model.specs.CookieWords.{drop_word, stored_word}
-use Rattle.web_cookies.specs.Words.{IsWordOf, jar_left, word_by}
+use Rattle.web_cookies.specs.Words.{IsStored, IsWordOf, jar_left, word_by}
 use Rattle.std.specs.List.{list_any}
 use Rattle.case_tables.specs.Rows.{same_in_any_case}
 use Rattle.suffix_list.specs.Suffix.{Rule}
 use Rattle.script_lines.specs.Script.{HeadField}
-use Rattle.agent_model.specs.CookieUse.{CookieUse, access_of}
-use Rattle.agent_model.specs.CookieStore.{BothCells, cookie_texts, done_by, store_parsed, store_text, store_texts, stored_in}
+use Rattle.agent_model.specs.CookieUse.{CookieUse, access_of, own_cell, partition_cell}
+use Rattle.agent_model.specs.CookieStore.{BothCells, cookie_texts, done_by, dropped_by, store_parsed, store_text, store_texts, stored_in}
 
 -- a field has a Set-Cookie text
 abbrev pub is_text : HeadField → Bool
@@ -86,19 +86,20 @@ planned_fresh rules text access kind now cs plan is =
     plan_fresh (plan_of kind now (made_with (own_domain rules access (lower_domain text)) text access now) cs) (dropped rules text access now cs) plan is
 
 module _ (rules : List Rule) (now : ℕ) (how : CookieUse) (text : CookieText) (both : BothCells) where
+  -- a plan for a cell leaves what its jar is, and is answered by its word
   own_done : (plan : Result PlainPlan CookieDrop)
-      → done_by (λ cs. record both { own = cs }) both.own both plan ≡ record { both = record both { own = jar_left both.own plan }; word = word_by plan }
-  own_done (Ok plan) = refl
-  own_done (Err cause) = refl
+      → IsStored (done_by (own_cell rules how) (λ cs. record both { own = cs }) both.own both plan) (record both { own = jar_left both.own plan }) (word_by plan)
+  own_done (Ok plan) = (refl, refl)
+  own_done (Err cause) = (refl, refl)
 
   partition_done : (plan : Result PlainPlan CookieDrop)
-      → done_by (λ cs. record both { partition = cs }) both.partition both plan ≡ record { both = record both { partition = jar_left both.partition plan }; word = word_by plan }
-  partition_done (Ok plan) = refl
-  partition_done (Err cause) = refl
+      → IsStored (done_by (partition_cell rules how) (λ cs. record both { partition = cs }) both.partition both plan) (record both { partition = jar_left both.partition plan }) (word_by plan)
+  partition_done (Ok plan) = (refl, refl)
+  partition_done (Err cause) = (refl, refl)
 
-  none_done : (plan : Result PlainPlan CookieDrop) → done_by (λ cs. both) [] both plan ≡ record { both = both; word = word_by plan }
-  none_done (Ok plan) = refl
-  none_done (Err cause) = refl
+  none_done : (plan : Result PlainPlan CookieDrop) → IsStored (dropped_by both plan) both (word_by plan)
+  none_done (Ok plan) = (refl, refl)
+  none_done (Err cause) = (refl, refl)
 
   abbrev plan_in : CellKind → PlainAccess → Cookies → Result PlainPlan CookieDrop
   plan_in kind access cs = planned rules text access kind (pos now) cs
@@ -110,37 +111,35 @@ module _ (rules : List Rule) (now : ℕ) (how : CookieUse) (text : CookieText) (
 
     pub kept_own : to.Own ≡ destination text access → (k : CellKind) → k ≡ kind.Own → (new : Cookies) (word : List ℕ)
         → (new ≡ jar_left both.own (plan_in k access both.own)) × (word ≡ word_by (plan_in k access both.own))
-        → store_parsed rules now how both (Kept text) ≡ record { both = record { own = new; partition = both.partition }; word = word }
+        → IsStored (store_parsed rules now how both (Kept text)) (record { own = new; partition = both.partition }) word
     kept_own at k own new word left =
-        goes to.Own at ∙ own_done (plan_in kind.Own (access_of how) both.own)
-        ∙ ap (λ a. record { both = record both { own = jar_left both.own (plan_in kind.Own a both.own) }; word = word_by (plan_in kind.Own a both.own) }) (sym is)
-        ∙ ap (λ k. record { both = record both { own = jar_left both.own (plan_in k access both.own) }; word = word_by (plan_in k access both.own) }) (sym own)
-        ∙ (λ i. record { both = record { own = sym left.0 i; partition = both.partition }; word = sym left.1 i })
+        let stored = goes to.Own at in
+        let done = own_done (plan_in kind.Own (access_of how) both.own) in
+        let planned_so : plan_in kind.Own (access_of how) both.own ≡ plan_in k access both.own = λ i. plan_in (sym own i) (sym is i) both.own in (
+          ap (λ s. s.both) stored ∙ done.0 ∙ ap (λ p. record both { own = jar_left both.own p }) planned_so ∙ ap (λ cs. record both { own = cs }) (sym left.0),
+          ap (λ s. s.word) stored ∙ done.1 ∙ ap word_by planned_so ∙ sym left.1,
+        )
 
     pub kept_partition : to.Partition ≡ destination text access → (k : CellKind) → k ≡ kind.Partition → (new : Cookies) (word : List ℕ)
         → (new ≡ jar_left both.partition (plan_in k access both.partition)) × (word ≡ word_by (plan_in k access both.partition))
-        → store_parsed rules now how both (Kept text) ≡ record { both = record { own = both.own; partition = new }; word = word }
+        → IsStored (store_parsed rules now how both (Kept text)) (record { own = both.own; partition = new }) word
     kept_partition at k partition new word left =
-        goes to.Partition at ∙ partition_done (plan_in kind.Partition (access_of how) both.partition)
-        ∙ ap (λ a. record {
-          both = record both { partition = jar_left both.partition (plan_in kind.Partition a both.partition) };
-          word = word_by (plan_in kind.Partition a both.partition);
-        }) (sym is)
-        ∙ ap (λ k. record {
-          both = record both { partition = jar_left both.partition (plan_in k access both.partition) };
-          word = word_by (plan_in k access both.partition);
-        }) (sym partition)
-        ∙ (λ i. record { both = record { own = both.own; partition = sym left.0 i }; word = sym left.1 i })
+        let stored = goes to.Partition at in
+        let done = partition_done (plan_in kind.Partition (access_of how) both.partition) in
+        let planned_so : plan_in kind.Partition (access_of how) both.partition ≡ plan_in k access both.partition = λ i. plan_in (sym partition i) (sym is i) both.partition in (
+          ap (λ s. s.both) stored ∙ done.0 ∙ ap (λ p. record both { partition = jar_left both.partition p }) planned_so
+              ∙ ap (λ cs. record both { partition = cs }) (sym left.0),
+          ap (λ s. s.word) stored ∙ done.1 ∙ ap word_by planned_so ∙ sym left.1,
+        )
 
     pub kept_nowhere : to.Nowhere ≡ destination text access → (k : CellKind) → k ≡ kind.Own → (cookies : Cookies) → cookies ≡ [] → (word : List ℕ)
         → word ≡ word_by (plan_in k access cookies)
-        → store_parsed rules now how both (Kept text) ≡ record { both = both; word = word }
+        → IsStored (store_parsed rules now how both (Kept text)) both word
     kept_nowhere at k own cookies none word is_word =
-        goes to.Nowhere at ∙ none_done (plan_in kind.Own (access_of how) [])
-        ∙ ap (λ a. record { both = both; word = word_by (plan_in kind.Own a []) }) (sym is)
-        ∙ ap (λ k. record { both = both; word = word_by (plan_in k access []) }) (sym own)
-        ∙ ap (λ cs. record { both = both; word = word_by (plan_in k access cs) }) (sym none)
-        ∙ ap (λ w. record { both = both; word = w }) (sym is_word)
+        let stored = goes to.Nowhere at in
+        let done = none_done (plan_in kind.Own (access_of how) []) in
+        let planned_so : plan_in kind.Own (access_of how) [] ≡ plan_in k access cookies = λ i. plan_in (sym own i) (sym is i) (sym none i) in
+        (ap (λ s. s.both) stored ∙ done.0, ap (λ s. s.word) stored ∙ done.1 ∙ ap word_by planned_so ∙ sym is_word)
 
 -- ---- several texts
 

@@ -4,6 +4,7 @@ pub mod Uses
 pub mod Cells
 pub mod Becoming
 pub mod Prepared
+pub mod Rows
 -- What private functions compute. No public clause rests on it.
 pub mod Found
 pub mod Words

@@ -6,7 +6,16 @@ use Rattle.cookie_jar.specs.declared.store.Stored.{Stored}
 use Rattle.cookie_jar.specs.Planned.{PlainPlan}
 use Rattle.cookie_jar.specs.Steps.{after_steps}
 use Rattle.agent_model.specs.CookieCells.{Cookies}
+use Rattle.agent_model.specs.CookieStore.{BothCells, StoredText, StoredTexts}
 use Rattle.agent_model.specs.CookieWords.{drop_word, stored_word}
+
+-- a text leaves both cells so, and this word answers it
+abbrev pub IsStored : StoredText → BothCells → List ℕ → Type 0
+IsStored stored both word = (stored.both ≡ both) × (stored.word ≡ word)
+
+-- texts leave both cells so, and these words answer them
+abbrev pub AreStored : StoredTexts → BothCells → List (List ℕ) → Type 0
+AreStored stored both words = (stored.both ≡ both) × (stored.words ≡ words)
 
 -- the cookies of a jar, once a plan was done
 abbrev pub jar_left : Cookies → Result PlainPlan CookieDrop → Cookies

@@ -8,7 +8,7 @@ ghost use Rattle.setcookie_parse.specs.Views.{cookie_view};
 ghost use Rattle.agent_model.specs.CookieStore as spec;
 ghost use Rattle.agent_model.specs.Rest.{last_moment};
 ghost use Rattle.case_tables.specs.Rows.{same_in_any_case};
-ghost use Rattle.web_cookies.specs.Words.{IsWordOf, jar_left, word_by};
+ghost use Rattle.web_cookies.specs.Words.{AreStored, IsStored, IsWordOf, jar_left, word_by};
 ghost use Rattle.cookie_jar.specs.Planned.{planned};
 ghost use Rattle.cookie_jar.specs.Views.{plain_access};
 ghost use Rattle.web_cookies.specs.Uses.{plain_use};
@@ -65,9 +65,9 @@ impl BothJars {
         head: &[HeadField],
     ) -> Result<Vec<&'static str>, NoMemory>
         requires now { now ≤ last_moment }
-        ensures stored { IfOk result (λ words. spec.store_texts list.now.rules now
-            (plain_use how.now) self.old (spec.cookie_texts (map head_field_of head.now))
-            ≡ record { both = self.new; words = map (λ word. word.now) words.items }) }
+        ensures stored { IfOk result (λ words. AreStored (spec.store_texts list.now.rules now
+            (plain_use how.now) self.old (spec.cookie_texts (map head_field_of head.now)))
+            self.new (map (λ word. word.now) words.items)) }
     {
         let mut words = Vec::new(alloc);
         for field in head {
@@ -114,9 +114,8 @@ impl BothJars {
         text: &str,
     ) -> Result<&'static str, NoMemory>
         requires now { now ≤ last_moment }
-        ensures stored { IfOk result (λ word. spec.store_text list.now.rules now
-            (plain_use how.now) self.old text.now
-            ≡ record { both = self.new; word = word.now }) }
+        ensures stored { IfOk result (λ word. IsStored (spec.store_text list.now.rules now
+            (plain_use how.now) self.old text.now) self.new word.now) }
     {
         match parse(text, now as i64) {
             Parsed::Dropped(why) => Ok(parse_word(why)),
@@ -135,9 +134,8 @@ impl BothJars {
     ) -> Result<&'static str, NoMemory>
         requires now { now ≤ last_moment }
         requires pair { length cookie.now.name.now + length cookie.now.value.now ≤ 4096 }
-        ensures stored { IfOk result (λ word. spec.store_parsed list.now.rules now
-            (plain_use how.now) self.old (Kept (cookie_view cookie.now))
-            ≡ record { both = self.new; word = word.now }) }
+        ensures stored { IfOk result (λ word. IsStored (spec.store_parsed list.now.rules now
+            (plain_use how.now) self.old (Kept (cookie_view cookie.now))) self.new word.now) }
     {
         let access = access_of(how);
         match destination(cookie, &access) {

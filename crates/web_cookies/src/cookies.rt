@@ -36,7 +36,7 @@ use suffix_list::SuffixList;
 /// A cell that is empty and one that is absent are the same.
 #[derive(Debug, Drop)]
 pub struct Cookies {
-    cells: KeyMap<CellKey, Jar>,
+    pub(crate) cells: KeyMap<CellKey, Jar>,
 }
 
 impl Model for Cookies {
@@ -305,7 +305,12 @@ impl Cookies {
     }
 
     // Makes a place for the jar of a key. One that is made is empty.
-    fn make_room(&mut self, alloc: Global, key: &CellKey, kind: CellKind) -> Result<(), NoMemory>
+    pub(crate) fn make_room(
+        &mut self,
+        alloc: Global,
+        key: &CellKey,
+        kind: CellKind,
+    ) -> Result<(), NoMemory>
         requires kind { kind ≡ kind_of (plain_key key.now) }
         ensures same { HoldSame self.old self.new }
         ensures kept { KeepKeys self.old self.new }

@@ -11,6 +11,7 @@ mod cookie_use;
 mod cookies;
 mod keys;
 mod prepared;
+mod rows;
 mod sending;
 mod words;
 

@@ -32,6 +32,6 @@ returns c =
     let texts : cookie_texts (map head_field_of (take c.loop-field.field-index c.args.head.now)) ≡ cookie_texts (map head_field_of c.args.head.now) = ap (λ fields. cookie_texts (map head_field_of fields)) all in
     record {
       stored =
-          ap (store_texts c.args.list.now.rules c.args.now (plain_use c.args.how.now) c.args.self.now) (sym texts)
-          ∙ (λ i. record { both = c.loop-field.invariant.0 i; words = sym c.loop-field.invariant.1 i });
+          let same = ap (store_texts c.args.list.now.rules c.args.now (plain_use c.args.how.now) c.args.self.now) (sym texts) in
+          (ap (λ stored. stored.both) same ∙ c.loop-field.invariant.0, ap (λ stored. stored.words) same ∙ sym c.loop-field.invariant.1);
     }

@@ -1,0 +1,60 @@
+-- A jar that is there, or was made, has the cookie.
+use Rattle.std.proofs.Common.{ap, sym, subst, ◌∙◌}
+use Rattle.std.specs.Prelude.{IfOk, is_some}
+use Rattle.std.proofs.lemmas.Result.{on_err_weaker}
+use Rattle.agent_base.proofs.Logic.{on_err}
+use Rattle.cookie_jar.specs.Key.{plain_key}
+use Rattle.cookie_jar.specs.Persistent.{RowInsert}
+use Rattle.cookie_jar.specs.Views.{plain_cookie}
+use Rattle.web_cookies.specs.Stored.{partitioned_in, shared_in}
+use Rattle.web_cookies.specs.Cells.{HaveKinds}
+use Rattle.web_cookies.specs.Rows.{IsRowDone}
+use Rattle.web_cookies.proofs.LeftLemmas.{partitioned_same, shared_same}
+use Rattle.web_cookies.proofs.PreparedLemmas.{kinds_set}
+use Rattle.web_cookies.proofs.RowsLemmas.{kept_set, kind_there, row_same_ok, row_set_ok}
+use Rattle.web_cookies.proofs.cookies.Cookies.insert_at.Goals as goal
+
+pub returns-in_err-make_room-clause-shared : goal.returns-in_err-make_room-clause-shared
+returns-in_err-make_room-clause-shared c = on_err c.from_residual.result (shared_same c.args.self.now c.make_room.new.self c.make_room.ensures.same)
+
+pub returns-in_err-make_room-clause-partitioned : goal.returns-in_err-make_room-clause-partitioned
+returns-in_err-make_room-clause-partitioned c = on_err c.from_residual.result (partitioned_same c.args.self.now c.make_room.new.self c.make_room.ensures.same)
+
+pub returns-in_default-clause-shared : goal.returns-in_default-clause-shared
+returns-in_default-clause-shared c = ap shared_in (c.get_mut.follows.holds-at-none ∙ c.self.view_is) ∙ shared_same c.args.self.now c.make_room.new.self c.make_room.ensures.same
+
+pub returns-in_default-clause-partitioned : goal.returns-in_default-clause-partitioned
+returns-in_default-clause-partitioned c =
+    ap partitioned_in (c.get_mut.follows.holds-at-none ∙ c.self.view_is) ∙ partitioned_same c.args.self.now c.make_room.new.self c.make_room.ensures.same
+
+pub invariant_of-self-2 : goal.invariant_of-self-2
+invariant_of-self-2 c =
+    let there = sym c.in-Some.ensures.value in
+    let is = rw c.in-Some.is at (c.get_mut.follows.holds c.insert_in.new.jar) in
+    subst HaveKinds (sym is)
+    (kinds_set c.args.cell.now c.insert_in.new.jar c.self.inside.cells c.self.invariant
+    (c.insert_in.ensures.kind ∙ kind_there c.args.cell.now c.self.inside.cells c.in-Some.jar.now c.self.invariant there)
+    (ap is_some there))
+
+pub returns-clause-done : goal.returns-clause-done
+returns-clause-done c =
+    let row = RowInsert c.args.place (plain_cookie c.args.cookie) in
+    let is = rw c.in-Some.is at (c.get_mut.follows.holds c.insert_in.new.jar) in
+    row_same_ok (plain_key c.args.cell.now) row c.args.self.now c.make_room.new.self _ c.insert_in.result c.make_room.ensures.same
+    (rw (← c.self.view_is) (subst (λ new. IfOk c.insert_in.result (λ done. IsRowDone (plain_key c.args.cell.now) row c.self.inside.cells new done)) (sym is)
+    (row_set_ok c.args.cell.now row c.self.inside.cells c.in-Some.jar.now c.insert_in.new.jar c.self.invariant (sym c.in-Some.ensures.value)
+    c.insert_in.result c.insert_in.ensures.valid c.insert_in.ensures.cookies)))
+
+pub returns-clause-shared : goal.returns-clause-shared
+returns-clause-shared c =
+    let is = rw c.in-Some.is at (c.get_mut.follows.holds c.insert_in.new.jar) in
+    on_err_weaker c.insert_in.result (λ kept. ap shared_in is
+    ∙ shared_same c.self.inside.cells _ (kept_set c.args.cell.now (RowInsert c.args.place (plain_cookie c.args.cookie)) c.self.inside.cells c.in-Some.jar.now c.insert_in.new.jar c.self.invariant (sym c.in-Some.ensures.value) kept)
+    ∙ ap shared_in c.self.view_is ∙ shared_same c.args.self.now c.make_room.new.self c.make_room.ensures.same) c.insert_in.ensures.unchanged
+
+pub returns-clause-partitioned : goal.returns-clause-partitioned
+returns-clause-partitioned c =
+    let is = rw c.in-Some.is at (c.get_mut.follows.holds c.insert_in.new.jar) in
+    on_err_weaker c.insert_in.result (λ kept. ap partitioned_in is
+    ∙ partitioned_same c.self.inside.cells _ (kept_set c.args.cell.now (RowInsert c.args.place (plain_cookie c.args.cookie)) c.self.inside.cells c.in-Some.jar.now c.insert_in.new.jar c.self.invariant (sym c.in-Some.ensures.value) kept)
+    ∙ ap partitioned_in c.self.view_is ∙ partitioned_same c.args.self.now c.make_room.new.self c.make_room.ensures.same) c.insert_in.ensures.unchanged

@@ -1,0 +1,14 @@
+-- The pieces of a body.
+mod BodyLemmas
+-- What a row change makes of the parts.
+mod EditLemmas
+mod PieceLemmas
+-- What written bodies mean.
+mod BodyLaws
+-- What a snapshot leads to.
+mod LeadLemmas
+mod TimesLemmas
+mod AreaRowLemmas
+mod CookieRowLemmas
+mod SnapshotLaws
+mod StorableLaws

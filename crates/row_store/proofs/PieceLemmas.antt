@@ -1,0 +1,70 @@
+-- What a piece makes of the parts, from the front of others.
+use Rattle.std.proofs.Common.{◌≡◌, ℕ, ◌+◌, ◌<◌, Bool, true, false, cond, List, [], ◌∷◌, length, drop, Option, Some, None, refl, sym, ap, subst, ◌∙◌, arith}
+use Rattle.std.specs.Prelude.{Err, slice_get}
+use Rattle.row_changes.specs.Change.{PlainChange}
+use Rattle.row_changes.specs.Body.{PlainPiece, Begins, Row, Fault}
+use Rattle.cookie_jar.specs.Key.{OwnCell, PartitionCell}
+use Rattle.web_cookies.proofs.CellLemmas.{partitioned_at, shared_at}
+use Rattle.durable_model.specs.Saved.{IsKeptCell, IsValid, Saved, no_rows, nothing_saved}
+use Rattle.durable_model.specs.RowEdits.{edited, is_valid}
+use Rattle.durable_model.specs.Laws.{ChangesKeepValid}
+use Rattle.row_store.specs.Bodies.{after_pieces}
+use Rattle.row_store.specs.Edits.{IsEdited, IsFaultAt, IsStanding, IsTaken}
+use Rattle.row_store.specs.Stored.{HasNoSession, saved_of}
+use Rattle.row_store.specs.declared.parts.Parts.{Parts}
+
+-- a durable change begins
+pub begun : (parts : Parts) → IsTaken Begins parts parts 1
+begun parts = record { after = λ count pieces. refl; standing = λ s. s; one = omega arith }
+
+as_many : (count : ℕ) → count ≡ count + 0
+as_many count = omega arith
+
+module _ (at : ℕ) (change : PlainChange) (old new : Parts) where
+  -- a row change that is done
+  pub done : ChangesKeepValid → IsEdited change old new true → IsTaken (Row at change) old new 0
+  done law is =
+      let valid : is_valid change (saved_of old) ≡ true = sym is.valid in
+      record {
+        after = λ count pieces.
+            ap (λ b. cond b (after_pieces (edited change (saved_of old)) count pieces) (Err at)) valid
+            ∙ ap (λ d. after_pieces d count pieces) (sym (is.saved refl)) ∙ ap (λ n. after_pieces (saved_of new) n pieces) (as_many count);
+        standing = λ s. record {
+          valid = subst IsValid (ap (λ b. cond b (edited change (saved_of old)) (saved_of old)) valid ∙ sym (is.saved refl)) (law (saved_of old) change s.valid);
+          sessions = is.sessions refl s.sessions;
+        };
+        one = omega arith;
+      }
+
+  -- and one that is not valid
+  pub refused : IsEdited change old new false → IsFaultAt (Row at change) old at
+  refused is count pieces = ap (λ b. cond b (after_pieces (edited change (saved_of old)) count pieces) (Err at)) (sym is.valid)
+
+-- the first fault of a body
+pub faulty : (at : ℕ) (parts : Parts) → IsFaultAt (Fault at) parts at
+faulty at parts count pieces = refl
+
+-- ---- pieces one after another
+
+-- a list that has a first piece
+pub front : (pieces : List PlainPiece) (piece : PlainPiece) → slice_get pieces 0 ≡ Some piece → pieces ≡ piece ∷ drop 1 pieces
+front [] piece is = let no : ◌≡◌ {A = Option PlainPiece} None (Some piece) = is in cc
+front (first ∷ rest) piece is = let same : first ≡ piece = cc in ap (λ p. p ∷ rest) same
+
+pub over : (pieces : List PlainPiece) → slice_get pieces 0 ≡ None → pieces ≡ []
+over [] is = refl
+over (first ∷ rest) is = let no : ◌≡◌ {A = Option PlainPiece} (Some first) None = is in cc
+
+-- ---- the beginning
+
+empty_kept : IsKeptCell []
+empty_kept = (refl, λ c. omega arith)
+
+nothing_valid : IsValid nothing_saved
+unfolding nothing_saved no_rows
+nothing_valid (OwnCell domain) = subst IsKeptCell (sym (shared_at domain [])) empty_kept
+nothing_valid (PartitionCell top bit domain) = subst IsKeptCell (sym (partitioned_at (record { top = top; bit = bit; domain = domain }) [])) empty_kept
+
+-- parts of which nothing is durable
+pub nothing_standing : (parts : Parts) → saved_of parts ≡ nothing_saved → HasNoSession parts.storage → IsStanding parts
+nothing_standing parts is none = record { valid = subst IsValid (sym is) nothing_valid; sessions = none }

@@ -1,0 +1,56 @@
+-- What bodies mean that are written from row changes which are valid one after another, and what
+-- snapshots mean.
+-- Source: none; they are about our own definitions.
+use Rattle.std.specs.Prelude.{◌≡◌, ◌≤◌, true, false, List, [], ◌∷◌, length, fold, Ok}
+use Rattle.std.specs.List.{All, flat_map}
+use Rattle.suffix_list.specs.Suffix.{Rule}
+use Rattle.storage_key.specs.Key.{PlainKey}
+use Rattle.local_area.specs.Area.{HasDistinctNames, area_weight, quota}
+use Rattle.cookie_jar.specs.Cookie.{keeps_limits}
+use Rattle.cookie_jar.specs.Key.{PlainKey as PlainCell}
+use Rattle.access_grants.specs.Grant.{HasDistinctPairs}
+use Rattle.row_changes.specs.Change.{PlainChange}
+use Rattle.row_changes.specs.Spelled.{IsSpelled}
+use Rattle.row_changes.specs.Body.{changes_bytes, rows_bytes}
+use Rattle.row_changes.specs.Laws.{IsWritable}
+use Rattle.durable_model.specs.Saved.{IsKeptCell, Saved, cookies_at, kind_of, nothing_saved}
+use Rattle.durable_model.specs.Saved.{pairs_at}
+use Rattle.durable_model.specs.RowEdits.{AreValid, after_changes, edited, is_valid}
+use Rattle.row_store.specs.Bodies.{body_means}
+use Rattle.row_store.specs.Listing.{listed}
+
+-- each row change of these durable changes is valid in the state before it
+abbrev pub AreAllValid : Saved → List (List PlainChange) → Type 0
+AreAllValid d [] = Unit {0}
+AreAllValid d (changes ∷ later) = AreValid d changes × AreAllValid (after_changes d changes) later
+
+-- a body of durable changes that have a spelling, and are valid one after another, means the state
+-- after all of them, and as many durable changes as were written
+abbrev pub WrittenBodiesMean : Type 0
+WrittenBodiesMean = (rules : List Rule) (d : Saved) (written : List (List PlainChange))
+    → All (IsWritable rules) written → AreAllValid d written
+    → body_means rules d false (flat_map changes_bytes written)
+    ≡ Ok (fold after_changes d written, length written)
+
+-- what each state has that row changes lead to: the pairs of an area have distinct names and keep
+-- the quota; a cell is one as it outlives a restart and keeps its limits; permissions are of
+-- distinct pairs of sites
+pub record IsStorable (d : Saved) : Type 0 where
+  pub names : (key : PlainKey) → HasDistinctNames (pairs_at key d)
+  pub weights : (key : PlainKey) → area_weight (pairs_at key d) ≤ quota
+  pub cells : (cell : PlainCell) → IsKeptCell (cookies_at cell d)
+  pub limits : (cell : PlainCell) → keeps_limits (kind_of cell) (cookies_at cell d) ≡ true
+  pub grants : HasDistinctPairs d.under.grants
+
+-- the state in which nothing is durable is so, and a valid row change keeps it
+abbrev pub EditsKeepStorable : Type 0
+EditsKeepStorable =
+    IsStorable nothing_saved
+    × ((d : Saved) (change : PlainChange) → is_valid change d ≡ true → IsStorable d
+    → IsStorable (edited change d))
+
+-- a snapshot of such a state means this state, from whichever state it is read
+abbrev pub SnapshotsMean : Type 0
+SnapshotsMean = (rules : List Rule) (e d : Saved) → IsStorable d
+    → All (IsSpelled rules) (listed d)
+    → body_means rules e true (rows_bytes (listed d)) ≡ Ok (d, 0)

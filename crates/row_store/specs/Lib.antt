@@ -1,0 +1,7 @@
+-- What contracts cite.
+pub mod Bodies
+pub mod Stored
+pub mod Listing
+pub mod Laws
+-- What private functions do. No public clause rests on it.
+pub mod Edits

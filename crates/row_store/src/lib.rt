@@ -1,0 +1,15 @@
+//! The durable state that the frames of a store lead to.
+//!
+//! [`Rows`] takes frames one after another: changes, or a snapshot. A row change that is not valid
+//! in the state before it is a fault, with the offset at which it begins. An agent goes on with the
+//! [`Parts`] of the last state.
+#![tactic(auto)]
+
+mod laws;
+mod parts;
+mod reading;
+mod rows;
+
+pub use laws::written;
+pub use parts::Parts;
+pub use rows::Rows;

@@ -190,22 +190,28 @@ taken_done label tab body old new found there put same rows keeps told =
 
 -- ---- loads
 
+-- a tab is put with the frames of a copy of an address
+pub put_opened : (rules : List Rule) (number : ℕ) (url copy : PlainAddress) (made : List PlainFrame) (old new : List PlainTab) → made ≡ opened rules copy → copy ≡ url
+    → new ≡ tabs_put number made (Some 0) old → new ≡ tabs_put number (opened rules url) (Some 0) old
+put_opened rules number url copy made old new is same put = put ∙ ap (λ frames. tabs_put number frames (Some 0) old) (is ∙ ap (opened rules) same)
+
 -- a tab shows an address alone
-module _ (rules : List Rule) (number : ℕ) (url : PlainAddress) (old new : HoldingsView) (put : new.live.tabs ≡ tabs_put number (opened rules url) (Some 0) old.live.tabs) where
-  pub shown_held : new.storage ≡ old.storage → new.cookies ≡ old.cookies → new.grants ≡ old.grants → held_of new ≡ show rules number url (held_of old)
-  shown_held same own rows =
+module _ (rules : List Rule) (number : ℕ) (url : PlainAddress) (old new : List PlainTab) (put : new ≡ tabs_put number (opened rules url) (Some 0) old) where
+  pub shown_held : (own : CookieEntries) (grants : List PlainGrant) (entries : Entries)
+      → held_with (beside_storage new own grants) entries ≡ show rules number url (held_with (beside_storage old own grants) entries)
+  shown_held own grants entries =
       let made : PlainTab = made_tab number (opened rules url) None None in
-      (λ i. held_with (beside_storage (put i) (own i) (rows i)) (same i))
-      ∙ held_tabs old.live.tabs (tabs_put number (opened rules url) (Some 0) old.live.tabs) old.cookies old.grants old.storage
-      ∙ ap (λ tabs. record (held_of old) { tabs = tabs })
-      (tabs_after_put number (opened rules url) (Some 0) old.live.tabs ∙ ap (λ tabs. insert tabs number made) (sym (tabs_held old.live.tabs old.cookies old.grants old.storage)))
+      ap (λ tabs. held_with (beside_storage tabs own grants) entries) put
+      ∙ held_tabs old (tabs_put number (opened rules url) (Some 0) old) own grants entries
+      ∙ ap (λ tabs. record (held_with (beside_storage old own grants) entries) { tabs = tabs })
+      (tabs_after_put number (opened rules url) (Some 0) old ∙ ap (λ tabs. insert tabs number made) (sym (tabs_held old own grants entries)))
 
-  pub shown_places : places_in new.live.tabs ≡ placed number (site_of_address rules url) (places_in old.live.tabs)
+  pub shown_places : places_in new ≡ placed number (site_of_address rules url) (places_in old)
   shown_places =
-      ap places_in put ∙ places_after_load number (opened rules url) (Some 0) old.live.tabs (site_of_address rules url) (tree_opened rules url).1
+      ap places_in put ∙ places_after_load number (opened rules url) (Some 0) old (site_of_address rules url) (tree_opened rules url).1
 
-  pub shown_trees : AreTrees old.live.tabs → AreTrees new.live.tabs
-  shown_trees trees = subst (λ tabs. AreTrees tabs) (sym put) (trees_after_put number (opened rules url) (Some 0) old.live.tabs (tree_opened rules url).0 trees)
+  pub shown_trees : AreTrees old → AreTrees new
+  shown_trees trees = subst (λ tabs. AreTrees tabs) (sym put) (trees_after_put number (opened rules url) (Some 0) old (tree_opened rules url).0 trees)
 
 -- the cookies of a load were sent and stored after the tab showed its address
 pub load_done : (does : Effect) (cells : SharedCells) (held : Holdings) (number : ℕ) (target : PlainSite) (old mid new : HoldingsView) (body : PlainBody)

@@ -5,7 +5,7 @@ use Rattle.std.proofs.lemmas.Slice.Eq.{bytes_eq-Decides}
 use Rattle.std.specs.Prelude.{◌≢◌, ◌↔◌, Result, Ok, Err, bytes_eq, codes, is_none, nat_lt, option_copied}
 use Rattle.std.proofs.lemmas.Bool.Decides.{nat_tests}
 use Rattle.agent_base.specs.declared.refusals.Label.{Label}
-use Rattle.storage_key.specs.Key.{PlainKey, key_order}
+use Rattle.storage_key.specs.Key.{PlainKey}
 use Rattle.local_area.specs.Area.{Pair, area_get, area_put, area_remove, area_weight, quota}
 use Rattle.local_area.specs.Put.{answer_over, changed, same}
 use Rattle.local_area.specs.declared.area.AreaFault.{AreaFault}
@@ -13,15 +13,12 @@ use Rattle.local_area.specs.declared.area.AreaFault.TheVariants as fault
 use Rattle.storage_events.specs.declared.event.AreaKind.{AreaKind}
 use Rattle.storage_events.specs.declared.event.AreaKind.TheVariants.{Local, Session}
 use Rattle.storage_events.specs.Event.{PlainEvent}
-use Rattle.live_state.specs.Tabs.{PlainTab, is_rising}
-use Rattle.live_state.specs.Queues.{are_distinct, has_document, sent}
-use Rattle.live_state.proofs.OnceLemmas.{kept-once, kept-there}
+use Rattle.live_state.specs.Tabs.{PlainLive, is_rising}
+use Rattle.live_state.specs.Queues.{sent}
 use Rattle.std.proofs.lemmas.List.Folds.{list_all-map}
 use Rattle.std.specs.List.{list_all}
-use Rattle.std.specs.Ordering.{eq_by_cmp}
-use Rattle.storage_events.specs.Audience.{hears}
 use Rattle.storage_events.specs.declared.event.Event.{Event}
-use Rattle.web_storage.specs.Stored.{held_with}
+use Rattle.web_storage.specs.Stored.{Entries, held_with}
 use Rattle.web_cookies.specs.Stored.{shared_in}
 use Rattle.reply_lines.specs.Reply.{PlainBody, Plain}
 use Rattle.agent_model.specs.Partition.{Holdings, with_area}
@@ -46,8 +43,14 @@ tabs_kept : (kind : AreaKind) (tab : ℕ) (key : PlainKey) (pairs : List Pair) (
 tabs_kept Local tab key pairs held = refl
 tabs_kept Session tab key pairs held = refl
 
-module _ (event : PlainEvent) (writer : Keyed) (change : List Pair → List Pair) (old mid new : HoldingsView) (trees : AreTrees mid.live.tabs)
-    (tabs : mid.live.tabs ≡ old.live.tabs) (entries : mid.storage ≡ old.storage) (same : new.cookies ≡ old.cookies) (rows : new.grants ≡ old.grants) (rising : is_rising old.live.tabs ≡ true) where
+-- the events for the documents that hear, by the address of the one that wrote
+pub these_sent : {url : List ℕ} {to : List Label} {hear : List Label} {events : List (Label × PlainEvent)} (event : PlainEvent)
+    → events ≡ each_sent (record event { url = url }) to → url ≡ event.url → to ≡ hear → events ≡ each_sent event hear
+these_sent {url} {to} event these own are =
+    these ∙ ap (λ url. each_sent (record event { url = url }) to) own ∙ ap (each_sent event) are
+
+module _ (event : PlainEvent) (writer : Keyed) (change : List Pair → List Pair) (old inside : HoldingsView) (seen : inside ≡ old) (trees : AreTrees inside.live.tabs) (rising : is_rising old.live.tabs ≡ true)
+    (reserved : PlainLive) (kept : reserved.tabs ≡ inside.live.tabs) where
   -- the pairs of the area after the change, and what is held with them
   abbrev pairs : List Pair
   pairs = change (pairs_of event.area writer (held_of old))
@@ -56,24 +59,29 @@ module _ (event : PlainEvent) (writer : Keyed) (change : List Pair → List Pair
   with_pairs held = with_area event.area writer.at.tab writer.key (change (pairs_of event.area writer held)) held
 
   -- the area has its pairs, and each document that hears is told
-  pub is_written : (seen : PlainEvent) (events : List (Label × PlainEvent)) (body : PlainBody) → seen ≡ event
-      → events ≡ each_sent seen (hearers seen.area writer.at writer.key old.live.tabs)
-      → new.live.tabs ≡ sent events mid.live.tabs → ((beside : Holdings) → held_with beside new.storage ≡ with_pairs (held_with beside mid.storage))
-      → body ≡ ok → IsDone (write event.area writer pairs event (cells_of old) (held_of old)) old new body
-  is_written seen events body is these after stored answer = record {
-    held =
-        (λ i. held_with (beside_storage new.live.tabs (same i) (rows i)) new.storage)
-        ∙ held_tabs old.live.tabs new.live.tabs old.cookies old.grants new.storage
-        ∙ ap {A = Holdings} (λ held. record held { tabs = tabs_in new.live.tabs })
-        (stored (beside_storage old.live.tabs old.cookies old.grants) ∙ ap (λ entries. with_pairs (held_with (beside_storage old.live.tabs old.cookies old.grants) entries)) entries)
-        ∙ ap {B = Holdings} (λ tabs. record (with_pairs (held_of old)) { tabs = tabs })
-        (ap tabs_in (after ∙ λ i. sent ((these ∙ ap (λ e. each_sent e (hearers e.area writer.at writer.key old.live.tabs)) is) i) (tabs i))
-        ∙ tabs_after_send event.area writer event old.live.tabs rising (subst AreTrees tabs trees)
-        ∙ ap (told event.area writer event) (sym (tabs_kept event.area writer.at.tab writer.key pairs (held_of old) ∙ tabs_held old.live.tabs old.cookies old.grants old.storage)));
-    cells = ap shared_in same;
-    answer = answer;
-    places = ap places_in after ∙ places_after_send events mid.live.tabs ∙ ap places_in tabs;
-  }
+  pub is_written : {live : PlainLive} {entries : Entries} {body : PlainBody} {events : List (Label × PlainEvent)}
+      → events ≡ each_sent event (hearers event.area writer.at writer.key old.live.tabs)
+      → live.tabs ≡ sent events reserved.tabs → ((beside : Holdings) → held_with beside entries ≡ with_pairs (held_with beside inside.storage))
+      → body ≡ ok → IsDone (write event.area writer pairs event (cells_of old) (held_of old)) old (record inside { live = live; storage = entries }) body
+  is_written {live} {entries} {body} {events} these after stored answer =
+      let tabs : reserved.tabs ≡ old.live.tabs = kept ∙ ap (λ (h : HoldingsView). h.live.tabs) seen in
+      let same : inside.cookies ≡ old.cookies = ap (λ (h : HoldingsView). h.cookies) seen in
+      let rows : inside.grants ≡ old.grants = ap (λ (h : HoldingsView). h.grants) seen in
+      record {
+        held =
+            (λ i. held_with (beside_storage live.tabs (same i) (rows i)) entries)
+            ∙ held_tabs old.live.tabs live.tabs old.cookies old.grants entries
+            ∙ ap {A = Holdings} (λ held. record held { tabs = tabs_in live.tabs })
+            (stored (beside_storage old.live.tabs old.cookies old.grants)
+            ∙ ap (λ (h : HoldingsView). with_pairs (held_with (beside_storage old.live.tabs old.cookies old.grants) h.storage)) seen)
+            ∙ ap {B = Holdings} (λ tabs. record (with_pairs (held_of old)) { tabs = tabs })
+            (ap tabs_in (after ∙ λ i. sent (these i) (tabs i))
+            ∙ tabs_after_send event.area writer event old.live.tabs rising (subst (λ (h : HoldingsView). AreTrees h.live.tabs) seen trees)
+            ∙ ap (told event.area writer event) (sym (tabs_kept event.area writer.at.tab writer.key pairs (held_of old) ∙ tabs_held old.live.tabs old.cookies old.grants old.storage)));
+        cells = ap shared_in same;
+        answer = answer;
+        places = ap places_in after ∙ places_after_send events reserved.tabs ∙ ap places_in tabs;
+      }
 
 -- ---- within the quota
 
@@ -142,18 +150,9 @@ module _ (kind : AreaKind) (writer : Keyed) (name : List ℕ) (cells : SharedCel
   is_removed found old new body there is done =
       subst (λ done. IsDone done old new body) (removes found there ∙ ap (λ found. remove_by found kind writer name cells held) is) done
 
--- ---- the documents that hear
+-- ---- the events of the documents that hear
 
-module _ (kind : AreaKind) (at : Label) (key : PlainKey) (tabs : List PlainTab) (rising : is_rising tabs ≡ true) (to : List Label) (are : to ≡ hearers kind at key tabs) where
-  -- they are there
-  pub to_there : list_all (has_document tabs) to ≡ true
-  to_there = ap (list_all (has_document tabs)) are ∙ kept-there (hears (eq_by_cmp key_order) kind at key) tabs rising
-
-  module _ (events : List (Label × Event)) (labels : map (λ e. e.0) events ≡ to) where
-    -- no event is for a document twice
-    pub events_distinct : are_distinct (map (λ e. e.0) events) ≡ true
-    events_distinct = ap are_distinct (labels ∙ are) ∙ kept-once (hears (eq_by_cmp key_order) kind at key) tabs rising
-
-    -- each event is for a document that is ready
-    pub events_ready : (ready : Label → Bool) → list_all ready to ≡ true → list_all (λ e. ready e.0) events ≡ true
-    events_ready ready all = sym (list_all-map ready (λ e. e.0) events) ∙ ap (list_all ready) labels ∙ all
+-- each is for a document that is ready
+pub events_ready : {to : List Label} (events : List (Label × Event)) → map (λ e. e.0) events ≡ to → (ready : Label → Bool) → list_all ready to ≡ true
+    → list_all (λ e. ready e.0) events ≡ true
+events_ready events labels ready all = sym (list_all-map ready (λ e. e.0) events) ∙ ap (list_all ready) labels ∙ all

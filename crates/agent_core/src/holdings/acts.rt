@@ -135,24 +135,7 @@ impl Holdings {
             Action::Cookie { .. } => self.cookie(alloc, list, now, at, key),
             Action::Persisted { .. } => Ok(self.persisted(key)),
             Action::Estimate { .. } => Ok(self.estimate(key)),
-            Action::Tick { .. }
-            | Action::Open { .. }
-            | Action::Close { .. }
-            | Action::Go { .. }
-            | Action::Evict { .. }
-            | Action::Frame { .. }
-            | Action::Nav { .. }
-            | Action::Drop { .. }
-            | Action::Click { .. }
-            | Action::Fetch { .. }
-            | Action::Set { .. }
-            | Action::Del { .. }
-            | Action::Clear { .. }
-            | Action::Events { .. }
-            | Action::SetCookie { .. }
-            | Action::Has { .. }
-            | Action::Request { .. }
-            | Action::Persist { .. } => unreachable!(),
+            _ => unreachable!(),
         }
     }
 
@@ -188,25 +171,7 @@ impl Holdings {
             Action::Clear { area, .. } => self.clear(alloc, at, *area, key),
             Action::SetCookie { text, .. } => self.set_cookie(alloc, list, now, at, key, text),
             Action::Persist { answer, .. } => self.persist(at, key, *answer),
-            Action::Tick { .. }
-            | Action::Open { .. }
-            | Action::Close { .. }
-            | Action::Go { .. }
-            | Action::Evict { .. }
-            | Action::Frame { .. }
-            | Action::Nav { .. }
-            | Action::Drop { .. }
-            | Action::Click { .. }
-            | Action::Fetch { .. }
-            | Action::Get { .. }
-            | Action::Len { .. }
-            | Action::Key { .. }
-            | Action::Events { .. }
-            | Action::Cookie { .. }
-            | Action::Has { .. }
-            | Action::Request { .. }
-            | Action::Persisted { .. }
-            | Action::Estimate { .. } => unreachable!(),
+            _ => unreachable!(),
         }
     }
 }
@@ -222,23 +187,6 @@ fn is_reading(action: &Action) -> bool
         | Action::Cookie { .. }
         | Action::Persisted { .. }
         | Action::Estimate { .. } => true,
-        Action::Tick { .. }
-        | Action::Open { .. }
-        | Action::Close { .. }
-        | Action::Go { .. }
-        | Action::Evict { .. }
-        | Action::Frame { .. }
-        | Action::Nav { .. }
-        | Action::Drop { .. }
-        | Action::Click { .. }
-        | Action::Fetch { .. }
-        | Action::Set { .. }
-        | Action::Del { .. }
-        | Action::Clear { .. }
-        | Action::Events { .. }
-        | Action::SetCookie { .. }
-        | Action::Has { .. }
-        | Action::Request { .. }
-        | Action::Persist { .. } => false,
+        _ => false,
     }
 }

@@ -1,11 +1,12 @@
 //! Actions on the areas of a document.
 ghost use Rattle.std.specs.Prelude.{◌≡◌, ◌↔◌, IfOk, IsTrue, Some, length, map, option_copied};
 ghost use Rattle.std.specs.Prelude.{option_map, string_bytes, true};
+ghost use Rattle.std.specs.List.{list_all};
 ghost use Rattle.storage_key.specs.Plain.{plain_key};
 ghost use Rattle.local_area.specs.Area.{area_get, area_nth};
 ghost use Rattle.storage_events.specs.Event.{PlainEvent};
 ghost use Rattle.live_state.specs.Hearers.{hearers};
-ghost use Rattle.live_state.specs.Queues.{has_document, plain_sent};
+ghost use Rattle.live_state.specs.Queues.{are_distinct, has_document, plain_sent};
 ghost use Rattle.live_state.specs.Tabs.{is_rising};
 ghost use Rattle.reply_lines.specs.Plain.{body_of};
 ghost use Rattle.reply_lines.specs.Reply as reply_text;
@@ -138,6 +139,8 @@ impl Holdings {
     ) -> Result<ReplyBody, NoMemory>
         requires rising { is_rising self.old.live.tabs ≡ true }
         requires hearers { to.items ≡ hearers area at (plain_key key.now) self.old.live.tabs }
+        requires once { are_distinct to.items ≡ true }
+        requires there { list_all (has_document self.old.live.tabs) to.items ≡ true }
         requires labels { map (λ e. e.0) events.items ≡ to.items }
         ensures acts { (made : PlainEvent) → let event = record made { area = area } in
             map plain_sent events.items ≡ each_sent event to.items

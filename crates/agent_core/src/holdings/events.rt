@@ -1,7 +1,8 @@
 //! Storage events: what is sent to the documents that hear of a change, and what is taken.
 ghost use Rattle.std.specs.Prelude.{◌≡◌, IfOk, Ok, map, option_copied, true};
 ghost use Rattle.storage_events.specs.Event.{PlainEvent, plain_event};
-ghost use Rattle.live_state.specs.Queues.{plain_sent};
+ghost use Rattle.std.specs.List.{list_all};
+ghost use Rattle.live_state.specs.Queues.{are_distinct, has_document, plain_sent};
 ghost use Rattle.live_state.specs.Hearers.{hearers};
 ghost use Rattle.live_state.specs.Tabs.{is_open, is_rising};
 ghost use Rattle.storage_key.specs.Plain.{plain_key};
@@ -35,6 +36,7 @@ pub fn events_of(
       after = option_copied after.entry;
       url = url.now;
     } in IfOk result (λ events. map plain_sent events.items ≡ each_sent event to.now) }
+    ensures labels { IfOk result (λ events. map (λ e. e.0) events.items ≡ to.now) }
 {
     if to.is_empty() {
         return Ok(Vec::new(alloc));
@@ -67,6 +69,9 @@ impl Holdings {
     ) -> Result<Vec<Label>, NoMemory>
         ensures hearers { IfOk result (λ to.
             to.items ≡ hearers area at (plain_key key.now) self.now.live.tabs) }
+        ensures once { IfOk result (λ to. are_distinct to.items ≡ true) }
+        ensures there { IfOk result
+            (λ to. list_all (has_document self.now.live.tabs) to.items ≡ true) }
         ensures rising { is_rising self.now.live.tabs ≡ true }
     {
         self.live.hearers(area, at, key)

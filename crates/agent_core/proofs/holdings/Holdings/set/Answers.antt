@@ -1,20 +1,15 @@
 -- A name that has another value, or none, is given this one.
-use Rattle.std.proofs.Common.{Some, ap, sym, subst, ◌∙◌}
+use Rattle.std.proofs.Common.{Some, sym, subst}
 use Rattle.std.proofs.lemmas.Bool.{true≢false}
 use Rattle.std.specs.Prelude.{option_copied}
 use Rattle.storage_key.specs.Plain.{plain_key}
 use Rattle.storage_events.specs.Event.{PlainEvent}
 use Rattle.agent_model.specs.Documents.{Keyed}
 use Rattle.agent_model.specs.Done.{Done}
-use Rattle.agent_core.specs.Documents.{each_sent}
 use Rattle.agent_core.specs.HoldingsView.{cells_of, held_of}
 use Rattle.agent_core.specs.Actions.{Acts}
-use Rattle.agent_core.proofs.SendLemmas.{labels_sent}
-use Rattle.agent_core.proofs.WriteLemmas.{is_set}
+use Rattle.agent_core.proofs.WriteLemmas.{is_set, these_sent}
 use Rattle.agent_core.proofs.holdings.Holdings.set.Goals as goal
-
-pub store-requires-clause-labels : goal.store-requires-clause-labels
-store-requires-clause-labels c = labels_sent _ c.as_slice.result.now c.in_ok-events.events.items c.in_ok-events.ensures.events ∙ c.as_slice.ensures.value
 
 pub returns : goal.returns
 returns c = record {
@@ -26,9 +21,6 @@ returns c = record {
       let writer : Keyed = record { at = c.args.at; document = document; key = plain_key c.args.key.now } in
       let found = option_copied c.value-before.result in
       let event : PlainEvent = record { area = area; key = Some name; before = found; after = Some value; url = document.address.text } in
-      let these = c.in_ok-events.ensures.events
-      ∙ ap (λ url. each_sent (record { area = area; key = Some name; before = found; after = Some value; url = url }) c.as_slice.result.now) (c.url-url.ensures.url document there)
-      ∙ ap (each_sent event) c.as_slice.ensures.value in
       subst (λ (d : Done). Acts (λ _ _. d) old c.store.new.self c.store.result) (is_set area writer name (cells_of old) (held_of old) value found (λ equal. true≢false (sym (c.if-is_text.ensures.1 equal))) c.value-before.ensures.value)
-      (c.store.ensures.acts event these document there);
+      (c.store.ensures.acts event (these_sent event c.in_ok-events.ensures.events (c.url-url.ensures.url document there) c.as_slice.ensures.value) document there);
 }

@@ -1,5 +1,5 @@
 -- The pair is stored within the quota, and each document that hears is told; past it all stays.
-use Rattle.std.proofs.Common.{◌≡◌, ◌≤◌, ◌<◌, List, true, ap, refl, sym, string_bytes, subst, ◌∙◌}
+use Rattle.std.proofs.Common.{◌≡◌, ◌≤◌, ◌<◌, List, ap, sym, string_bytes, subst, ◌∙◌}
 use Rattle.std.specs.List.{list_all}
 use Rattle.local_area.specs.Area.{Pair, area_put, area_weight, quota}
 use Rattle.web_storage.specs.Stored.{Entries, held_with}
@@ -9,31 +9,21 @@ use Rattle.agent_model.specs.AreaActions.{pairs_of}
 use Rattle.agent_core.specs.AgentState.{beside_storage, places_in}
 use Rattle.storage_key.specs.Plain.{plain_key}
 use Rattle.storage_events.specs.Event.{PlainEvent}
-use Rattle.live_state.specs.Queues.{has_document, is_ready}
+use Rattle.live_state.specs.Queues.{are_distinct, is_ready}
 use Rattle.agent_model.specs.Documents.{Keyed}
 use Rattle.agent_core.specs.Documents.{each_sent}
 use Rattle.agent_core.specs.FrameTrees.{AreTrees}
 use Rattle.agent_core.specs.HoldingsView.{HoldingsView, cells_of, held_of}
 use Rattle.agent_core.proofs.TreeLemmas.{trees_after_send}
-use Rattle.agent_core.proofs.WriteLemmas.{events_distinct, events_ready, is_past, is_refused, is_stored, is_within, is_written, to_there}
+use Rattle.agent_core.proofs.WriteLemmas.{events_ready, is_past, is_refused, is_stored, is_within, is_written}
 use Rattle.agent_core.proofs.holdings.Holdings.store.Goals as goal
 
-pub reserve_queues-requires : goal.reserve_queues-requires
-reserve_queues-requires c = record {
-  there =
-      subst (λ (h : HoldingsView). list_all (has_document h.live.tabs) c.as_slice.result.now ≡ true) (sym c.self.view_is)
-      (to_there c.args.area c.args.at (plain_key c.args.key.now) c.args.self.now.live.tabs c.requires.rising c.as_slice.result.now (c.as_slice.ensures.value ∙ c.requires.hearers));
+pub send-requires : goal.send-requires
+send-requires c = record {
+  ready = events_ready c.args.events.items c.requires.labels (is_ready c.reserve_queues.new.self)
+      (ap (list_all (is_ready c.reserve_queues.new.self)) (sym c.as_slice.ensures.value) ∙ c.in_ok-reserve_queues.ensures.ready);
+  distinct = ap are_distinct c.requires.labels ∙ c.requires.once;
 }
-
-pub send-requires-clause-ready : goal.send-requires-clause-ready
-send-requires-clause-ready c =
-    events_ready c.args.area c.args.at (plain_key c.args.key.now) c.args.self.now.live.tabs c.requires.rising c.args.to.items c.requires.hearers c.args.events.items c.requires.labels
-    (is_ready c.reserve_queues.new.self)
-    (ap (list_all (is_ready c.reserve_queues.new.self)) (sym c.as_slice.ensures.value) ∙ c.in_ok-reserve_queues.ensures.ready)
-
-pub send-requires-clause-distinct : goal.send-requires-clause-distinct
-send-requires-clause-distinct c =
-    events_distinct c.args.area c.args.at (plain_key c.args.key.now) c.args.self.now.live.tabs c.requires.rising c.args.to.items c.requires.hearers c.args.events.items c.requires.labels
 
 pub invariant_of-self : goal.invariant_of-self
 invariant_of-self c = subst AreTrees (sym c.reserve_queues.ensures.same.0) c.self.invariant
@@ -58,9 +48,7 @@ returns-in-Ok c = record {
       (subst (λ pairs. area_weight pairs ≤ quota) (λ i. put i (pairs_with (entries i)))
       (is_within c.in-Ok.field-0 (area_weight (area_put (string_bytes c.in_ok-name.name) (string_bytes c.in_ok-value.value) (pairs_with mid.storage)))
       (c.in-Ok.ensures.quota (beside_storage old.live.tabs old.cookies old.grants))))
-      (is_written event writer (area_put c.args.name.now c.args.value.now) old mid _
-      (subst AreTrees (sym c.reserve_queues.ensures.same.0) c.self.invariant)
-      (c.reserve_queues.ensures.same.0 ∙ ap (λ (h : HoldingsView). h.live.tabs) c.self.view_is) entries (ap (λ (h : HoldingsView). h.cookies) c.self.view_is) (ap (λ (h : HoldingsView). h.grants) c.self.view_is) c.requires.rising event _ _ refl
+      (is_written event writer (area_put c.args.name.now c.args.value.now) _ _ c.self.view_is c.self.invariant c.requires.rising c.reserve_queues.new.self c.reserve_queues.ensures.same.0
       (these ∙ ap (each_sent event) c.requires.hearers) c.send.ensures.sent
       (subst (λ put. (beside : Holdings) → let before = held_with beside mid.storage in
       held_with beside c.put.new.self ≡ with_area c.args.area c.args.at.tab (plain_key c.args.key.now) (put (area_of c.args.area c.args.at.tab (plain_key c.args.key.now) before)) before)

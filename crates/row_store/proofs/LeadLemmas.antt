@@ -12,6 +12,7 @@ use Rattle.agent_model.proofs.KeptLemmas.{tied}
 use Rattle.row_changes.specs.Change.{PlainChange}
 use Rattle.durable_model.specs.Saved.{Saved}
 use Rattle.durable_model.specs.RowEdits.{AreValid, after_change, after_changes, edited, is_valid}
+use Rattle.durable_model.proofs.EachValidLemmas.{valid_append}
 use Rattle.row_store.proofs.BodyLaws.{valid_done}
 
 pub record Leads (e : Saved) (changes : List PlainChange) (f : Saved) : Type 0 where
@@ -29,15 +30,10 @@ first e change changes f valid later = record {
   after = ap (λ d. after_changes d changes) (valid_done e change valid) ∙ later.after;
 }
 
-valid_both : (e : Saved) (xs ys : List PlainChange) → AreValid e xs → AreValid (after_changes e xs) ys → AreValid e (xs ++ ys)
-valid_both e [] ys one two = two
-valid_both e (x ∷ xs) ys one two =
-    (one.0, valid_both (edited x e) xs ys one.1 (subst (λ d. AreValid (after_changes d xs) ys) (valid_done e x one.0) two))
-
 -- row changes, and others behind them
 pub then : (e : Saved) (xs : List PlainChange) (f : Saved) (ys : List PlainChange) (g : Saved) → Leads e xs f → Leads f ys g → Leads e (xs ++ ys) g
 then e xs f ys g one two = record {
-  valid = valid_both e xs ys one.valid (subst (λ d. AreValid d ys) (sym one.after) two.valid);
+  valid = valid_append e xs ys one.valid (subst (λ d. AreValid d ys) (sym one.after) two.valid);
   after = fold-append after_change e xs ys ∙ ap (λ d. after_changes d ys) one.after ∙ two.after;
 }
 

@@ -23,7 +23,7 @@ pub enum Edit {
     Numbered(bool, u8),
     Replace(bool, u8, &'static str, u32),
     TakeOut(bool, u8),
-    /// The host of the embedded site, and whether it is a grant.
+    /// The embedded site, and whether it is a grant.
     Grant(&'static str, bool),
 }
 
@@ -83,22 +83,22 @@ fn put_cookie(out: &mut Vec<u8>, partitioned: bool, name: &str, letters: u32) ->
     Ok(())
 }
 
-// A cookie at a place, with a name of its own for each place.
-fn put_numbered(out: &mut Vec<u8>, partitioned: bool, place: u8) -> Result<(), Fail> {
-    let name = [b'a' + place / 16, b'a' + place % 16];
+fn put_insert(
+    out: &mut Vec<u8>,
+    partitioned: bool,
+    place: u8,
+    name: &str,
+    letters: u32,
+) -> Result<(), Fail> {
     put_place(out, 5, partitioned, place)?;
-    put_cookie(
-        out,
-        partitioned,
-        std::str::from_utf8(&name).unwrap_or(""),
-        1,
-    )
+    put_cookie(out, partitioned, name, letters)
 }
 
-fn put_grant(out: &mut Vec<u8>, host: &str, granted: bool) -> Result<(), Fail> {
+// A permission under `https://a.test`.
+fn put_grant(out: &mut Vec<u8>, site: &str, granted: bool) -> Result<(), Fail> {
     out.push(8)?;
     put_text(out, HTTPS_A)?;
-    put_text(out, host)?;
+    put_text(out, site)?;
     out.push(if granted { 1 } else { 2 })?;
     out.extend_from_slice(&9i64.to_le_bytes())?;
     Ok(())
@@ -124,16 +124,19 @@ pub fn put(out: &mut Vec<u8>, edit: Edit) -> Result<(), Fail> {
         Clear => put_key(out, 3)?,
         Mode => put_key(out, 4)?,
         Insert(partitioned, place, name, letters) => {
-            put_place(out, 5, partitioned, place)?;
-            put_cookie(out, partitioned, name, letters)?;
+            put_insert(out, partitioned, place, name, letters)?;
         }
-        Numbered(partitioned, place) => put_numbered(out, partitioned, place)?,
+        Numbered(partitioned, place) => {
+            let name = [b'a' + place / 16, b'a' + place % 16];
+            let name = std::str::from_utf8(&name).unwrap_or("");
+            put_insert(out, partitioned, place, name, 1)?;
+        }
         Replace(partitioned, place, name, letters) => {
             put_place(out, 6, partitioned, place)?;
             put_cookie(out, partitioned, name, letters)?;
         }
         TakeOut(partitioned, place) => put_place(out, 7, partitioned, place)?,
-        Grant(host, granted) => put_grant(out, host, granted)?,
+        Grant(site, granted) => put_grant(out, site, granted)?,
     }
     Ok(())
 }
@@ -149,8 +152,13 @@ pub fn snapshot_of(alloc: Global, edits: &[Edit]) -> Result<Vec<u8>, Fail> {
 
 /// A body of one durable change.
 pub fn change_of(alloc: Global, edits: &[Edit]) -> Result<Vec<u8>, Fail> {
+    front_of(alloc, edits.len(), edits)
+}
+
+/// The front of a body of one durable change, which has so many row changes and begins with these.
+pub fn front_of(alloc: Global, count: usize, edits: &[Edit]) -> Result<Vec<u8>, Fail> {
     let mut out = Vec::new(alloc);
-    let count = u32::try_from(edits.len()).unwrap_or(u32::MAX);
+    let count = u32::try_from(count).unwrap_or(u32::MAX);
     out.extend_from_slice(&count.to_le_bytes())?;
     let rows = snapshot_of(alloc, edits)?;
     out.extend_from_slice(rows.as_slice())?;

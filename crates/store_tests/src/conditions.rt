@@ -1,7 +1,7 @@
 //! The conditions on the state, each just inside and just outside. The row change that is tested is
 //! the last of a body, so that its offset is the length of the body without it.
 use crate::bodies::Edit::{Clear, Insert, Mode, Numbered, Put, Remove, Replace, TakeOut, Weigh};
-use crate::bodies::{Edit, change_of, list_of, put};
+use crate::bodies::{Edit, front_of, list_of, put};
 use journal::{Replay, ReplayFault};
 use row_store::Rows;
 use std::alloc::Global;
@@ -207,9 +207,7 @@ const REPLACED: [Case; 2] = [
 
 // Whether the last row change is taken, or is a fault where it begins.
 fn is_answered(alloc: Global, list: &SuffixList, case: &Case) -> Result<bool, Fail> {
-    let mut body = change_of(alloc, case.done)?;
-    let count = u32::try_from(case.done.len() + 1).unwrap_or(u32::MAX);
-    body[..4].copy_from_slice(&count.to_le_bytes());
+    let mut body = front_of(alloc, case.done.len() + 1, case.done)?;
     let offset = body.len() as u64;
     put(&mut body, case.last)?;
     let answer = Rows::new(alloc, list).frame(false, body.as_slice());

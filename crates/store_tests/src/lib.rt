@@ -9,5 +9,3 @@ mod bodies;
 mod conditions;
 #[cfg(test)]
 mod frames;
-#[cfg(test)]
-mod told;

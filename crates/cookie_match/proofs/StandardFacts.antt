@@ -42,3 +42,6 @@ domain_above = refl
 
 address_itself : domain_matches true (codes "1.2.3.4") (codes "1.2.3.4") ≡ true
 address_itself = refl
+
+default_of_no_first_slash : default_path (codes "a/b/c") ≡ codes "/"
+default_of_no_first_slash = refl

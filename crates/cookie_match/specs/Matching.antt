@@ -1,5 +1,5 @@
 -- Domains and paths that match.
--- Source: RFC 6265bis, "Domain Matching", "Paths and Path-Match".
+-- Source: RFC 6265bis, "Domain Matching", "Paths and Path-Match" (the default path).
 use Rattle.std.specs.Prelude.{ℕ, ◌-◌, Bool, ◌&&◌, ◌||◌, not, ◌==◌, nat_le, nat_lt, nat_eq, List}
 use Rattle.std.specs.Prelude.{length, codes, bytes_eq, if◌then◌else◌}
 use Rattle.std.specs.List.{starts_with, ends_with, before_last, count_by, slice_index}
@@ -36,8 +36,13 @@ path_matches path base =
     bytes_eq path base
     || (starts_with nat_eq path base && (ends_with_slash base || goes_on_with_slash path base))
 
--- the default path of a URL's path: `/` where that has at most one `/`, else what stands before
--- its last `/`
+-- a text begins with `/`
+abbrev pub begins_with_slash : List ℕ → Bool
+begins_with_slash text = is_slash (slice_index text 0)
+
+-- the default path of a URL's path: `/` where that does not begin with `/` or has but one, else
+-- what stands before its last `/`
 abbrev pub default_path : List ℕ → List ℕ
 default_path path =
-    if nat_le (count_by is_slash path) 1 then codes "/" else before_last is_slash path
+    if not (begins_with_slash path) || nat_le (count_by is_slash path) 1 then codes "/"
+    else before_last is_slash path

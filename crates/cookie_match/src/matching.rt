@@ -45,11 +45,17 @@ fn goes_on_with_slash(text: &[u8], front: &[u8]) -> bool
 pub fn default_path(path: &str) -> &str
     ensures value { result.now ≡ spec.default_path path.now }
 {
-    if count_slashes(path) <= 1 {
+    if !begins_with_slash(path.as_bytes()) || count_slashes(path) <= 1 {
         "/"
     } else {
         &path[..last_slash(path)]
     }
+}
+
+fn begins_with_slash(text: &[u8]) -> bool
+    ensures { result ≡ spec.begins_with_slash text.now }
+{
+    matches!(text, [b'/', ..])
 }
 
 fn count_slashes(path: &str) -> usize

@@ -265,6 +265,7 @@ impl Tab {
         ensures flagged { IsDoneAt frame self.old self.new
             (with_document frame flagged self.old) result }
         ensures site { top_site self.new ≡ top_site self.old }
+        ensures tree { IsTree self.new }
     {
         if !has_frame(self.frames.as_slice(), frame) {
             return Err(NoFrame);
@@ -277,6 +278,7 @@ impl Tab {
     pub fn consume(&mut self)
         ensures consumed { self.new ≡ consumed self.old }
         ensures site { top_site self.new ≡ top_site self.old }
+        ensures tree { IsTree self.new }
     {
         unmark(&mut self.frames);
     }

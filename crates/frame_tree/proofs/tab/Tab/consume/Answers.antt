@@ -24,4 +24,7 @@ returns c = record {
   site =
       top-kept (λ _. true) (with_mark None) same c.self.inside.frames.items c.unmark.new.frames.items c.unmark.ensures.unmarked
       c.self.invariant.tree ∙ ap top_site c.self.view_is;
+  tree =
+      (sound-marked (λ _. true) (with_mark None) same c.self.inside.frames.items c.unmark.new.frames.items c.unmark.ensures.unmarked
+      (plain_site c.self.inside.top) c.self.invariant).tree;
 }

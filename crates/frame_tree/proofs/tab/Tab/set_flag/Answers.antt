@@ -27,4 +27,6 @@ returns c =
       site =
           top-kept (λ n. n == c.args.frame) flagged same c.self.inside.frames.items c.flag.new.frames.items c.flag.ensures.flagged
           c.self.invariant.tree ∙ ap top_site c.self.view_is;
+      tree = (sound-marked (λ n. n == c.args.frame) flagged same c.self.inside.frames.items c.flag.new.frames.items c.flag.ensures.flagged
+          (plain_site c.self.inside.top) c.self.invariant).tree;
     }

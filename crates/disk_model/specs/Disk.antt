@@ -37,7 +37,7 @@ pub record View : Type 1 where
   pub contents : Option (List ℕ)
   -- the images: what a cut at this moment may leave
   pub may_leave : List ℕ → Type 0
-  -- the clock, which counts changing calls and restarts
+  -- the clock, which goes on from call to call up to a restart
   pub moment : ℕ
   -- what a cut at some moment from that one on might have left, back to the last restart
   pub left_since : ℕ → List ℕ → Type 0

@@ -14,3 +14,5 @@ pub record IsLawful (view : View) : Type 0 where
   pub tells_contents : (c : List ℕ) → view.contents ≡ Some c → view.tells ≡ true
   -- what a read returns is one of the images
   pub contents_may_stay : (c : List ℕ) → view.contents ≡ Some c → view.may_leave c
+  -- what tells nothing has no images
+  pub untold : (t : ℕ) (c : List ℕ) → view.left_since t c → view.tells ≡ true

@@ -22,4 +22,5 @@ mem_lawful disk = record {
   told = λ e. ((held disk.past).contents, refl);
   tells_contents = λ c is. refl;
   contents_may_stay = λ c is. is_contents disk.past c is;
+  untold = λ t c since. refl;
 }

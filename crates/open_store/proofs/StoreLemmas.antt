@@ -1,0 +1,182 @@
+-- What a store stands for, and what a commit makes of it.
+use Rattle.std.proofs.Common.{◌≡◌, inl, inr, ℕ, ◌+◌, ◌%◌, ◌^◌, ◌<◌, true, false, Bool, List, [], ◌∷◌, ◌++◌, length, Some, refl, sym, ap, subst, ◌∙◌, arith}
+use Rattle.std.specs.Prelude.{Err, Ok, OnErr, OnOk, Result, is_err}
+use Rattle.disk_model.specs.Disk.{Device, LeavesOnly, View}
+use Rattle.disk_model.specs.DiskLaws.{IsLawful}
+use Rattle.journal.specs.Journal.{IsAtRest, IsBeforeOrAfter, JournalView, Stands, next_frame}
+use Rattle.journal.specs.Region.{Runs, StandsFor}
+use Rattle.journal.specs.Store.{Frame, IsStore}
+use Rattle.journal.proofs.Meanings.{commit_stands_for}
+use Rattle.journal.proofs.Moments.{started, weaker}
+use Rattle.journal.proofs.Runs.{runs_push}
+use Rattle.open_store.specs.Commits.{BodyLeads, CommitDevice, IsEither}
+use Rattle.open_store.specs.Standing.{IsReady, StandsAt}
+
+some_is : {A : Type 0} (a b : A) → Some a ≡ Some b → a ≡ b
+some_is a b e = cc
+
+twice : (n : ℕ) → n % 2 ^ 64 % 2 ^ 64 ≡ n % 2 ^ 64
+twice n = omega arith
+
+pub stands_store : (j : JournalView) (file : List ℕ) (frames : List Frame) → Stands j file frames
+    → IsStore j.digest file frames
+stands_store j file frames s = record {
+  live = j.live;
+  number = j.number;
+  begin = j.begin;
+  head = s.head;
+  from = s.from;
+  fits = s.fits;
+  frames_at = s.frames_at;
+  sized = s.sized;
+}
+
+module _ {S : Type 0} (takes : S → Bool → List ℕ → S → ℕ → Type 0) (empty : S) where
+  module _ (j : JournalView) (v : View) (base : S) (at : StandsAt takes empty j v base) where
+    pub contents_stand : (c : List ℕ) → v.contents ≡ Some c
+        → StandsFor takes empty j.digest c base j.changes
+    contents_stand c told =
+        let here = at.stands c told in (here.0, stands_store j c here.0 here.1, here.2)
+
+    pub images_stand : (c : List ℕ) → v.may_leave c
+        → StandsFor takes empty j.digest c base j.changes
+    images_stand c left = contents_stand c (at.rests.settled c left)
+
+  -- ---- an empty body
+
+  nothing_leads : (base next : S) (body : List ℕ) (changes : ℕ) → length body ≡ 0
+      → BodyLeads takes base body changes next → (changes ≡ 0) × (next ≡ base)
+  nothing_leads base next body changes none (inl empty_body) = (empty_body.1, empty_body.2)
+  nothing_leads base next body changes none (inr leads) =
+      absurd (omega (arith, none, leads.0))
+
+  pub nothing_done : (j : JournalView) (v : View) (base next : S) (body : List ℕ) (changes : ℕ)
+      → length body ≡ 0 → StandsAt takes empty j v base → BodyLeads takes base body changes next
+      → StandsAt takes empty j v next × (j.changes % 2 ^ 64 ≡ (j.changes + changes) % 2 ^ 64)
+  nothing_done j v base next body changes none at leads =
+      let same = nothing_leads base next body changes none leads in
+      (subst (λ (d : S). StandsAt takes empty j v d) (sym same.1) at, omega (arith, same.0))
+
+  pub nothing_moments : (j : JournalView) (v : View) (base next : S) (later : ℕ) → IsLawful v
+      → StandsAt takes empty j v base
+      → LeavesOnly v v (IsEither takes empty j.digest base j.changes next later)
+  nothing_moments j v base next later laws at =
+      started v (IsEither takes empty j.digest base j.changes next later) laws.only_now
+      (λ c left. inl (images_stand j v base at c left))
+
+  -- ---- a body with a byte
+
+  something_leads : (base next : S) (body : List ℕ) (changes : ℕ) → 0 < length body
+      → BodyLeads takes base body changes next → takes base false body next changes
+  something_leads base next body changes some (inl empty_body) =
+      absurd (omega (arith, some, ap length empty_body.0))
+  something_leads base next body changes some (inr leads) = leads.1
+
+  module _ (j k : JournalView) (v w : View) (body : List ℕ) (changes : ℕ)
+      (some : 0 < length body) where
+    abbrev Acknowledged : Type 0
+    Acknowledged = (c : List ℕ) (frames : List Frame) → v.contents ≡ Some c → Stands j c frames
+        → (d : List ℕ) × (w.contents ≡ Some d)
+        × Stands k d (frames ++ next_frame j body changes ∷ [])
+
+    committed_at : (base next : S) → StandsAt takes empty j v base
+        → takes base false body next changes → IsAtRest k w → k.shut ≡ false
+        → k.changes ≡ (j.changes + changes) % 2 ^ 64
+        → ((c : List ℕ) → w.contents ≡ Some c → (d : List ℕ) × (v.contents ≡ Some d))
+        → Acknowledged → StandsAt takes empty k w next
+    committed_at base next at taken rests usable count told acknowledged = record {
+      rests = rests;
+      usable = usable;
+      stands = λ c here.
+          let was = told c here in
+          let stood = at.stands was.0 was.1 in
+          let done = acknowledged was.0 stood.0 was.1 stood.1 in
+          let same : done.0 ≡ c = some_is done.0 c (sym done.1 ∙ here) in
+          let f = next_frame j body changes in
+          let frames = stood.0 ++ f ∷ [] in
+          let runs =
+          runs_push takes true empty 0 stood.0 base j.changes f next changes stood.2 some
+          taken refl in (
+            frames,
+            subst (λ (e : List ℕ). Stands k e frames) same done.2,
+            subst (λ (n : ℕ). Runs takes true empty 0 frames next n) (sym count) runs,
+          );
+    }
+
+    pub commit_done : {T E : Type 0} (result : Result T E) → IsLawful v → IsLawful w
+        → w.tells ≡ v.tells → OnOk result (IsAtRest k w) → k.shut ≡ is_err result
+        → OnOk result
+        (k ≡ record j {
+          end = j.end + 18 + length body;
+          changes = (j.changes + changes) % 2 ^ 64;
+          room = k.room;
+        })
+        → OnOk result Acknowledged
+        → OnOk result
+        ((base next : S) → StandsAt takes empty j v base
+        → BodyLeads takes base body changes next
+        → StandsAt takes empty k w next
+        × (k.changes % 2 ^ 64 ≡ (j.changes + changes) % 2 ^ 64))
+    commit_done (Ok x) before after tells rests shut done acknowledged = λ base next at leads.
+        let count = ap (λ (i : JournalView). i.changes) done in (
+          committed_at base next at (something_leads base next body changes some leads) rests shut
+              count (λ c told. before.told (sym tells ∙ after.tells_contents c told)) acknowledged,
+          ap (λ (n : ℕ). n % 2 ^ 64) count ∙ twice (j.changes + changes),
+        )
+    commit_done (Err e) before after tells rests shut done acknowledged = tt
+
+    pub commit_moments : (base next : S) → StandsAt takes empty j v base
+        → BodyLeads takes base body changes next → IsLawful v → v.tells ≡ true
+        → ((c : List ℕ) (frames : List Frame) → v.contents ≡ Some c → Stands j c frames
+        → LeavesOnly v w (IsBeforeOrAfter j.digest frames (next_frame j body changes)))
+        → LeavesOnly v w
+        (IsEither takes empty j.digest base j.changes next ((j.changes + changes) % 2 ^ 64))
+    commit_moments base next at leads laws tells moments =
+        let told = laws.told tells in
+        let stood = at.stands told.0 told.1 in
+        weaker v w (IsBeforeOrAfter j.digest stood.0 (next_frame j body changes))
+        (IsEither takes empty j.digest base j.changes next ((j.changes + changes) % 2 ^ 64))
+        (λ file. commit_stands_for takes empty j.digest file body stood.0 base next j.changes
+        changes stood.2 some (something_leads base next body changes some leads))
+        (moments told.0 stood.0 told.1 stood.1)
+
+-- ---- what a commit answers
+
+pub commit_ready : {T E : Type 0} (result : Result T E) (k : JournalView) (w : View)
+    → OnOk result (IsAtRest k w) → k.shut ≡ is_err result → OnOk result (IsReady k w)
+commit_ready (Ok x) k w rests shut = record { usable = shut; rests = rests }
+commit_ready (Err e) k w rests shut = tt
+
+pub commit_digest : {T E : Type 0} (result : Result T E) (j k : JournalView) (end changes : ℕ)
+    → OnOk result (k ≡ record j { end = end; changes = changes; room = k.room })
+    → OnErr result (k ≡ record j { shut = true; room = k.room }) → k.digest ≡ j.digest
+commit_digest (Ok x) j k end changes done failed = ap (λ (i : JournalView). i.digest) done
+commit_digest (Err e) j k end changes done failed = ap (λ (i : JournalView). i.digest) failed
+
+pub commit_device : {T E : Type 0} (result : Result T E) (v w : View) → Device 4 2 result v w
+    → CommitDevice 4 result v w
+commit_device (Ok x) v w device = record {
+  tells = device.faults.tells;
+  later = device.calls.later;
+  calls = device.calls.most;
+  failed = tt;
+  fine = record {
+    faults = device.faults.cause.still;
+    off = device.faults.ok.after ∙ sym device.faults.ok.before;
+    failures = device.faults.ok.failures;
+    cuts = device.faults.ok.cuts;
+  };
+}
+commit_device (Err e) v w device = record {
+  tells = device.faults.tells;
+  later = device.calls.later;
+  calls = device.calls.most;
+  failed = (device.faults.cause.failed, device.faults.err);
+  fine = tt;
+}
+
+-- what holds of each meaning holds of all
+pub on_each : {T E A : Type 0} (result : Result T E) (P : A → Type 0)
+    → ((x : A) → OnOk result (P x)) → OnOk result ((x : A) → P x)
+on_each (Ok x) P each = each
+on_each (Err e) P each = tt

@@ -1,0 +1,4 @@
+-- What contracts cite.
+pub mod Standing
+pub mod Commits
+pub mod Reopens

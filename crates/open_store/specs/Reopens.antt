@@ -1,0 +1,30 @@
+-- What an opening after a cut of the power finds.
+-- Source: none.
+use Rattle.std.specs.Prelude.{◌≡◌, ◌⊎◌, ℕ, true, false, List, IsErrOf, OnOk, Result}
+use Rattle.agent_base.specs.Counts.{Rose}
+use Rattle.disk_model.specs.Disk.{IsNextCut, View, WasOff}
+use Rattle.journal.specs.Region.{StandsFor, TakesOf}
+use Rattle.journal.specs.declared.open_fault.OpenFault.{OpenFault}
+use Rattle.journal.specs.declared.open_fault.OpenFault.TheVariants.{DeviceFault}
+
+-- whatever a cut leaves of a disk that tells its contents is a store that stands for some state
+abbrev pub LeavesStores : {S : Type 0} → TakesOf S → S → (digest : List ℕ) → View → Type 0
+LeavesStores {S} takes empty digest view =
+    view.tells ≡ true → (file : List ℕ) → view.may_leave file
+    → (base : S) × (last : ℕ) × StandsFor takes empty digest file base last
+
+-- a cut may leave a store that stands for this, after so many changes
+abbrev pub IsFound : {S : Type 0} → TakesOf S → S → (digest : List ℕ) → View → S → ℕ → Type 0
+IsFound takes empty digest view base last =
+    (file : List ℕ) × view.may_leave file × StandsFor takes empty digest file base last
+
+-- a restart answers a device fault exactly where a call of the disk failed
+pub record Reopens {T : Type 0} (result : Result T OpenFault) (old new : View) : Type 0 where
+  pub tells : new.tells ≡ old.tells
+  pub counted : IsErrOf result DeviceFault → Rose old.faults new.faults
+  -- the disk's own restart found the power off still, or the call that failed was a cut
+  pub failed : IsErrOf result DeviceFault
+      → WasOff old new ⊎ IsNextCut old.cuts new.cuts new.changing
+  pub others : IsErrOf result DeviceFault
+      ⊎ ((new.faults ≡ old.faults) × (new.failures ≡ old.failures) × (new.cuts ≡ old.cuts))
+  pub on : OnOk result (new.off ≡ false)

@@ -1,0 +1,60 @@
+//! The store.
+ghost use Rattle.std.specs.Prelude.{◌≡◌, ◌+◌, ◌%◌, ◌^◌, true, ℕ, List, length, OnOk};
+ghost use Rattle.disk_model.specs.Disk.{LeavesOnly};
+ghost use Rattle.open_store.specs.Commits.{BodyLeads, CommitDevice, HasRoomFor, IsEither};
+ghost use Rattle.open_store.specs.Standing.{IsReady, IsRoomier, StandsAt};
+
+use agent_base::NoMemory;
+use disk_model::Disk;
+use journal::{DeviceFault, Journal, Replay};
+
+/// A journal, and the disk that it is on.
+#[derive(Debug, Drop)]
+pub struct Store<D: Disk + Drop> {
+    pub journal: Journal,
+    pub disk: D,
+}
+
+impl<D: Disk + Drop> Store<D> {
+    /// Makes room, so that the commit of a body of so many bytes takes no memory.
+    pub fn reserve(&mut self, body: usize) -> Result<(), NoMemory>
+        ensures room { OnOk result (HasRoomFor self.new.journal (D.view self.new.disk) body) }
+        ensures roomier { IsRoomier self.old.journal self.new.journal
+            (D.view self.old.disk) (D.view self.new.disk) }
+    {
+        self.journal.reserve(&mut self.disk, body)
+    }
+
+    /// Commits the body of a batch, of so many changes. An empty one has nothing to commit. Takes
+    /// no memory. At most four changing calls.
+    pub fn commit<R: Replay>(&mut self, body: &[u8], changes: u64) -> Result<(), DeviceFault>
+        requires ready { IsReady self.old.journal (D.view self.old.disk) }
+        requires room { HasRoomFor self.old.journal (D.view self.old.disk) (length body.now) }
+
+        // The store stands for the state that the body leads to.
+        ensures done { OnOk result ((by : R.Rules) (base next : R.State)
+            → StandsAt (R.takes by) R.empty self.old.journal (D.view self.old.disk) base
+            → BodyLeads (R.takes by) base body.now changes next
+            → StandsAt (R.takes by) R.empty self.new.journal (D.view self.new.disk) next
+            × (self.new.journal.changes % 2 ^ 64 ≡ (self.old.journal.changes + changes) % 2 ^ 64)) }
+        ensures ready { OnOk result (IsReady self.new.journal (D.view self.new.disk)) }
+
+        // A cut at any moment leaves the one state or the other.
+        ensures any_moment { (by : R.Rules) (base next : R.State)
+            → StandsAt (R.takes by) R.empty self.old.journal (D.view self.old.disk) base
+            → BodyLeads (R.takes by) base body.now changes next
+            → (D.view self.old.disk).tells ≡ true
+            → LeavesOnly (D.view self.old.disk) (D.view self.new.disk)
+            (IsEither (R.takes by) R.empty self.old.journal.digest
+            base self.old.journal.changes
+            next ((self.old.journal.changes + changes) % 2 ^ 64)) }
+
+        ensures digest { self.new.journal.digest ≡ self.old.journal.digest }
+        ensures device { CommitDevice 4 result (D.view self.old.disk) (D.view self.new.disk) }
+    {
+        if body.is_empty() {
+            return Ok(());
+        }
+        self.journal.commit(&mut self.disk, body, changes)
+    }
+}

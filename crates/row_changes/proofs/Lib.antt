@@ -5,6 +5,7 @@ pub mod CookieLaws
 pub mod ChangeLaws
 pub mod BodyLaws
 pub mod PieceLaws
+pub mod SpelledLaws
 pub mod TextLemmas
 pub mod WritingLemmas
 pub mod StandardFacts

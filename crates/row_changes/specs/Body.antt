@@ -22,6 +22,12 @@ rows_bytes changes = flat_map change_bytes changes
 abbrev pub changes_bytes : List PlainChange → List ℕ
 changes_bytes changes = to_le_bytes w32 (length changes) ++ rows_bytes changes
 
+-- the bytes of the row changes of a line: none where there is none, else those of one durable
+-- change
+abbrev pub durable_bytes : List PlainChange → List ℕ
+durable_bytes [] = []
+durable_bytes (change ∷ changes) = changes_bytes (change ∷ changes)
+
 -- a piece of a body: a durable change begins, a row change that begins at this offset, or the first
 -- fault with its offset, which is the last piece
 pub data PlainPiece : Type 0 where

@@ -1,8 +1,8 @@
 -- What ties the bytes of row changes, and the bodies of them, to what bytes say.
 -- Source: none.
 -- Our own choice: an offset counts from the body's front, and is that of the first byte.
-use Rattle.std.specs.Prelude.{◌≡◌, ℕ, ◌+◌, ◌<◌, ◌^◌, true, false, List, [], ◌∷◌, ◌++◌, length, Some}
-use Rattle.std.specs.Prelude.{slice_index}
+use Rattle.std.specs.Prelude.{◌≡◌, ⊤, ℕ, ◌+◌, ◌<◌, ◌^◌, Bool, true, false, List, [], ◌∷◌, ◌++◌, length}
+use Rattle.std.specs.Prelude.{Some, slice_index}
 use Rattle.std.specs.Int.{w32, byte_len}
 use Rattle.std.specs.List.{All, flat_map}
 use Rattle.suffix_list.specs.Suffix.{Rule}
@@ -10,7 +10,7 @@ use Rattle.row_changes.specs.Change.{PlainChange}
 use Rattle.row_changes.specs.Spelling.{change_bytes}
 use Rattle.row_changes.specs.Spelled.{IsSpelled}
 use Rattle.row_changes.specs.Reading.{change_at}
-use Rattle.row_changes.specs.Body.{rows_bytes, changes_bytes, PlainPiece, Begins, Row, pieces_of}
+use Rattle.row_changes.specs.Body.{rows_bytes, changes_bytes, PlainPiece, Begins, Row, Fault, pieces_of}
 
 -- each number of a list is a byte
 abbrev pub AreBytes : List ℕ → Type 0
@@ -60,3 +60,14 @@ abbrev pub SnapshotsReadBack : Type 0
 SnapshotsReadBack = (rules : List Rule) (changes : List PlainChange)
     → All (IsSpelled rules) changes
     → pieces_of rules true (rows_bytes changes) ≡ row_pieces 0 changes
+
+-- a piece that is a row change has a spelling
+abbrev pub IsSpelledPiece : List Rule → PlainPiece → Type 0
+IsSpelledPiece rules Begins = ⊤
+IsSpelledPiece rules (Row at change) = IsSpelled rules change
+IsSpelledPiece rules (Fault at) = ⊤
+
+-- whatever the bytes of a body are, each row change that is read of it has a spelling
+abbrev pub PiecesAreSpelled : Type 0
+PiecesAreSpelled = (rules : List Rule) (snapshot : Bool) (body : List ℕ)
+    → AreBytes body → All (IsSpelledPiece rules) (pieces_of rules snapshot body)

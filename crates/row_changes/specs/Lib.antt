@@ -7,7 +7,9 @@ pub mod Spelled
 pub mod Reading
 pub mod Body
 pub mod Laws
+pub mod Appended
 -- What contracts see of a row change, and what private functions answer.
 pub mod Plain
 pub mod Pieces
+pub mod Grown
 pub mod Stops

@@ -1,6 +1,6 @@
-//! A row change.
+//! A row change, owned or over parts that others own.
 ghost use Rattle.std.specs.Prelude.{◌≡◌, IfOk};
-ghost use Rattle.row_changes.specs.Plain.{plain_change};
+ghost use Rattle.row_changes.specs.Plain.{plain_change, plain_ref};
 
 use access_grants::GrantRow;
 use agent_base::NoMemory;
@@ -51,7 +51,86 @@ pub enum Change {
     },
 }
 
+/// A row change over parts that others own, as [`Change`] has them.
+#[derive(Clone, Copy, Debug)]
+pub enum ChangeRef<'a> {
+    AreaPut {
+        key: &'a StorageKey,
+        name: &'a str,
+        value: &'a str,
+    },
+    AreaRemove {
+        key: &'a StorageKey,
+        name: &'a str,
+    },
+    AreaClear {
+        key: &'a StorageKey,
+    },
+    SetMode {
+        key: &'a StorageKey,
+    },
+    CookieInsert {
+        cell: &'a CellKey,
+        place: u8,
+        cookie: &'a Cookie,
+    },
+    CookieReplace {
+        cell: &'a CellKey,
+        place: u8,
+        cookie: &'a Cookie,
+    },
+    CookieRemove {
+        cell: &'a CellKey,
+        place: u8,
+    },
+    Grant {
+        row: &'a GrantRow,
+    },
+}
+
 impl Change {
+    /// The same row change over the parts of this one.
+    pub fn borrowed(&self) -> ChangeRef<'_>
+        ensures same { plain_ref result ≡ plain_change self.now }
+    {
+        match self {
+            Change::AreaPut { key, name, value } => ChangeRef::AreaPut {
+                key,
+                name: name.as_str(),
+                value: value.as_str(),
+            },
+            Change::AreaRemove { key, name } => ChangeRef::AreaRemove {
+                key,
+                name: name.as_str(),
+            },
+            Change::AreaClear { key } => ChangeRef::AreaClear { key },
+            Change::SetMode { key } => ChangeRef::SetMode { key },
+            Change::CookieInsert {
+                cell,
+                place,
+                cookie,
+            } => ChangeRef::CookieInsert {
+                cell,
+                place: *place,
+                cookie,
+            },
+            Change::CookieReplace {
+                cell,
+                place,
+                cookie,
+            } => ChangeRef::CookieReplace {
+                cell,
+                place: *place,
+                cookie,
+            },
+            Change::CookieRemove { cell, place } => ChangeRef::CookieRemove {
+                cell,
+                place: *place,
+            },
+            Change::Grant { row } => ChangeRef::Grant { row },
+        }
+    }
+
     /// The same row change, over memory of its own.
     pub fn copy(&self, alloc: Global) -> Result<Change, NoMemory>
         ensures same { IfOk result (λ c. plain_change c ≡ plain_change self.now) }

@@ -17,7 +17,7 @@ mod stop;
 mod writing;
 
 pub use body::{Piece, Reader};
-pub use change::Change;
+pub use change::{Change, ChangeRef};
 pub use laws::written;
 pub use reading::read_change;
-pub use writing::{write_changes, write_rows};
+pub use writing::{append_change, append_changes, write_changes, write_rows};

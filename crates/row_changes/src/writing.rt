@@ -1,17 +1,22 @@
 //! Writing row changes.
-ghost use Rattle.std.specs.Prelude.{◌≡◌, ◌<◌, ◌++◌, ◌∷◌, [], IfOk, OnOk, length, map, pos, unwrap_or};
+ghost use Rattle.std.specs.Prelude.{◌≡◌, ◌<◌, ◌++◌, ◌∷◌, [], IfOk, OnOk, Ok, length, map, pos, unwrap_or};
+ghost use Rattle.std.specs.List.{All};
 ghost use Rattle.access_grants.specs.Plain.{plain_grant};
 ghost use Rattle.cookie_jar.specs.Key.{plain_key as plain_cell};
 ghost use Rattle.cookie_jar.specs.Views.{plain_cookie};
 ghost use Rattle.origin_site.specs.Plain.{plain_site};
 ghost use Rattle.origin_site.specs.Site.{site_text};
 ghost use Rattle.storage_key.specs.Plain.{plain_key};
+ghost use Rattle.row_changes.specs.Appended.{Appends, HasCellTexts, HasCookieTexts, HasGrantTexts};
+ghost use Rattle.row_changes.specs.Appended.{HasKeyTexts, HasTexts};
+ghost use Rattle.row_changes.specs.Grown.{Grown};
+ghost use Rattle.row_changes.specs.Spelled.{IsText};
 ghost use Rattle.row_changes.specs.Body.{changes_bytes, rows_bytes};
 ghost use Rattle.row_changes.specs.Fields as fields;
-ghost use Rattle.row_changes.specs.Plain.{plain_change};
+ghost use Rattle.row_changes.specs.Plain.{plain_change, plain_ref};
 ghost use Rattle.row_changes.specs.Spelling as spec;
 
-use crate::Change;
+use crate::{Change, ChangeRef};
 use access_grants::GrantRow;
 use agent_base::NoMemory;
 use cookie_jar::{CellKey, Cookie};
@@ -22,7 +27,9 @@ use storage_key::StorageKey;
 
 // A text behind `out`. One of 4 GiB has no room.
 fn put_text(out: &mut Vec<u8>, text: &str) -> Result<(), NoMemory>
-    ensures { OnOk result (out.new.items ≡ out.old.items ++ fields.text_bytes text.now) }
+    ensures bytes { OnOk result (out.new.items ≡ out.old.items ++ fields.text_bytes text.now) }
+    ensures texts { OnOk result (IsText text.now) }
+    ensures front { Grown out.old.items out.new.items }
 {
     let Ok(count) = u32::try_from(text.len()) else {
         return Err(NoMemory);
@@ -33,14 +40,16 @@ fn put_text(out: &mut Vec<u8>, text: &str) -> Result<(), NoMemory>
 }
 
 fn put_signed(out: &mut Vec<u8>, number: &i64) -> Result<(), NoMemory>
-    ensures { OnOk result (out.new.items ≡ out.old.items ++ fields.signed_bytes number.now) }
+    ensures bytes { OnOk result (out.new.items ≡ out.old.items ++ fields.signed_bytes number.now) }
+    ensures front { Grown out.old.items out.new.items }
 {
     out.extend_from_slice(&number.to_le_bytes())?;
     Ok(())
 }
 
 fn put_byte(out: &mut Vec<u8>, byte: u8) -> Result<(), NoMemory>
-    ensures { OnOk result (out.new.items ≡ out.old.items ++ byte ∷ []) }
+    ensures bytes { OnOk result (out.new.items ≡ out.old.items ++ byte ∷ []) }
+    ensures front { Grown out.old.items out.new.items }
 {
     if out.push(byte).is_err() {
         return Err(NoMemory);
@@ -55,15 +64,20 @@ fn bit_byte(bit: bool) -> u8
 }
 
 fn put_site(out: &mut Vec<u8>, site: &Site) -> Result<(), NoMemory>
-    ensures { OnOk result
+    ensures bytes { OnOk result
         (out.new.items ≡ out.old.items ++ fields.text_bytes (site_text (plain_site site.now))) }
+    ensures texts { OnOk result (IsText (site_text (plain_site site.now))) }
+    ensures front { Grown out.old.items out.new.items }
 {
     let text = site.text(*out.allocator())?;
     put_text(out, text.as_str())
 }
 
 fn put_key(out: &mut Vec<u8>, key: &StorageKey) -> Result<(), NoMemory>
-    ensures { OnOk result (out.new.items ≡ out.old.items ++ spec.key_bytes (plain_key key.now)) }
+    ensures bytes { OnOk result
+        (out.new.items ≡ out.old.items ++ spec.key_bytes (plain_key key.now)) }
+    ensures texts { OnOk result (HasKeyTexts (plain_key key.now)) }
+    ensures front { Grown out.old.items out.new.items }
 {
     let origin = key.origin.text(*out.allocator())?;
     put_text(out, origin.as_str())?;
@@ -72,7 +86,10 @@ fn put_key(out: &mut Vec<u8>, key: &StorageKey) -> Result<(), NoMemory>
 }
 
 fn put_cell(out: &mut Vec<u8>, cell: &CellKey) -> Result<(), NoMemory>
-    ensures { OnOk result (out.new.items ≡ out.old.items ++ spec.cell_bytes (plain_cell cell.now)) }
+    ensures bytes { OnOk result
+        (out.new.items ≡ out.old.items ++ spec.cell_bytes (plain_cell cell.now)) }
+    ensures texts { OnOk result (HasCellTexts (plain_cell cell.now)) }
+    ensures front { Grown out.old.items out.new.items }
 {
     match cell {
         CellKey::Own { domain } => {
@@ -106,8 +123,10 @@ fn same_site_byte(same_site: SameSite) -> u8
 }
 
 fn put_texts(out: &mut Vec<u8>, cookie: &Cookie) -> Result<(), NoMemory>
-    ensures { OnOk result
+    ensures bytes { OnOk result
         (out.new.items ≡ out.old.items ++ spec.cookie_texts (plain_cookie cookie.now)) }
+    ensures texts { OnOk result (HasCookieTexts (plain_cookie cookie.now)) }
+    ensures front { Grown out.old.items out.new.items }
 {
     put_text(out, cookie.texts.name.as_str())?;
     put_text(out, cookie.texts.value.as_str())?;
@@ -117,8 +136,9 @@ fn put_texts(out: &mut Vec<u8>, cookie: &Cookie) -> Result<(), NoMemory>
 
 // The expiry of a cookie, which every cookie of a row change has.
 fn put_expiry(out: &mut Vec<u8>, expiry: &Option<i64>) -> Result<(), NoMemory>
-    ensures { OnOk result (out.new.items
+    ensures bytes { OnOk result (out.new.items
         ≡ out.old.items ++ fields.signed_bytes (unwrap_or expiry.now (pos 0))) }
+    ensures front { Grown out.old.items out.new.items }
 {
     match expiry {
         Some(expiry) => put_signed(out, expiry),
@@ -127,8 +147,9 @@ fn put_expiry(out: &mut Vec<u8>, expiry: &Option<i64>) -> Result<(), NoMemory>
 }
 
 fn put_marks(out: &mut Vec<u8>, cookie: &Cookie) -> Result<(), NoMemory>
-    ensures { OnOk result
+    ensures bytes { OnOk result
         (out.new.items ≡ out.old.items ++ spec.cookie_marks (plain_cookie cookie.now)) }
+    ensures front { Grown out.old.items out.new.items }
 {
     put_byte(out, flags_byte(cookie))?;
     put_byte(out, same_site_byte(cookie.same_site))?;
@@ -137,8 +158,10 @@ fn put_marks(out: &mut Vec<u8>, cookie: &Cookie) -> Result<(), NoMemory>
 }
 
 fn put_cookie(out: &mut Vec<u8>, cookie: &Cookie) -> Result<(), NoMemory>
-    ensures { OnOk result
+    ensures bytes { OnOk result
         (out.new.items ≡ out.old.items ++ spec.cookie_bytes (plain_cookie cookie.now)) }
+    ensures texts { OnOk result (HasCookieTexts (plain_cookie cookie.now)) }
+    ensures front { Grown out.old.items out.new.items }
 {
     put_texts(out, cookie)?;
     put_marks(out, cookie)
@@ -146,9 +169,12 @@ fn put_cookie(out: &mut Vec<u8>, cookie: &Cookie) -> Result<(), NoMemory>
 
 // Two sites, one behind the other.
 fn put_sites(out: &mut Vec<u8>, top: &Site, site: &Site) -> Result<(), NoMemory>
-    ensures { OnOk result (out.new.items ≡ out.old.items
+    ensures bytes { OnOk result (out.new.items ≡ out.old.items
         ++ (fields.text_bytes (site_text (plain_site top.now))
         ++ fields.text_bytes (site_text (plain_site site.now)))) }
+    ensures texts { OnOk result (IsText (site_text (plain_site top.now))
+        × IsText (site_text (plain_site site.now))) }
+    ensures front { Grown out.old.items out.new.items }
 {
     put_site(out, top)?;
     put_site(out, site)
@@ -161,8 +187,10 @@ fn answer_byte(granted: bool) -> u8
 }
 
 fn put_grant(out: &mut Vec<u8>, row: &GrantRow) -> Result<(), NoMemory>
-    ensures { OnOk result
+    ensures bytes { OnOk result
         (out.new.items ≡ out.old.items ++ spec.grant_bytes (plain_grant row.now)) }
+    ensures texts { OnOk result (HasGrantTexts (plain_grant row.now)) }
+    ensures front { Grown out.old.items out.new.items }
 {
     put_sites(out, &row.top, &row.site)?;
     put_byte(out, answer_byte(row.granted))?;
@@ -171,8 +199,10 @@ fn put_grant(out: &mut Vec<u8>, row: &GrantRow) -> Result<(), NoMemory>
 
 // A code and a key.
 fn put_keyed(out: &mut Vec<u8>, code: u8, key: &StorageKey) -> Result<(), NoMemory>
-    ensures { OnOk result
+    ensures bytes { OnOk result
         (out.new.items ≡ out.old.items ++ code ∷ spec.key_bytes (plain_key key.now)) }
+    ensures texts { OnOk result (HasKeyTexts (plain_key key.now)) }
+    ensures front { Grown out.old.items out.new.items }
 {
     put_byte(out, code)?;
     put_key(out, key)
@@ -180,48 +210,52 @@ fn put_keyed(out: &mut Vec<u8>, code: u8, key: &StorageKey) -> Result<(), NoMemo
 
 // A code, a cell and a place.
 fn put_placed(out: &mut Vec<u8>, code: u8, cell: &CellKey, place: u8) -> Result<(), NoMemory>
-    ensures { OnOk result (out.new.items
+    ensures bytes { OnOk result (out.new.items
         ≡ out.old.items ++ code ∷ (spec.cell_bytes (plain_cell cell.now) ++ place ∷ [])) }
+    ensures texts { OnOk result (HasCellTexts (plain_cell cell.now)) }
+    ensures front { Grown out.old.items out.new.items }
 {
     put_byte(out, code)?;
     put_cell(out, cell)?;
     put_byte(out, place)
 }
 
-fn put_change(out: &mut Vec<u8>, change: &Change) -> Result<(), NoMemory>
-    ensures { OnOk result
-        (out.new.items ≡ out.old.items ++ spec.change_bytes (plain_change change.now)) }
+fn put_change(out: &mut Vec<u8>, change: ChangeRef<'_>) -> Result<(), NoMemory>
+    ensures bytes { OnOk result
+        (out.new.items ≡ out.old.items ++ spec.change_bytes (plain_ref change.entry)) }
+    ensures texts { OnOk result (HasTexts (plain_ref change.entry)) }
+    ensures front { Grown out.old.items out.new.items }
 {
     match change {
-        Change::AreaPut { key, name, value } => {
+        ChangeRef::AreaPut { key, name, value } => {
             put_keyed(out, 1, key)?;
-            put_text(out, name.as_str())?;
-            put_text(out, value.as_str())
+            put_text(out, name)?;
+            put_text(out, value)
         }
-        Change::AreaRemove { key, name } => {
+        ChangeRef::AreaRemove { key, name } => {
             put_keyed(out, 2, key)?;
-            put_text(out, name.as_str())
+            put_text(out, name)
         }
-        Change::AreaClear { key } => put_keyed(out, 3, key),
-        Change::SetMode { key } => put_keyed(out, 4, key),
-        Change::CookieInsert {
+        ChangeRef::AreaClear { key } => put_keyed(out, 3, key),
+        ChangeRef::SetMode { key } => put_keyed(out, 4, key),
+        ChangeRef::CookieInsert {
             cell,
             place,
             cookie,
         } => {
-            put_placed(out, 5, cell, *place)?;
+            put_placed(out, 5, cell, place)?;
             put_cookie(out, cookie)
         }
-        Change::CookieReplace {
+        ChangeRef::CookieReplace {
             cell,
             place,
             cookie,
         } => {
-            put_placed(out, 6, cell, *place)?;
+            put_placed(out, 6, cell, place)?;
             put_cookie(out, cookie)
         }
-        Change::CookieRemove { cell, place } => put_placed(out, 7, cell, *place),
-        Change::Grant { row } => {
+        ChangeRef::CookieRemove { cell, place } => put_placed(out, 7, cell, place),
+        ChangeRef::Grant { row } => {
             put_byte(out, 8)?;
             put_grant(out, row)
         }
@@ -230,11 +264,13 @@ fn put_change(out: &mut Vec<u8>, change: &Change) -> Result<(), NoMemory>
 
 // Row changes one behind the other.
 fn put_rows(out: &mut Vec<u8>, changes: &[Change]) -> Result<(), NoMemory>
-    ensures { OnOk result
+    ensures bytes { OnOk result
         (out.new.items ≡ out.old.items ++ rows_bytes (map plain_change changes.now)) }
+    ensures texts { OnOk result (All HasTexts (map plain_change changes.now)) }
+    ensures front { Grown out.old.items out.new.items }
 {
     for change in changes {
-        put_change(out, change)?;
+        put_change(out, change.borrowed())?;
     }
     Ok(())
 }
@@ -251,18 +287,42 @@ pub fn write_rows(alloc: Global, changes: &[Change]) -> Result<Vec<u8>, NoMemory
     Ok(out)
 }
 
+/// The bytes of one row change, as a durable change of its own, behind what `out` holds.
+///
+/// Refused as [`append_changes`].
+pub fn append_change(out: &mut Vec<u8>, change: ChangeRef<'_>) -> Result<(), NoMemory>
+    ensures appended { Appends (plain_ref change.entry ∷ []) out.old.items out.new.items result }
+{
+    out.extend_from_slice(&1u32.to_le_bytes())?;
+    put_change(out, change)
+}
+
+/// The bytes of the row changes of a line behind what `out` holds.
+///
+/// A text of 4 GiB or more, and 4 Gi row changes or more, have no room in the format, and are
+/// answered as want of memory.
+pub fn append_changes(out: &mut Vec<u8>, changes: &[Change]) -> Result<(), NoMemory>
+    ensures appended { Appends (map plain_change changes.now) out.old.items out.new.items result }
+    ensures none { length changes.now ≡ 0 → (result ≡ Ok tt) × (out.new.items ≡ out.old.items) }
+{
+    if changes.is_empty() {
+        return Ok(());
+    }
+    let Ok(count) = u32::try_from(changes.len()) else {
+        return Err(NoMemory);
+    };
+    out.extend_from_slice(&count.to_le_bytes())?;
+    put_rows(out, changes)
+}
+
 /// The bytes of one durable change: the number of its row changes, and these.
 ///
-/// Refused as [`write_rows`], and where there are 4 Gi row changes or more.
+/// Refused as [`append_changes`].
 pub fn write_changes(alloc: Global, changes: &[Change]) -> Result<Vec<u8>, NoMemory>
     requires some { 0 < length changes.now }
     ensures bytes { IfOk result (λ out. out.items ≡ changes_bytes (map plain_change changes.now)) }
 {
-    let Ok(count) = u32::try_from(changes.len()) else {
-        return Err(NoMemory);
-    };
     let mut out = Vec::new(alloc);
-    out.extend_from_slice(&count.to_le_bytes())?;
-    put_rows(&mut out, changes)?;
+    append_changes(&mut out, changes)?;
     Ok(out)
 }

@@ -1,5 +1,6 @@
 use Rattle.row_changes.proofs.ChangeLaws.{change_again, change_takes}
 use Rattle.row_changes.proofs.PieceLaws.{body_again, snapshot_again}
+use Rattle.row_changes.proofs.SpelledLaws.{pieces_spelled}
 use Rattle.row_changes.proofs.laws.written.Goals as goal
 
 pub returns-clause-reads_back : goal.returns-clause-reads_back
@@ -13,3 +14,6 @@ returns-clause-bodies c = body_again
 
 pub returns-clause-snapshots : goal.returns-clause-snapshots
 returns-clause-snapshots c = snapshot_again
+
+pub returns-clause-spelled : goal.returns-clause-spelled
+returns-clause-spelled c = pieces_spelled

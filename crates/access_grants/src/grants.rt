@@ -115,6 +115,14 @@ impl Grants {
         self.rows.get(n)
     }
 
+    /// All rows, in the order in which their pairs were first kept.
+    pub fn rows(&self) -> &[GrantRow]
+        ensures rows { map plain_grant result.now ≡ self.now.rows }
+        ensures distinct { HasDistinctPairs self.now.rows }
+    {
+        self.rows.as_slice()
+    }
+
     /// The same permissions in the same order, over memory of their own.
     pub fn copy(&self) -> Result<Grants, NoMemory>
         ensures same { IfOk result (λ grants. grants.rows ≡ self.now.rows) }

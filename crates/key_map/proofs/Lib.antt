@@ -1,3 +1,4 @@
 mod StandardFacts
 pub mod WalksLemmas
 pub mod EntriesLemmas
+pub mod FiniteKeys

@@ -1,5 +1,5 @@
 //! The pairs of one storage area, with their weight.
-ghost use Rattle.std.specs.Prelude.{◌≡◌, ◌≤◌, ◌<◌, ◌+◌, ◌-◌, ◌↔◌, ◌⊎◌, ◌==◌, ◌≢◌, [], length, Some, None, Ok, Err, IfOk, IfErr, IfSome, IfNone, OnOk, OnErr, IsOk, string_bytes, option_map, if◌then◌else◌, nat_lt};
+ghost use Rattle.std.specs.Prelude.{◌≡◌, ◌≤◌, ◌<◌, ◌+◌, ◌-◌, ◌↔◌, ◌⊎◌, ◌==◌, ◌≢◌, [], length, Some, None, Ok, Err, IfOk, IfErr, IfSome, IfNone, OnOk, OnErr, IsOk, slice_get, string_bytes, option_map, if◌then◌else◌, nat_lt};
 ghost use Rattle.std.specs.Option.{option_copied};
 ghost use Rattle.local_area.specs.Area.{area_get, area_nth, area_put, area_remove, area_weight, quota, HasDistinctNames};
 ghost use Rattle.local_area.specs.Put.{plain_put, put_answer, same};
@@ -152,6 +152,17 @@ impl Area {
     {
         match self.pairs.get_index(n as usize) {
             Some((name, _)) => Some(name.as_str()),
+            None => None,
+        }
+    }
+
+    /// The name and the value at a place, counted from 0.
+    pub fn pair(&self, place: usize) -> Option<(&str, &str)>
+        ensures pair { option_map (λ p. record { name = p.0.now; value = p.1.now }) result
+            ≡ slice_get self.now place }
+    {
+        match self.pairs.get_index(place) {
+            Some((name, value)) => Some((name.as_str(), value.as_str())),
             None => None,
         }
     }

@@ -67,7 +67,7 @@ mode_of_each shed (e ∷ es) there =
 as_number : Bool → ℕ
 as_number b = cond b 1 0
 
-list_none : (o : Option (Full Pair)) → list_of o ≡ [] → o ≡ None
+pub list_none : (o : Option (Full Pair)) → list_of o ≡ [] → o ≡ None
 list_none None is = refl
 list_none (Some f) is = cc
 
@@ -76,7 +76,7 @@ no_area : (q : PlainKey) (es : List (StorageKey × Bucket)) → IsApart q es →
 unfolding get_cell
 no_area q es apart = list_none (finite.get (areas_in es) q) (area_at q es ∙ ap (λ o. (unwrap_or o fresh_bucket).area) (not_found q es apart))
 
-some_length : (x : Pair) (xs : List Pair) → not (length (x ∷ xs) == 0) ≡ true
+pub some_length : (x : Pair) (xs : List Pair) → not (length (x ∷ xs) == 0) ≡ true
 some_length x xs = ap not (ne_eqb (length (x ∷ xs)) 0 (λ is. omega (arith, is)))
 
 -- one area more, at a key that had none

@@ -13,6 +13,7 @@ use Rattle.storage_key.specs.Key.{PlainKey, key_order}
 use Rattle.storage_key.specs.Plain.{plain_key}
 use Rattle.storage_key.specs.declared.key.StorageKey.{StorageKey}
 use Rattle.storage_key.proofs.OrderLemmas.{key_order_total, key_order_same}
+use Rattle.key_map.proofs.FiniteKeys.{and_none, in_filtered}
 use Rattle.key_map.specs.Entries.{is_among}
 use Rattle.buckets.specs.declared.shed.Bucket.{Bucket}
 use Rattle.buckets.specs.Shed.{is_best_effort, fresh_bucket, evicted}
@@ -26,23 +27,9 @@ use Rattle.web_storage.proofs.WriteLemmas.{ties, tied_keys, same_keys}
 
 -- ---- which keys are taken
 
-and_none : (b : Bool) → (b && false) ≡ false
-and_none true = refl
-and_none false = refl
-
 -- among the keys that pass a test are those that pass it
 pub among_filtered : (under : PlainKey → Bool) (q : PlainKey) (keys : List PlainKey) → is_one_of q (filter under keys) ≡ (is_one_of q keys && under q)
-among_filtered under q [] = refl
-among_filtered under q (k ∷ keys) = at (under k) refl (eq_by_cmp key_order k q) refl (among_filtered under q keys)
-  where
-    at : (u : Bool) → under k ≡ u → (e : Bool) → eq_by_cmp key_order k q ≡ e → is_one_of q (filter under keys) ≡ (is_one_of q keys && under q)
-        → is_one_of q (cond u (k ∷ filter under keys) (filter under keys)) ≡ ((e || is_one_of q keys) && under q)
-    at true is true tie later = ap (λ b. b || is_one_of q (filter under keys)) tie ∙ sym is ∙ ap under (tied_keys k q tie)
-    at true is false tie later = ap (λ b. b || is_one_of q (filter under keys)) tie ∙ later
-    at false is true tie later =
-        let none : under q ≡ false = sym (ap under (tied_keys k q tie)) ∙ is in
-        later ∙ ap (λ b. is_one_of q keys && b) none ∙ and_none (is_one_of q keys) ∙ sym none
-    at false is false tie later = later
+among_filtered under q keys = in_filtered key_order key_order_total key_order_same under q keys
 
 -- a key of the program is among these where its plain key is one of theirs
 pub among_plain : (keys : List StorageKey) (key : StorageKey) → is_among order keys key ≡ is_one_of (plain_key key) (map plain_key keys)

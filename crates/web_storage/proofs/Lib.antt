@@ -7,6 +7,10 @@ pub mod HeldLemmas
 pub mod EvictionLemmas
 pub mod EvictionCounts
 pub mod UnderLemmas
+pub mod RisingLemmas
+pub mod StableOrder
+pub mod TextOrderLemmas
+pub mod StoredKeyLemmas
 pub mod CopyLemmas
 pub mod CloseLemmas
 pub mod StorageCopies

@@ -27,15 +27,15 @@ use Rattle.web_storage.proofs.EvictionLemmas.{among_filtered}
 
 module _ {X : Type 0} (p : X → Bool) where
   -- no item behind one that fails passes
-  abbrev Stops : List X → Type 0
+  abbrev pub Stops : List X → Type 0
   Stops [] = Unit {0}
   Stops (x ∷ xs) = (p x ≡ false → AllByRecursion (λ y. p y ≡ false) xs) × Stops xs
 
-  none_kept : (xs : List X) → AllByRecursion (λ y. p y ≡ false) xs → filter p xs ≡ []
+  pub none_kept : (xs : List X) → AllByRecursion (λ y. p y ≡ false) xs → filter p xs ≡ []
   none_kept [] none = refl
   none_kept (x ∷ xs) none = rw none.0 (none_kept xs none.1)
 
-  run_kept : (xs : List X) → Stops xs → take_while p xs ≡ filter p xs
+  pub run_kept : (xs : List X) → Stops xs → take_while p xs ≡ filter p xs
   run_kept [] stops = refl
   run_kept (x ∷ xs) stops = take_while-cons p x xs ∙ at (p x) refl (run_kept xs stops.1)
     where
@@ -130,10 +130,10 @@ before_less s j k greater rises = site_order_total.antisymm s j ∙ ap ordering_
     at Greater is more = cc
 
 module _ (place : PlainKey) where
-  abbrev under : PlainKey → Bool
+  abbrev pub under : PlainKey → Bool
   under key = is_under place.top key
 
-  abbrev from : PlainKey → Bool
+  abbrev pub from : PlainKey → Bool
   from key = is_le (key_order place key)
 
   -- the order of a key's origin and bit
@@ -155,7 +155,7 @@ module _ (place : PlainKey) where
       at true later = (fails, later)
       at false later = later
 
-  stops_from : (keys : List PlainKey) → IsStrictlySortedBy key_order keys → Stops under (filter from keys)
+  pub stops_from : (keys : List PlainKey) → IsStrictlySortedBy key_order keys → Stops under (filter from keys)
   unfolding IsStrictlySortedBy
   stops_from [] sorted = tt
   stops_from (k ∷ ks) sorted = at (from k) refl (stops_from ks sorted.1)
@@ -179,7 +179,7 @@ module _ (place : PlainKey) where
       )
       at false is later = later
 
-  stops_below : (keys : List PlainKey) → IsStrictlySortedBy key_order keys → Stops under (reverse (filter (λ l. not (from l)) keys))
+  pub stops_below : (keys : List PlainKey) → IsStrictlySortedBy key_order keys → Stops under (reverse (filter (λ l. not (from l)) keys))
   unfolding IsStrictlySortedBy
   stops_below [] sorted = tt
   stops_below (k ∷ ks) sorted = at (not (from k)) (stops_below ks sorted.1)
@@ -257,7 +257,7 @@ module _ (place : PlainKey) where
 -- ---- keys of the program
 
 -- the plain keys rise as the keys do
-plain_sorted : (keys : List StorageKey) → IsStrictlySortedBy key_cmp keys → IsStrictlySortedBy key_order (map plain_key keys)
+pub plain_sorted : (keys : List StorageKey) → IsStrictlySortedBy key_cmp keys → IsStrictlySortedBy key_order (map plain_key keys)
 unfolding IsStrictlySortedBy
 plain_sorted [] sorted = tt
 plain_sorted (k ∷ ks) sorted = (rises ks sorted.0, plain_sorted ks sorted.1)
@@ -268,7 +268,7 @@ plain_sorted (k ∷ ks) sorted = (rises ks sorted.0, plain_sorted ks sorted.1)
 
 module _ {V : Type 0} where
   -- entries whose plain keys pass a test
-  plain_kept : (test : PlainKey → Bool) (es : List (StorageKey × V)) → map plain_key (keys_of (filter (λ e. test (plain_key e.0)) es)) ≡ filter test (map plain_key (keys_of es))
+  pub plain_kept : (test : PlainKey → Bool) (es : List (StorageKey × V)) → map plain_key (keys_of (filter (λ e. test (plain_key e.0)) es)) ≡ filter test (map plain_key (keys_of es))
   plain_kept test [] = refl
   plain_kept test (e ∷ es) = at (test (plain_key e.0)) (plain_kept test es)
     where

@@ -1,5 +1,5 @@
 //! Local areas: room for a storage key in a shed, and evictions.
-ghost use Rattle.std.specs.Prelude.{◌≡◌, ◌-◌, ◌^◌, [], IfOk, OnOk, OnErr, map, min, is_some, true, false};
+ghost use Rattle.std.specs.Prelude.{◌≡◌, ◌-◌, ◌^◌, [], IfOk, OnOk, OnErr, filter, map, min, is_some, true, false};
 ghost use Rattle.std.specs.FinMap as finite;
 ghost use Rattle.std.specs.List.Sorted.{IsStrictlySortedBy};
 ghost use Rattle.std.specs.Map.{keys_of};
@@ -8,12 +8,13 @@ ghost use Rattle.unwinding.specs.FiniteCells.{get_cell};
 ghost use Rattle.storage_key.specs.Key.{key_order};
 ghost use Rattle.storage_key.specs.Plain.{plain_key};
 ghost use Rattle.key_map.specs.Entries.{map_get};
+ghost use Rattle.agent_model.specs.Partition.{is_under};
 ghost use Rattle.web_storage.specs.Stored.{areas_in, keys_in};
 ghost use Rattle.web_storage.specs.Evicting.{AreUnder, areas_left_by, areas_taken_by, key_cmp};
 
 use crate::under::keys_under;
 use agent_base::NoMemory;
-use buckets::Shed;
+use buckets::{Mode, Shed};
 use origin_site::Site;
 use std::alloc::Global;
 use storage_key::StorageKey;
@@ -53,15 +54,38 @@ pub fn evict_local(alloc: Global, shed: &mut Shed<StorageKey>, site: &Site) -> R
     Ok(shed.evict(keys.as_slice()))
 }
 
-// Copies of the keys under a site that have a bucket.
-fn shed_keys_under(
+/// Copies of the keys under a site that have a bucket.
+pub fn shed_keys_under(
     alloc: Global,
     shed: &Shed<StorageKey>,
     site: &Site,
 ) -> Result<Vec<StorageKey>, NoMemory>
     ensures keys { let all = map plain_key (keys_of shed.now) in
         IfOk result (λ keys. AreUnder (plain_site site.now) all (map plain_key keys.items)) }
+    ensures rising { let all = map plain_key (keys_of shed.now) in
+        IfOk result (λ keys. map plain_key keys.items
+        ≡ filter (is_under (plain_site site.now)) all) }
     ensures ordered { IsStrictlySortedBy key_cmp (keys_of shed.now) }
 {
     keys_under(alloc, shed.buckets(), site)
+}
+
+/// Whether a key has a local area, which is not empty.
+pub fn has_pairs(shed: &Shed<StorageKey>, key: &StorageKey) -> bool
+    ensures { result ≡ finite.contains_key (areas_in shed.now) (plain_key key.now) }
+{
+    match shed.area(key) {
+        Some(area) => !area.is_empty(),
+        None => false,
+    }
+}
+
+/// Whether the bucket of a key is persistent.
+pub fn is_persistent(shed: &Shed<StorageKey>, key: &StorageKey) -> bool
+    ensures { result ≡ finite.contains_key (keys_in shed.now) (plain_key key.now) }
+{
+    match shed.mode(key) {
+        Mode::Persistent => true,
+        Mode::BestEffort => false,
+    }
 }

@@ -1,5 +1,5 @@
 //! Local and session areas of all sites, by storage key.
-ghost use Rattle.std.specs.Prelude.{◌≡◌, ◌<◌, ◌↔◌, ◌⊎◌, [], Err, IfErr, IfOk, None, OnOk, OnErr, MatchOption, option_map, string_bytes, true, false};
+ghost use Rattle.std.specs.Prelude.{◌≡◌, ◌<◌, ◌↔◌, ◌⊎◌, [], Err, IfErr, IfOk, None, OnOk, OnErr, MatchOption, map, option_map, string_bytes, true, false};
 ghost use Rattle.std.specs.Borrow.{sem};
 ghost use Rattle.origin_site.specs.Plain.{plain_site};
 ghost use Rattle.storage_key.specs.Plain.{plain_key};
@@ -8,16 +8,20 @@ ghost use Rattle.local_area.specs.Put.{plain_put, put_answer};
 ghost use Rattle.storage_events.specs.declared.event.AreaKind.TheVariants.{Local};
 ghost use Rattle.agent_model.specs.Partition.{Holdings, area_of, no_holdings, with_area};
 ghost use Rattle.agent_model.specs.Buckets.{evicted_count, is_persistent, made_persistent};
-ghost use Rattle.agent_model.specs.Buckets.{without_evicted};
+ghost use Rattle.agent_model.specs.Buckets.{areas_taken, without_evicted};
+ghost use Rattle.agent_model.specs.Changes.{clears};
+ghost use Rattle.row_changes.specs.Change.{AreaClear};
 ghost use Rattle.std.specs.FinMap as finite;
 ghost use Rattle.agent_model.specs.Sessions.{copy_sessions, has_session};
+ghost use Rattle.web_storage.specs.Listed.{stored_in};
 ghost use Rattle.web_storage.specs.Stored.{held_with, without_areas};
 ghost use Rattle.web_storage.specs.Lends.{LendsArea, LendsPresent, HoldsSame, HoldsPairs};
 
-use crate::local::{evict_local, reserve_local};
+use crate::listing::{keys_stored, keys_taken};
+use crate::local::{evict_local, is_persistent, reserve_local};
 use crate::session::{copy_areas, reserve_session};
 use agent_base::NoMemory;
-use buckets::{Mode, Shed};
+use buckets::Shed;
 use local_area::{Area, AreaFault, Put};
 use origin_site::Site;
 use session_area::Sessions;
@@ -188,10 +192,7 @@ impl Storage {
         ensures mode { (beside : Holdings) → result
             ≡ is_persistent (plain_key key.now) (held_with beside self.now) }
     {
-        match self.local.mode(key) {
-            Mode::Persistent => true,
-            Mode::BestEffort => false,
-        }
+        is_persistent(&self.local, key)
     }
 
     /// Makes the bucket of a key persistent. The key is copied only where it is new.
@@ -229,6 +230,25 @@ impl Storage {
             (held_with beside self.new ≡ held_with beside self.old) }
     {
         evict_local(self.alloc, &mut self.local, site)
+    }
+
+    /// The keys whose local areas an eviction of a site takes, by their texts.
+    pub fn evicted_keys(&self, site: &Site) -> Result<Vec<StorageKey>, NoMemory>
+        ensures keys { (beside : Holdings)
+            → let taken = areas_taken (plain_site site.now) (held_with beside self.now) in
+            IfOk result (λ keys. map (λ key. AreaClear (plain_key key)) keys.items
+            ≡ clears (finite.keys taken)) }
+    {
+        keys_taken(self.alloc, &self.local, site)
+    }
+
+    /// The keys that have a local area, or a persistent bucket, or both, by their texts.
+    pub fn stored_keys(&self) -> Result<Vec<StorageKey>, NoMemory>
+        ensures keys { (beside : Holdings) → let held = held_with beside self.now in
+            IfOk result (λ keys. map plain_key keys.items
+            ≡ stored_in held.areas held.persistent) }
+    {
+        keys_stored(self.alloc, &self.local)
     }
 
     /// Copies the session areas that one tab has under a site to another tab, which has none.

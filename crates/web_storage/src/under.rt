@@ -1,5 +1,5 @@
 //! The keys under a site, among those of all sites.
-ghost use Rattle.std.specs.Prelude.{◌≡◌, ◌++◌, ◌∷◌, [], IfOk, OnOk, map, reverse};
+ghost use Rattle.std.specs.Prelude.{◌≡◌, ◌++◌, ◌∷◌, [], IfOk, OnOk, filter, map, reverse};
 ghost use Rattle.std.specs.List.{take_while};
 ghost use Rattle.std.specs.List.Sorted.{IsStrictlySortedBy};
 ghost use Rattle.std.specs.Map.{keys_of};
@@ -17,8 +17,9 @@ use storage_key::StorageKey;
 
 /// Copies of the keys under a site.
 ///
-/// They stand side by side in the order of keys. One search finds the place of a key under the
-/// site, and a walk goes from there each way, so that the time grows with the keys under the site.
+/// They stand side by side in the order of keys, in which they are given. One search finds the
+/// place of a key under the site, and a walk goes from there each way, so that the time grows with
+/// the keys under the site.
 pub fn keys_under<V: Drop>(
     alloc: Global,
     entries: &KeyMap<StorageKey, V>,
@@ -26,6 +27,9 @@ pub fn keys_under<V: Drop>(
 ) -> Result<Vec<StorageKey>, NoMemory>
     ensures keys { let all = map plain_key (keys_of entries.now) in
         IfOk result (λ keys. AreUnder (plain_site site.now) all (map plain_key keys.items)) }
+    ensures rising { let all = map plain_key (keys_of entries.now) in
+        IfOk result (λ keys. map plain_key keys.items
+        ≡ filter (is_under (plain_site site.now)) all) }
     ensures ordered { IsStrictlySortedBy key_cmp (keys_of entries.now) }
 {
     let mut keys = Vec::new(alloc);
@@ -33,8 +37,9 @@ pub fn keys_under<V: Drop>(
         return Ok(keys);
     };
     let place = place_under(alloc, site, first)?;
-    push_from(alloc, entries.range_from(&place), site, &mut keys)?;
     push_below(alloc, entries.range_below(&place), site, &mut keys)?;
+    keys.reverse();
+    push_from(alloc, entries.range_from(&place), site, &mut keys)?;
     Ok(keys)
 }
 
@@ -90,8 +95,12 @@ fn push_below<V>(
     Ok(())
 }
 
-// Adds a copy of a key.
-fn push_copy(alloc: Global, key: &StorageKey, keys: &mut Vec<StorageKey>) -> Result<(), NoMemory>
+/// Adds a copy of a key.
+pub fn push_copy(
+    alloc: Global,
+    key: &StorageKey,
+    keys: &mut Vec<StorageKey>,
+) -> Result<(), NoMemory>
     ensures pushed { OnOk result (map plain_key keys.new.items
         ≡ map plain_key keys.old.items ++ (plain_key key.now ∷ [])) }
 {

@@ -92,7 +92,8 @@ fn answer(
     if texts.is_empty() {
         Ok(cookies.read(alloc, list, now, &how)?)
     } else {
-        Ok(cookies.set(alloc, list, now, &how, texts)?)
+        let prepared = cookies.prepare_set(alloc, list, now, &how, texts)?;
+        Ok(cookies.perform(prepared))
     }
 }
 

@@ -8,9 +8,12 @@ pub mod LeftLemmas
 pub mod HeaderLemmas
 pub mod PreparedLemmas
 -- Texts that are stored.
+pub mod StepRows
 pub mod TextLemmas
 -- Cookies at places of cells.
 mod LimitLemmas
 pub mod RowsLemmas
 -- Values of the definitions.
 mod StandardFacts
+-- The cells that have cookies.
+pub mod ListedLemmas

@@ -1,5 +1,5 @@
 -- What is prepared does to the cookies what the effect does.
-use Rattle.std.proofs.Common.{◌≡◌, ℕ, Bool, true, false, cond, List, Option, Some, None, pos, refl, sym, ap, subst, ◌∙◌}
+use Rattle.std.proofs.Common.{◌≡◌, ℕ, Bool, true, false, cond, List, map, Option, Some, None, pos, refl, sym, ap, subst, ◌∙◌}
 use Rattle.std.specs.Prelude.{Result, Ok, Err, IfOk, IfSome, is_some, ◌==◌, ◌&&◌, length, []}
 use Rattle.std.specs.Ordering.{eq_by_cmp}
 use Rattle.key_map.specs.Entries.{map_get, map_put, map_set}
@@ -9,7 +9,7 @@ use Rattle.cookie_jar.specs.Cookie.{PlainJar}
 use Rattle.cookie_jar.specs.Key.{PlainKey, OwnCell, plain_key}
 use Rattle.cookie_jar.specs.Sending.{joined, marked}
 use Rattle.reply_lines.specs.Plain.{body_of}
-use Rattle.reply_lines.specs.Reply.{Cookie, Load, PlainBody, SetOne}
+use Rattle.reply_lines.specs.Reply.{Cookie, Load, SetOne}
 use Rattle.script_lines.specs.Script.{HeadField}
 use Rattle.agent_model.specs.CookieCells.{Cookies}
 use Rattle.agent_model.specs.Partition.{Holdings}
@@ -18,6 +18,7 @@ use Rattle.agent_model.specs.CookieUse.{CookieUse, cookie_domain, uses_own}
 use Rattle.agent_model.specs.CookieStore.{BothCells, both_marked, cookie_texts, header_text, own_places, partition_places, sent, store_text, store_texts}
 use Rattle.agent_model.specs.Cookies.{leaves, read_cookies_by, request, set_cookie_by}
 use Rattle.row_changes.specs.Change.{PlainChange}
+use Rattle.row_changes.specs.Plain.{plain_change}
 use Rattle.web_cookies.specs.Words.{AreStored, IsStored}
 use Rattle.web_cookies.specs.Stored.{Entries, IsDoneBy, held_with, shared_in}
 use Rattle.web_cookies.specs.Cells.{HaveKinds, cell_order, cookies_at, jar_at, kind_of}
@@ -28,7 +29,7 @@ use Rattle.web_cookies.specs.Found.{CanBeDone, HasKey, HasPlaceIf, HoldSame, IsC
 use Rattle.web_cookies.specs.declared.prepared.Prepared.{Prepared}
 use Rattle.web_cookies.proofs.OrderOfCells.{alike, cell_order_total, equal_keys, order, own_tie}
 use Rattle.web_cookies.proofs.PlainKeyLemmas as plain
-use Rattle.web_cookies.proofs.LeftLemmas.{done_leaves, found_is, found_same, partitioned_same, shared_same}
+use Rattle.web_cookies.proofs.LeftLemmas.{done_leaves, found_is, found_same}
 use Rattle.web_cookies.proofs.HeaderLemmas.{header_is}
 
 -- ---- effects, by what a use finds
@@ -65,12 +66,14 @@ module _ (rules : List Rule) (now : ℕ) (how : CookieUse) (entries : Entries) (
 module _ (rules : List Rule) (how : CookieUse) (entries : Entries) (prepared : Prepared) where
   -- an effect that leaves what was prepared
   pub prepares_left : (both : BothCells) (changes : List PlainChange) (does : Effect) → CanBeDone prepared entries → LeavesBoth rules how both entries prepared
+      → map plain_change prepared.rows.items ≡ changes
       → ((held : Holdings) → does (shared_in entries) (held_with entries held) ≡ leaves rules how both changes (body_of prepared.body) (shared_in entries) (held_with entries held))
       → Prepares does entries prepared
-  prepares_left both changes does can left is = record {
+  prepares_left both changes does can left rows is = record {
     own = can.own;
     partition = can.partition;
     done = λ new after. done_leaves rules how both entries new (λ key. after key ∙ left key) does changes (body_of prepared.body) is;
+    rows = λ held. rows ∙ sym (ap (λ d. d.changes) (is held));
   }
 
   not_own : is_key (partition_key rules how) (own_key rules how) ≡ false
@@ -181,13 +184,14 @@ module _ (rules : List Rule) (now : ℕ) (how : CookieUse) where
       → HoldSame old new
       → before ≡ both_marked now how (found rules how old)
       → AreStored (store_texts rules now how before (cookie_texts head)) after words
+      → map plain_change prepared.rows.items ≡ (store_texts rules now how before (cookie_texts head)).changes
       → header ≡ header_text (sent now how (found rules how old))
       → body_of prepared.body ≡ Load header words
       → LeavesBoth rules how after new prepared → CanBeDone prepared new
       → Prepares (request rules now how head) new prepared
-  request_prepared old new head prepared before after header words same marks stores tells is_body left can =
+  request_prepared old new head prepared before after header words same marks stores rows tells is_body left can =
       let stored = store_texts rules now how before (cookie_texts head) in
-      prepares_left rules how new prepared after stored.changes (request rules now how head) can left (λ held.
+      prepares_left rules how new prepared after stored.changes (request rules now how head) can left rows (λ held.
       request_is rules now how new held head
       ∙ ap (λ f. leaves rules how (store_texts rules now how (both_marked now how f) (cookie_texts head)).both
       (store_texts rules now how (both_marked now how f) (cookie_texts head)).changes
@@ -208,14 +212,17 @@ module _ (rules : List Rule) (now : ℕ) (how : CookieUse) where
       → CanBeDone prepared entries
       → header ≡ header_text (sent now how (found rules how entries))
       → body_of prepared.body ≡ Load header []
+      → prepared.rows.items ≡ []
       → cookie_texts head ≡ []
       → Prepares (request rules now how head) entries prepared
-  marking_prepared entries head prepared own partition own_at partition_at header is_own is_partition owns partitions are_own are_partition can tells is_body none =
+  marking_prepared entries head prepared own partition own_at partition_at header is_own is_partition owns partitions are_own are_partition can tells is_body no_rows none =
       request_prepared entries entries head prepared (both_marked now how (found rules how entries)) (both_marked now how (found rules how entries)) header []
       (λ key. refl) refl (
         ap (λ texts. (store_texts rules now how (both_marked now how (found rules how entries)) texts).both) none,
         ap (λ texts. (store_texts rules now how (both_marked now how (found rules how entries)) texts).words) none,
-      ) tells is_body
+      )
+      (ap (map plain_change) no_rows ∙ sym (ap (λ texts. (store_texts rules now how (both_marked now how (found rules how entries)) texts).changes) none))
+      tells is_body
       (marked_left rules how entries prepared now own_at partition_at
       (subst (λ key. IsChange key (marked own_at (pos now)) prepared.own) is_own owns)
       (subst (λ key. IsChange (Some key) (marked partition_at (pos now)) (Some prepared.partition)) is_partition partitions)
@@ -226,12 +233,13 @@ module _ (rules : List Rule) (now : ℕ) (how : CookieUse) where
   pub set_prepared : (old new : Entries) (text : List ℕ) (prepared : Prepared) (after : BothCells) (word : List ℕ)
       → HoldSame old new
       → IsStored (store_text rules now how (found rules how old) text) after word
+      → map plain_change prepared.rows.items ≡ (store_text rules now how (found rules how old) text).changes
       → body_of prepared.body ≡ SetOne word
       → LeavesBoth rules how after new prepared → CanBeDone prepared new
       → Prepares (set_cookie_by rules now how text) new prepared
-  set_prepared old new text prepared after word same stores is_body left can =
+  set_prepared old new text prepared after word same stores rows is_body left can =
       let stored = store_text rules now how (found rules how old) text in
-      prepares_left rules how new prepared after stored.changes (set_cookie_by rules now how text) can left (λ held.
+      prepares_left rules how new prepared after stored.changes (set_cookie_by rules now how text) can left rows (λ held.
       set_is rules now how new held text
       ∙ ap (λ f. let t = store_text rules now how f text in
       leaves rules how t.both t.changes (SetOne t.word) (shared_in new) (held_with new held)) (found_same rules how old new same)
@@ -255,21 +263,10 @@ pub key_kept : (key : Option PlainKey) (old new : Entries) → KeepKeys old new 
 key_kept None old new kept has = tt
 key_kept (Some key) old new kept has = kept key has
 
--- what is done to cookies that are the same
-pub done_same : (does : Effect) (old mid new : Entries) (body : PlainBody) → HoldSame old mid → IsDoneBy does mid new body → IsDoneBy does old new body
-done_same does old mid new body same done = λ held.
-    let is : does (shared_in mid) (held_with mid held) ≡ does (shared_in old) (held_with old held) =
-    (λ i. does (shared_same old mid same i) (record held { cookies = partitioned_same old mid same i })) in
-    record {
-      cells = (done held).cells ∙ ap (λ d. d.cells) is;
-      held = (done held).held ∙ ap (λ d. d.held) is;
-      body = (done held).body ∙ ap (λ d. d.body) is;
-    }
-
--- what three clauses say of one value
-pub three_of : {T E : Type 0} (r : Result T E) (P Q R S : T → Type 0) → ((x : T) → P x → Q x → R x → S x) → IfOk r P → IfOk r Q → IfOk r R → IfOk r S
-three_of (Ok x) P Q R S f p q s = f x p q s
-three_of (Err e) P Q R S f p q s = tt
+-- what four clauses say of one value
+pub four_of : {T E : Type 0} (r : Result T E) (P Q R S V : T → Type 0) → ((x : T) → P x → Q x → R x → S x → V x) → IfOk r P → IfOk r Q → IfOk r R → IfOk r S → IfOk r V
+four_of (Ok x) P Q R S V f p q s t = f x p q s t
+four_of (Err e) P Q R S V f p q s t = tt
 
 -- ---- kinds
 

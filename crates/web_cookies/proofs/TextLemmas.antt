@@ -1,6 +1,6 @@
 -- Texts that are stored one after another.
-use Rattle.std.proofs.Common.{◌≡◌, inl, inr, ℕ, ℤ, pos, sym, Option, Some, None, Bool, true, false, ◌||◌, cond, List, [], ◌∷◌, ◌++◌, map, filter, refl, ap, ◌∙◌}
-use Rattle.std.specs.Prelude.{codes, Result, Ok, Err, IfOk, OnErr}
+use Rattle.std.proofs.Common.{◌≡◌, ◌⊎◌, inl, inr, ℕ, pos, sym, Some, None, Bool, true, false, ◌||◌, cond, List, [], ◌∷◌, ◌++◌, map, filter, refl, ap, ◌∙◌, append_assoc, append-nil}
+use Rattle.std.specs.Prelude.{codes, Result, Ok, Err, IfOk, OnOk}
 use Rattle.agent_base.specs.Answers.{Answers}
 use Rattle.setcookie_parse.specs.SetCookie.{CookieText, Kept}
 use Rattle.partition_limits.specs.declared.tally.CellKind.{CellKind}
@@ -9,22 +9,20 @@ use Rattle.cookie_jar.specs.declared.access.Destination.{Destination}
 use Rattle.cookie_jar.specs.declared.access.Destination.TheVariants as to
 use Rattle.cookie_jar.specs.declared.cause.CookieDrop.{CookieDrop}
 use Rattle.cookie_jar.specs.declared.cause.CookieDrop.TheVariants as why
-use Rattle.cookie_jar.specs.declared.store.Stored.{Stored}
 use Rattle.cookie_jar.specs.Access.{PlainAccess, destination}
-use Rattle.cookie_jar.specs.Cookie.{PlainCookie}
-use Rattle.cookie_jar.specs.Drops.{dropped}
-use Rattle.cookie_jar.specs.NewCookie.{fresh, lower_domain, made_with, own_domain}
-use Rattle.cookie_jar.specs.Planned.{PlainPlan, plan_of, planned, stored_answer, stored_of, unless_dropped}
+use Rattle.cookie_jar.specs.Key.{PlainKey as PlainCell}
+use Rattle.cookie_jar.specs.Planned.{PlainPlan, planned}
 use Rattle.cookie_jar.specs.Steps.{after_steps}
-use Rattle.cookie_jar.specs.Stored.{plain_stored}
+use Rattle.row_changes.specs.Change.{PlainChange}
 use Rattle.agent_model.specs.CookieCells.{Cookies}
-use Rattle.agent_model.specs.CookieWords.{drop_word, stored_word}
-use Rattle.web_cookies.specs.Words.{IsStored, IsWordOf, jar_left, word_by}
+use Rattle.agent_model.specs.CookieWords.{stored_word}
+use Rattle.web_cookies.specs.Found.{own_key}
+use Rattle.web_cookies.specs.Words.{IsStored, IsWordOf, IsWordOfDrop, jar_left, rows_by, word_by}
 use Rattle.std.specs.List.{list_any}
 use Rattle.case_tables.specs.Rows.{same_in_any_case}
 use Rattle.suffix_list.specs.Suffix.{Rule}
 use Rattle.script_lines.specs.Script.{HeadField}
-use Rattle.agent_model.specs.CookieUse.{CookieUse, access_of, own_cell, partition_cell}
+use Rattle.agent_model.specs.CookieUse.{CookieUse, access_of, own_cell, partition_cell, uses_own}
 use Rattle.agent_model.specs.CookieStore.{BothCells, cookie_texts, done_by, dropped_by, store_parsed, store_text, store_texts, stored_in}
 
 -- a field has a Set-Cookie text
@@ -54,36 +52,50 @@ no_texts plain (x ∷ xs) none = at (is_text (plain x)) none (no_texts plain xs)
 
 -- ---- one text
 
--- a plan that is not dropped has the cookie that was made
-plan_fresh : (one : PlainPlan) (why : Option CookieDrop) (plan : PlainPlan) → unless_dropped one why ≡ Ok plan → plan.fresh ≡ one.fresh
-plan_fresh one None plan is = let same : one ≡ plan = cc in ap (λ p. p.fresh) (sym same)
-plan_fresh one (Some why) plan is = cc
-
--- what a jar is after a store, and the word for the answer
-pub stored_by : (expected : Result PlainPlan CookieDrop) (made : PlainCookie) (old new : Cookies) (word : List ℕ) (result : Result Stored CookieDrop)
-    → ((plan : PlainPlan) → expected ≡ Ok plan → plan.fresh ≡ made)
-    → Answers plain_stored why.NoMemory (stored_answer expected) result
-    → IfOk result (λ s. new ≡ after_steps made old s.steps.items)
-    → OnErr result (new ≡ old)
-    → IsWordOf result word
+-- what a plan that was done leaves of a jar, and its word
+pub left_by : (expected : Result PlainPlan CookieDrop) (plan : PlainPlan) (old new : Cookies) (word : List ℕ) → expected ≡ Ok plan
+    → new ≡ after_steps plan.fresh old plan.steps → word ≡ stored_word plan.kind
     → (new ≡ jar_left old expected) × (word ≡ word_by expected)
-stored_by (Ok plan) made old new word (Ok s) is_made answer steps kept is_word =
-    let same : stored_of plan ≡ plain_stored s = cc in (
-      steps ∙ ap (λ r. after_steps made old r.steps) (sym same) ∙ ap (λ c. after_steps c old plan.steps) (sym (is_made plan refl)),
-      is_word ∙ ap (λ r. stored_word r.kind) (sym same),
-    )
-stored_by (Err cause) made old new word (Ok s) is_made answer steps kept is_word = cc
-stored_by (Ok plan) made old new word (Err cause) is_made (inl free) steps kept is_word = absurd (is_word.0 free)
-stored_by (Ok plan) made old new word (Err cause) is_made (inr fault) steps kept is_word = cc
-stored_by (Err other) made old new word (Err cause) is_made (inl free) steps kept is_word = absurd (is_word.0 free)
-stored_by (Err other) made old new word (Err cause) is_made (inr fault) steps kept is_word =
-    let same : other ≡ cause = cc in (kept, is_word.1 ∙ ap drop_word (sym same))
+left_by expected plan old new word is left told = (left ∙ ap (jar_left old) (sym is), told ∙ ap word_by (sym is))
 
--- the cookie that is planned for is the one that was made
-pub planned_fresh : (rules : List Rule) (text : CookieText) (access : PlainAccess) (kind : CellKind) (now : ℤ) (cs : Cookies) (plan : PlainPlan)
-    → planned rules text access kind now cs ≡ Ok plan → plan.fresh ≡ fresh rules text access now cs
-planned_fresh rules text access kind now cs plan is =
-    plan_fresh (plan_of kind now (made_with (own_domain rules access (lower_domain text)) text access now) cs) (dropped rules text access now cs) plan is
+-- what two clauses say of one value, the first whatever it is
+pub both_hold : {T E P : Type 0} (r : Result T E) (Q R : T → Type 0) → (P → (x : T) → Q x → R x) → OnOk r P → IfOk r Q → IfOk r R
+both_hold (Ok x) Q R f p q = f p x q
+both_hold (Err e) Q R f p q = tt
+
+-- a dropped cookie leaves the jar, has no row changes, and is told by its word
+pub drop_left : (expected : Result PlainPlan CookieDrop) (cause : CookieDrop) (old : Cookies) (word : List ℕ)
+    → (cause ≡ why.NoMemory) ⊎ (expected ≡ Err cause) → IsWordOfDrop cause word
+    → (old ≡ jar_left old expected) × (word ≡ word_by expected)
+drop_left expected cause old word (inl free) told = absurd (told.0 free)
+drop_left expected cause old word (inr fault) told = (ap (jar_left old) (sym fault), told.1 ∙ ap word_by (sym fault))
+
+pub drop_rows : {T E : Type 0} (r : Result T E) (text : T → List ℕ) (expected : Result PlainPlan CookieDrop) (cause : CookieDrop) (cell : PlainCell) (rows : List PlainChange)
+    → (cause ≡ why.NoMemory) ⊎ (expected ≡ Err cause) → IfOk r (λ x. IsWordOfDrop cause (text x))
+    → OnOk r (rows ≡ rows ++ rows_by cell expected)
+drop_rows (Ok x) text expected cause cell rows (inl free) told = absurd (told.0 free)
+drop_rows (Ok x) text expected cause cell rows (inr fault) told = sym (append-nil rows) ∙ ap (λ p. rows ++ rows_by cell p) (sym fault)
+drop_rows (Err e) text expected cause cell rows answer told = tt
+
+-- the word for what was planned
+pub word_told : (expected planned : Result PlainPlan CookieDrop) (word : List ℕ) → Answers (λ p. p) why.NoMemory expected planned → IsWordOf planned word
+    → word ≡ word_by expected
+word_told expected (Ok plan) word answer told = told ∙ ap word_by (sym answer)
+word_told expected (Err cause) word (inl free) told = absurd (told.0 free)
+word_told expected (Err cause) word (inr fault) told = told.1 ∙ ap word_by (sym fault)
+
+-- a cookie that goes to the unpartitioned cell is one of a use that has it
+pub own_used : (text : CookieText) (how : CookieUse) (access : PlainAccess) → access ≡ access_of how → to.Own ≡ destination text access → uses_own how ≡ true
+own_used text how access is goes = at text.partitioned (uses_own how) (goes ∙ ap (destination text) is)
+  where
+    at : (partitioned used : Bool) → to.Own ≡ cond partitioned to.Partition (cond used to.Own to.Nowhere) → used ≡ true
+    at true used e = cc
+    at false true e = refl
+    at false false e = cc
+
+-- the key of that cell
+pub own_key_used : (rules : List Rule) (how : CookieUse) → uses_own how ≡ true → own_key rules how ≡ Some (own_cell rules how)
+own_key_used rules how used = ap (λ b. cond b (Some (own_cell rules how)) None) used
 
 module _ (rules : List Rule) (now : ℕ) (how : CookieUse) (text : CookieText) (both : BothCells) where
   -- a plan for a cell leaves what its jar is, and is answered by its word
@@ -100,6 +112,21 @@ module _ (rules : List Rule) (now : ℕ) (how : CookieUse) (text : CookieText) (
   none_done : (plan : Result PlainPlan CookieDrop) → IsStored (dropped_by both plan) both (word_by plan)
   none_done (Ok plan) = (refl, refl)
   none_done (Err cause) = (refl, refl)
+
+  -- a plan for a cell has these row changes
+  own_changes : (plan : Result PlainPlan CookieDrop)
+      → rows_by (own_cell rules how) plan ≡ (done_by (own_cell rules how) (λ cs. record both { own = cs }) both.own both plan).changes
+  own_changes (Ok plan) = refl
+  own_changes (Err cause) = refl
+
+  partition_changes : (plan : Result PlainPlan CookieDrop)
+      → rows_by (partition_cell rules how) plan ≡ (done_by (partition_cell rules how) (λ cs. record both { partition = cs }) both.partition both plan).changes
+  partition_changes (Ok plan) = refl
+  partition_changes (Err cause) = refl
+
+  none_changes : (plan : Result PlainPlan CookieDrop) → (dropped_by both plan).changes ≡ []
+  none_changes (Ok plan) = refl
+  none_changes (Err cause) = refl
 
   abbrev plan_in : CellKind → PlainAccess → Cookies → Result PlainPlan CookieDrop
   plan_in kind access cs = planned rules text access kind (pos now) cs
@@ -141,6 +168,26 @@ module _ (rules : List Rule) (now : ℕ) (how : CookieUse) (text : CookieText) (
         let planned_so : plan_in kind.Own (access_of how) [] ≡ plan_in k access cookies = λ i. plan_in (sym own i) (sym is i) (sym none i) in
         (ap (λ s. s.both) stored ∙ done.0, ap (λ s. s.word) stored ∙ done.1 ∙ ap word_by planned_so ∙ sym is_word)
 
+    -- and what is stored in them has these row changes
+    pub rows_own : to.Own ≡ destination text access → (k : CellKind) → k ≡ kind.Own → (cell : PlainCell) → cell ≡ own_cell rules how
+        → rows_by cell (plan_in k access both.own) ≡ (store_parsed rules now how both (Kept text)).changes
+    rows_own at k own cell is_cell =
+        ap (λ c. rows_by c (plan_in k access both.own)) is_cell
+        ∙ (λ i. rows_by (own_cell rules how) (plan_in (own i) (is i) both.own))
+        ∙ own_changes (plan_in kind.Own (access_of how) both.own)
+        ∙ ap (λ s. s.changes) (sym (goes to.Own at))
+
+    pub rows_partition : to.Partition ≡ destination text access → (k : CellKind) → k ≡ kind.Partition → (cell : PlainCell) → cell ≡ partition_cell rules how
+        → rows_by cell (plan_in k access both.partition) ≡ (store_parsed rules now how both (Kept text)).changes
+    rows_partition at k partition cell is_cell =
+        ap (λ c. rows_by c (plan_in k access both.partition)) is_cell
+        ∙ (λ i. rows_by (partition_cell rules how) (plan_in (partition i) (is i) both.partition))
+        ∙ partition_changes (plan_in kind.Partition (access_of how) both.partition)
+        ∙ ap (λ s. s.changes) (sym (goes to.Partition at))
+
+    pub rows_nowhere : to.Nowhere ≡ destination text access → (store_parsed rules now how both (Kept text)).changes ≡ []
+    rows_nowhere at = ap (λ s. s.changes) (goes to.Nowhere at) ∙ none_changes (plan_in kind.Own (access_of how) [])
+
 -- ---- several texts
 
 module _ (rules : List Rule) (now : ℕ) (how : CookieUse) where
@@ -174,3 +221,29 @@ module _ (rules : List Rule) (now : ℕ) (how : CookieUse) where
             ∙ sym (words-append many one old)
             ∙ ap (λ ts. (store_texts rules now how old ts).words) (sym (texts-append fields (field ∷ []))),
       )
+
+  pub changes-append : (xs ys : List (List ℕ)) (both : BothCells)
+      → (store_texts rules now how both (xs ++ ys)).changes
+      ≡ (store_texts rules now how both xs).changes ++ (store_texts rules now how (store_texts rules now how both xs).both ys).changes
+  changes-append [] ys both = refl
+  changes-append (x ∷ xs) ys both =
+      let one = store_text rules now how both x in
+      ap (λ r. one.changes ++ r) (changes-append xs ys one.both)
+      ∙ sym (append_assoc one.changes (store_texts rules now how one.both xs).changes
+      (store_texts rules now how (store_texts rules now how one.both xs).both ys).changes)
+
+  -- a field more, and its row changes
+  pub changes_step : (fields : List HeadField) (field : HeadField) (old mid : BothCells) (first rows more : List PlainChange)
+      → (store_texts rules now how old (cookie_texts fields)).both ≡ mid
+      → rows ≡ first ++ (store_texts rules now how old (cookie_texts fields)).changes
+      → more ≡ rows ++ (store_texts rules now how mid (cookie_texts (field ∷ []))).changes
+      → more ≡ first ++ (store_texts rules now how old (cookie_texts (fields ++ field ∷ []))).changes
+  changes_step fields field old mid first rows more is_mid are_rows is_more =
+      let many = cookie_texts fields in
+      let one = cookie_texts (field ∷ []) in
+      is_more
+      ∙ ap (λ r. r ++ (store_texts rules now how mid one).changes) are_rows
+      ∙ ap (λ b. (first ++ (store_texts rules now how old many).changes) ++ (store_texts rules now how b one).changes) (sym is_mid)
+      ∙ append_assoc first (store_texts rules now how old many).changes (store_texts rules now how (store_texts rules now how old many).both one).changes
+      ∙ ap (λ r. first ++ r) (sym (changes-append many one old))
+      ∙ ap (λ ts. first ++ (store_texts rules now how old ts).changes) (sym (texts-append fields (field ∷ [])))

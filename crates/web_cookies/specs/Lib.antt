@@ -5,6 +5,7 @@ pub mod Cells
 pub mod Becoming
 pub mod Prepared
 pub mod Rows
+pub mod Listed
 -- What private functions compute. No public clause rests on it.
 pub mod Found
 pub mod Words

@@ -1,13 +1,15 @@
 -- What was prepared for an effect on cookies: done to the cookies as they stand, it makes of them
--- what the effect does.
+-- what the effect does, and has the row changes of the effect.
 -- Source: none.
-use Rattle.std.specs.Prelude.{◌≡◌, ⊤, true, Option, Some, None, is_some, if◌then◌else◌}
+use Rattle.std.specs.Prelude.{◌≡◌, ⊤, true, Option, Some, None, is_some, map, if◌then◌else◌}
 use Rattle.std.specs.Ordering.{eq_by_cmp}
 use Rattle.cookie_jar.specs.Key.{PlainKey, plain_key}
 use Rattle.reply_lines.specs.Plain.{body_of}
 use Rattle.agent_model.specs.CookieCells.{Cookies}
+use Rattle.row_changes.specs.Plain.{plain_change}
 use Rattle.agent_model.specs.Done.{Effect}
-use Rattle.web_cookies.specs.Stored.{Entries, IsDoneBy}
+use Rattle.agent_model.specs.Partition.{Holdings}
+use Rattle.web_cookies.specs.Stored.{Entries, IsDoneBy, held_with, shared_in}
 use Rattle.web_cookies.specs.Cells.{cell_order, cookies_at, jar_at}
 use Rattle.web_cookies.specs.Becoming.{becomes_of}
 use Rattle.web_cookies.specs.declared.change.Becomes.{Becomes}
@@ -55,3 +57,5 @@ pub record Prepares (does : Effect) (entries : Entries) (prepared : Prepared) : 
   pub partition : IsReady prepared.partition entries
   pub done : (new : Entries) → IsAfter prepared entries new
       → IsDoneBy does entries new (body_of prepared.body)
+  pub rows : (others : Holdings) → map plain_change prepared.rows.items
+      ≡ (does (shared_in entries) (held_with entries others)).changes

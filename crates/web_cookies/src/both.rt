@@ -8,16 +8,25 @@ ghost use Rattle.setcookie_parse.specs.Views.{cookie_view};
 ghost use Rattle.agent_model.specs.CookieStore as spec;
 ghost use Rattle.agent_model.specs.Rest.{last_moment};
 ghost use Rattle.case_tables.specs.Rows.{same_in_any_case};
-ghost use Rattle.web_cookies.specs.Words.{AreStored, IsStored, IsWordOf, jar_left, word_by};
-ghost use Rattle.cookie_jar.specs.Planned.{planned};
+ghost use Rattle.web_cookies.specs.Words.{AreStored, IsStored, IsWordOf, IsWordOfDrop, jar_left, rows_by, word_by};
+ghost use Rattle.cookie_jar.specs.Key.{plain_key};
+ghost use Rattle.cookie_jar.specs.Persistent.{rows_of_steps};
+ghost use Rattle.cookie_jar.specs.Planned.{IsPlanFor, planned};
+ghost use Rattle.cookie_jar.specs.Steps.{after_steps};
 ghost use Rattle.cookie_jar.specs.Views.{plain_access};
+ghost use Rattle.row_changes.specs.Plain.{plain_change};
+ghost use Rattle.agent_model.specs.CookieWords as spec_of;
+ghost use Rattle.web_cookies.specs.Found.{AreKeysOf};
 ghost use Rattle.web_cookies.specs.Uses.{plain_use};
 
 use crate::cookie_use::{CookieUse, access_of};
+use crate::keys::UseKeys;
+use crate::stored_rows::push_rows;
 use crate::words::{drop_word, parse_word, stored_word};
 use agent_base::NoMemory;
-use cookie_jar::{Access, CookieDrop, Destination, Jar, Stored, destination};
+use cookie_jar::{Access, CellKey, CookieDrop, Destination, Jar, Plan, destination};
 use partition_limits::CellKind;
+use row_changes::Change;
 use script_lines::HeadField;
 use setcookie_parse::{CookieText, Parsed, parse};
 use std::alloc::Global;
@@ -55,23 +64,31 @@ impl BothJars {
         self.partition.mark(partition_places, now as i64);
     }
 
-    /// Stores the Set-Cookie texts of a response in their order, and answers their words.
+    /// Stores the Set-Cookie texts of a response in their order, and answers their words. Adds the
+    /// row changes of what was stored.
     pub fn store_all(
         &mut self,
         alloc: Global,
         list: &SuffixList,
         now: u64,
         how: &CookieUse<'_>,
+        keys: &UseKeys,
         head: &[HeadField],
+        rows: &mut Vec<Change>,
     ) -> Result<Vec<&'static str>, NoMemory>
         requires now { now ≤ last_moment }
+        requires keys { AreKeysOf list.now.rules (plain_use how.now) keys.now }
         ensures stored { IfOk result (λ words. AreStored (spec.store_texts list.now.rules now
             (plain_use how.now) self.old (spec.cookie_texts (map head_field_of head.now)))
             self.new (map (λ word. word.now) words.items)) }
+        ensures rows { OnOk result (map plain_change rows.new.items
+            ≡ map plain_change rows.old.items
+            ++ (spec.store_texts list.now.rules now (plain_use how.now) self.old
+            (spec.cookie_texts (map head_field_of head.now))).changes) }
     {
         let mut words = Vec::new(alloc);
         for field in head {
-            self.store_field(alloc, list, now, how, field, &mut words)?;
+            self.store_field(alloc, list, now, how, keys, field, &mut words, rows)?;
         }
         Ok(words)
     }
@@ -83,43 +100,56 @@ impl BothJars {
         list: &SuffixList,
         now: u64,
         how: &CookieUse<'_>,
+        keys: &UseKeys,
         field: &HeadField,
         words: &mut Vec<&'static str>,
+        rows: &mut Vec<Change>,
     ) -> Result<(), NoMemory>
         requires now { now ≤ last_moment }
+        requires keys { AreKeysOf list.now.rules (plain_use how.now) keys.now }
         ensures stored { OnOk result ((spec.store_texts list.now.rules now (plain_use how.now)
             self.old (spec.cookie_texts (head_field_of field.now ∷ []))).both ≡ self.new) }
         ensures words { OnOk result (map (λ word. word.now) words.new.items
             ≡ map (λ word. word.now) words.old.items
             ++ (spec.store_texts list.now.rules now (plain_use how.now) self.old
             (spec.cookie_texts (head_field_of field.now ∷ []))).words) }
+        ensures rows { OnOk result (map plain_change rows.new.items
+            ≡ map plain_change rows.old.items
+            ++ (spec.store_texts list.now.rules now (plain_use how.now) self.old
+            (spec.cookie_texts (head_field_of field.now ∷ []))).changes) }
     {
         if !is_set_cookie(field) {
             return Ok(());
         }
-        let word = self.store(alloc, list, now, how, field.value.as_str())?;
+        let word = self.store(alloc, list, now, how, keys, field.value.as_str(), rows)?;
         match words.push(word) {
             Ok(()) => Ok(()),
             Err(_) => Err(NoMemory),
         }
     }
 
-    /// Stores a Set-Cookie text, and answers its word.
+    /// Stores a Set-Cookie text, and answers its word. Adds the row changes of what was stored.
     pub fn store(
         &mut self,
         alloc: Global,
         list: &SuffixList,
         now: u64,
         how: &CookieUse<'_>,
+        keys: &UseKeys,
         text: &str,
+        rows: &mut Vec<Change>,
     ) -> Result<&'static str, NoMemory>
         requires now { now ≤ last_moment }
+        requires keys { AreKeysOf list.now.rules (plain_use how.now) keys.now }
         ensures stored { IfOk result (λ word. IsStored (spec.store_text list.now.rules now
             (plain_use how.now) self.old text.now) self.new word.now) }
+        ensures rows { OnOk result (map plain_change rows.new.items
+            ≡ map plain_change rows.old.items ++ (spec.store_text list.now.rules now
+            (plain_use how.now) self.old text.now).changes) }
     {
         match parse(text, now as i64) {
             Parsed::Dropped(why) => Ok(parse_word(why)),
-            Parsed::Kept(cookie) => self.store_kept(alloc, list, now, how, &cookie),
+            Parsed::Kept(cookie) => self.store_kept(alloc, list, now, how, keys, &cookie, rows),
         }
     }
 
@@ -130,35 +160,56 @@ impl BothJars {
         list: &SuffixList,
         now: u64,
         how: &CookieUse<'_>,
+        keys: &UseKeys,
         cookie: &CookieText<'_>,
+        rows: &mut Vec<Change>,
     ) -> Result<&'static str, NoMemory>
         requires now { now ≤ last_moment }
+        requires keys { AreKeysOf list.now.rules (plain_use how.now) keys.now }
         requires pair { length cookie.now.name.now + length cookie.now.value.now ≤ 4096 }
         ensures stored { IfOk result (λ word. IsStored (spec.store_parsed list.now.rules now
             (plain_use how.now) self.old (Kept (cookie_view cookie.now))) self.new word.now) }
+        ensures rows { OnOk result (map plain_change rows.new.items
+            ≡ map plain_change rows.old.items ++ (spec.store_parsed list.now.rules now
+            (plain_use how.now) self.old (Kept (cookie_view cookie.now))).changes) }
     {
         let access = access_of(how);
         match destination(cookie, &access) {
-            Destination::Own => store_in(&mut self.own, alloc, list, now, &access, cookie),
+            Destination::Own => {
+                let cell = keys.own_cell();
+                store_in(&mut self.own, cell, alloc, list, now, &access, cookie, rows)
+            }
             Destination::Partition => {
-                store_in(&mut self.partition, alloc, list, now, &access, cookie)
+                let cell = &keys.partition;
+                store_in(
+                    &mut self.partition,
+                    cell,
+                    alloc,
+                    list,
+                    now,
+                    &access,
+                    cookie,
+                    rows,
+                )
             }
             Destination::Nowhere => {
-                let mut none = Jar::new(alloc, CellKind::Own);
-                store_in(&mut none, alloc, list, now, &access, cookie)
+                let none = Jar::new(alloc, CellKind::Own);
+                word_of(none.plan(alloc, cookie, &access, list, now as i64))
             }
         }
     }
 }
 
-// Stores a cookie in a jar, and answers its word.
+// Stores a cookie in the jar of a cell, and answers its word. Adds its row changes.
 fn store_in(
     jar: &mut Jar,
+    cell: &CellKey,
     alloc: Global,
     list: &SuffixList,
     now: u64,
     access: &Access<'_>,
     cookie: &CookieText<'_>,
+    rows: &mut Vec<Change>,
 ) -> Result<&'static str, NoMemory>
     requires now { now ≤ last_moment }
     requires pair { length cookie.now.name.now + length cookie.now.value.now ≤ 4096 }
@@ -166,20 +217,58 @@ fn store_in(
         (plain_access access.now) jar.old.kind (pos now) jar.old.cookies in
         IfOk result (λ word. (jar.new.cookies ≡ jar_left jar.old.cookies plan)
         × (word.now ≡ word_by plan)) }
+    ensures rows { OnOk result (map plain_change rows.new.items
+        ≡ map plain_change rows.old.items ++ rows_by (plain_key cell.now)
+        (planned list.now.rules (cookie_view cookie.now) (plain_access access.now) jar.old.kind
+        (pos now) jar.old.cookies)) }
     ensures kind { jar.new.kind ≡ jar.old.kind }
 {
-    let stored = jar.store(alloc, cookie, access, list, now as i64);
-    word_of(stored)
+    match jar.plan(alloc, cookie, access, list, now as i64) {
+        Ok(plan) => perform(jar, cell, alloc, plan, rows),
+        Err(why) => word_of_drop(why),
+    }
 }
 
-// The word for what a store answered.
-fn word_of(stored: Result<Stored, CookieDrop>) -> Result<&'static str, NoMemory>
-    ensures { IfOk result (λ word. IsWordOf stored word.now) }
+// Does a plan for the jar of a cell, and answers its word. Adds its row changes.
+fn perform(
+    jar: &mut Jar,
+    cell: &CellKey,
+    alloc: Global,
+    plan: Plan,
+    rows: &mut Vec<Change>,
+) -> Result<&'static str, NoMemory>
+    requires fit { IsPlanFor jar.old plan }
+    ensures cookies { OnOk result (jar.new.cookies
+        ≡ after_steps plan.fresh jar.old.cookies plan.steps) }
+    ensures word { IfOk result (λ word. word.now ≡ spec_of.stored_word plan.kind) }
+    ensures rows { OnOk result (map plain_change rows.new.items
+        ≡ map plain_change rows.old.items
+        ++ map (spec.in_cell (plain_key cell.now)) (rows_of_steps plan.fresh plan.steps)) }
+    ensures kind { jar.new.kind ≡ jar.old.kind }
 {
-    match stored {
-        Ok(stored) => Ok(stored_word(stored.kind)),
-        Err(CookieDrop::NoMemory) => Err(NoMemory),
-        Err(why) => Ok(drop_word(why)),
+    push_rows(rows, alloc, cell, &plan)?;
+    jar.reserve(1)?;
+    let stored = jar.perform(plan);
+    Ok(stored_word(stored.kind))
+}
+
+// The word for what was planned.
+fn word_of(planned: Result<Plan, CookieDrop>) -> Result<&'static str, NoMemory>
+    ensures { IfOk result (λ word. IsWordOf planned word.now) }
+{
+    match planned {
+        Ok(plan) => Ok(stored_word(plan.kind())),
+        Err(why) => word_of_drop(why),
+    }
+}
+
+// The word for why a cookie was dropped. Want of memory drops none.
+fn word_of_drop(why: CookieDrop) -> Result<&'static str, NoMemory>
+    ensures { IfOk result (λ word. IsWordOfDrop why word.now) }
+{
+    match why {
+        CookieDrop::NoMemory => Err(NoMemory),
+        _ => Ok(drop_word(why)),
     }
 }
 

@@ -26,6 +26,7 @@ use cookie_jar::{CellKey, Jar};
 use key_map::KeyMap;
 use partition_limits::CellKind;
 use reply_lines::ReplyBody;
+use row_changes::Change;
 use script_lines::HeadField;
 use std::alloc::Global;
 use std::marker::Model;
@@ -99,30 +100,36 @@ impl Cookies {
             own,
             partition,
             body,
+            ..
         } = prepared;
         self.change_if(own);
         self.change(partition);
         body
     }
 
-    /// A script sets a cookie.
-    pub fn set(
+    /// What a script that sets a cookie makes of the cookies. Changes no cookie.
+    ///
+    /// Each call copies the jars of both cells.
+    pub fn prepare_set(
         &mut self,
         alloc: Global,
         list: &SuffixList,
         now: u64,
         how: &CookieUse<'_>,
         text: &str,
-    ) -> Result<ReplyBody, NoMemory>
+    ) -> Result<Prepared, NoMemory>
         requires now { now ≤ last_moment }
-        ensures done { IfOk result (λ body. IsDoneBy
-            (set_cookie_by list.now.rules now (plain_use how.now) text.now) self.old self.new
-            (body_of body)) }
-        ensures shared { OnErr result (shared_in self.new ≡ shared_in self.old) }
-        ensures partitioned { OnErr result (partitioned_in self.new ≡ partitioned_in self.old) }
+        ensures shared { shared_in self.new ≡ shared_in self.old }
+        ensures partitioned { partitioned_in self.new ≡ partitioned_in self.old }
+        ensures prepared { IfOk result (λ prepared. Prepares
+            (set_cookie_by list.now.rules now (plain_use how.now) text.now) self.new prepared) }
     {
-        let prepared = self.prepare_set(alloc, list, now, how, text)?;
-        Ok(self.perform(prepared))
+        let keys = keys_of(alloc, list, how)?;
+        let mut both = self.copies(alloc, list, how, &keys)?;
+        let mut rows = Vec::new(alloc);
+        let word = both.store(alloc, list, now, how, &keys, text, &mut rows)?;
+        let body = ReplyBody::SetOne { set: word };
+        self.prepare_both(alloc, list, how, keys, both, rows, body)
     }
 
     /// A script reads cookies. It marks none.
@@ -235,42 +242,17 @@ impl Cookies {
             text,
         } = sending;
         let mut both = self.copies(alloc, list, how, &keys)?;
+        let mut rows = Vec::new(alloc);
         both.mark(&own_places, &partition_places, now);
-        let words = both.store_all(alloc, list, now, how, head)?;
+        let words = both.store_all(alloc, list, now, how, &keys, head, &mut rows)?;
         let body = ReplyBody::Load {
             cookie: header_value(&own_places, &partition_places, text),
             set: words,
         };
-        self.prepare_both(alloc, list, how, keys, both, body)
+        self.prepare_both(alloc, list, how, keys, both, rows, body)
     }
 
-    fn prepare_set(
-        &mut self,
-        alloc: Global,
-        list: &SuffixList,
-        now: u64,
-        how: &CookieUse<'_>,
-        text: &str,
-    ) -> Result<Prepared, NoMemory>
-        requires now { now ≤ last_moment }
-        ensures same { HoldSame self.old self.new }
-        ensures prepared { IfOk result (λ prepared. Prepares
-            (set_cookie_by list.now.rules now (plain_use how.now) text.now) self.new prepared) }
-    {
-        let keys = keys_of(alloc, list, how)?;
-        let mut both = self.copies(alloc, list, how, &keys)?;
-        let word = both.store(alloc, list, now, how, text)?;
-        self.prepare_both(
-            alloc,
-            list,
-            how,
-            keys,
-            both,
-            ReplyBody::SetOne { set: word },
-        )
-    }
-
-    // Makes room for both cells of a use, which become those of the jars.
+    // Makes room for both cells of a use, which become those of the jars, by these row changes.
     fn prepare_both(
         &mut self,
         alloc: Global,
@@ -278,6 +260,7 @@ impl Cookies {
         how: &CookieUse<'_>,
         keys: UseKeys,
         both: BothJars,
+        rows: Vec<Change>,
         body: ReplyBody,
     ) -> Result<Prepared, NoMemory>
         requires keys { AreKeysOf list.now.rules (plain_use how.now) keys }
@@ -285,11 +268,12 @@ impl Cookies {
         ensures left { IfOk result (λ prepared. LeavesBoth list.now.rules (plain_use how.now) both
             self.new prepared) }
         ensures ready { IfOk result (λ prepared. CanBeDone prepared self.new) }
+        ensures rows { IfOk result (λ prepared. prepared.rows ≡ rows) }
         ensures body { IfOk result (λ prepared. prepared.body ≡ body) }
     {
         self.make_own_room(alloc, &keys.own)?;
         self.make_room(alloc, &keys.partition, CellKind::Partition)?;
-        Ok(storing(keys, both, body))
+        Ok(storing(keys, both, rows, body))
     }
 
     // Makes a place for the jar of the unpartitioned cell, if there is one.

@@ -1,5 +1,5 @@
 //! The keys of the cells that a use has.
-ghost use Rattle.std.specs.Prelude.{◌≡◌, IfOk, option_map};
+ghost use Rattle.std.specs.Prelude.{◌≡◌, IfOk, IsSome, Some, option_map};
 ghost use Rattle.cookie_jar.specs.Key.{plain_key};
 ghost use Rattle.web_cookies.specs.Found as spec;
 ghost use Rattle.web_cookies.specs.Uses.{plain_use};
@@ -17,6 +17,19 @@ use suffix_list::SuffixList;
 pub struct UseKeys {
     pub own: Option<CellKey>,
     pub partition: CellKey,
+}
+
+impl UseKeys {
+    /// The key of the unpartitioned cell of a use that has one.
+    pub fn own_cell(&self) -> &CellKey
+        requires own { IsSome (option_map plain_key self.now.own) }
+        ensures cell { Some (plain_key result.now) ≡ option_map plain_key self.now.own }
+    {
+        match &self.own {
+            Some(key) => key,
+            None => unreachable!(),
+        }
+    }
 }
 
 /// The keys of a use, over memory of their own.

@@ -10,9 +10,11 @@ mod change;
 mod cookie_use;
 mod cookies;
 mod keys;
+mod listing;
 mod prepared;
 mod rows;
 mod sending;
+mod stored_rows;
 mod words;
 
 pub use cookie_use::CookieUse;

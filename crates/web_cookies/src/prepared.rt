@@ -20,6 +20,7 @@ use crate::keys::UseKeys;
 use crate::sending::{Sending, header_value};
 use cookie_jar::CellKey;
 use reply_lines::ReplyBody;
+use row_changes::Change;
 use std::alloc::Global;
 
 /// What a request or a script makes of cookies, with all memory that it takes. It is for the
@@ -28,7 +29,17 @@ use std::alloc::Global;
 pub struct Prepared {
     pub(crate) own: Option<CellChange>,
     pub(crate) partition: CellChange,
+    pub(crate) rows: Vec<Change>,
     pub(crate) body: ReplyBody,
+}
+
+impl Prepared {
+    /// The row changes of the persistent cookies, in their order.
+    pub fn rows(&self) -> &[Change]
+        ensures value { result.now ≡ self.now.rows.items }
+    {
+        self.rows.as_slice()
+    }
 }
 
 /// The cookies that go out are marked in their cells.
@@ -61,6 +72,7 @@ pub fn marking(alloc: Global, now: u64, keys: UseKeys, sending: Sending) -> Prep
                 now: now as i64,
             },
         },
+        rows: Vec::new(alloc),
         body: ReplyBody::Load {
             cookie,
             set: Vec::new(alloc),
@@ -68,14 +80,15 @@ pub fn marking(alloc: Global, now: u64, keys: UseKeys, sending: Sending) -> Prep
     }
 }
 
-/// Both cells become those of the jars.
-pub fn storing(keys: UseKeys, both: BothJars, body: ReplyBody) -> Prepared
+/// Both cells become those of the jars, by these row changes.
+pub fn storing(keys: UseKeys, both: BothJars, rows: Vec<Change>, body: ReplyBody) -> Prepared
     requires own { IfSome (option_map plain_key keys.own) (λ key. kind_of key ≡ kind.Own) }
     requires partition { kind_of (plain_key keys.partition) ≡ kind.Partition }
     ensures left { (rules : List Rule) (how : model.CookieUse) (entries : Entries)
         → AreKeysOf rules how keys → LeavesBoth rules how both entries result }
     ensures ready { (entries : Entries) → HasKey (option_map plain_key keys.own) entries
         → HasKey (Some (plain_key keys.partition)) entries → CanBeDone result entries }
+    ensures rows { result.rows ≡ rows }
     ensures body { result.body ≡ body }
 {
     let UseKeys {
@@ -89,6 +102,7 @@ pub fn storing(keys: UseKeys, both: BothJars, body: ReplyBody) -> Prepared
             key: partition_key,
             becomes: Becomes::Stored(partition),
         },
+        rows,
         body,
     }
 }

@@ -29,6 +29,7 @@ returns c = record {
       (record { own = c.change_of.ensures.ready entries (marks_place own entries _ (λ k. tt)); partition = tt })
       (header_told rules c.args.now how (found rules how entries) c.deref.result.now c.deref-2.result.now (string_bytes c.args.sending.text) header
       c.header_value-cookie.ensures.value (c.deref.ensures.value ∙ s.own) (c.deref-2.ensures.value ∙ s.partition) s.text)
-      (ap (λ items. Load header (map (λ word. word.now) items)) c.new.ensures.items)
+      (ap (λ items. Load header (map (λ word. word.now) items)) c.new-2.ensures.items)
+      c.new.ensures.items
       none;
 }

@@ -4,8 +4,10 @@ use Rattle.std.specs.Prelude.{codes}
 use Rattle.std.specs.Cmp.{nat_cmp_total}
 use Rattle.std.specs.Ordering.{nat_cmp}
 use Rattle.std.specs.FinMap.{get-empty, get-insert}
+use Rattle.unwinding.specs.Durable.{DurableChange}
 use Rattle.unwinding.specs.World.{SiteReply}
 use Rattle.origin_site.specs.Site.{PlainSite, same_plain_site, site_of_address}
+use Rattle.row_changes.specs.Change.{PlainChange}
 use Rattle.script_lines.specs.declared.words.Method.TheVariants as method
 use Rattle.script_lines.specs.Script.{PlainAction, Tick, Open}
 use Rattle.agent_model.specs.Partition.{Holdings, no_holdings}
@@ -25,7 +27,7 @@ use Rattle.one_store.proofs.WorldCloseLemmas.{tick_makes}
 use Rattle.one_store.proofs.WorldOpenLemmas.{open_makes}
 
 -- the events that a line gives a site, and those behind it
-of_line : (s : PlainSite) (before after : AgentWorld) (action : PlainAction) (told : SiteReply PlainSite Answer) (lines : List PlainAction) → LineMakes [] before action after told
+of_line : {made : List (DurableChange PlainSite PlainChange)} (s : PlainSite) (before after : AgentWorld) (action : PlainAction) (told : SiteReply PlainSite Answer) (lines : List PlainAction) → LineMakes [] before action after told made
     → all_given s before (action ∷ lines) ≡ events_given [] s (before.partition s) before.rest action ++ all_given s after lines
 of_line s before after action told lines makes = λ i. events_given [] s (before.partition s) before.rest action ++ all_given s (makes.world i) lines
 

@@ -13,8 +13,8 @@ use Rattle.agent_model.specs.Lines.{Starter, is_same_site, opener_of, site_at}
 use Rattle.agent_model.specs.TheMachine.{machine}
 use Rattle.agent_model.specs.Isolation.{replies_to}
 use Rattle.one_store.specs.WholeWorld.{IsPlaced}
-use Rattle.one_store.specs.Store.{Store, Step, acted, closed, empty_store, gone, opened, store_replies, store_step, with_copies}
-use Rattle.one_store.specs.Refinement.{AreReplies, AreSteps, IsStep, world_of}
+use Rattle.one_store.specs.Store.{Store, Step, acted, closed, empty_store, gone, opened, store_step, with_copies}
+use Rattle.one_store.specs.Refinement.{AreReplies, AreSteps, IsStep, store_replies, world_of}
 use Rattle.one_store.proofs.ActPlacedLemmas.{act_placed}
 use Rattle.one_store.proofs.PlacedLemmas.{open_tab}
 use Rattle.one_store.proofs.WorldLemmas.{LineMakes}
@@ -25,9 +25,9 @@ use Rattle.one_store.proofs.WorldLoadLemmas.{go_makes, go_placed}
 use Rattle.one_store.proofs.WorldOpenLemmas.{no_opener_makes, open_makes, open_placed, taken_makes}
 
 module _ (rules : List Rule) (store : Store) (placed_all : IsPlaced store.places store.held) where
-  -- a line that makes this world, with this reply
-  step_by : (line : PlainAction) (step : Step) → LineMakes rules (world_of store) line (world_of step.store) step.reply → IsPlaced step.store.places step.store.held → IsStep rules store line step
-  step_by line step makes places = record { world = makes.world; reply = makes.reply; places = places }
+  -- a line that makes this world, with this reply and this durable change
+  step_by : (line : PlainAction) (step : Step) → LineMakes rules (world_of store) line (world_of step.store) step.reply step.changes → IsPlaced step.store.places step.store.held → IsStep rules store line step
+  step_by line step makes places = record { world = makes.world; reply = makes.reply; changes = makes.changes; places = places }
 
   open_is : (tab : ℕ) (url : PlainAddress) (opener : Option ℕ) (noopener : Bool) (method : Method) (head : List HeadField) → IsStep rules store (Open tab url opener noopener method head) (store_step rules store (Open tab url opener noopener method head))
   open_is tab url opener noopener method head = by (opener_of opener store.places) refl (site_at tab store.places) refl

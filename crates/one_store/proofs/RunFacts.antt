@@ -6,10 +6,12 @@ use Rattle.std.specs.Ordering.{nat_cmp}
 use Rattle.std.specs.FinMap.{nat_cmp-IsAntisymmetric, get-empty, get-insert}
 use Rattle.unwinding.specs.FiniteCells.{list_of, get_cell}
 use Rattle.unwinding.proofs.FiniteCellsLemmas.{get_set}
+use Rattle.unwinding.specs.Durable.{DurableChange}
 use Rattle.unwinding.specs.World.{SiteReply, replies}
 use Rattle.origin_site.specs.Site.{PlainSite}
 use Rattle.storage_key.specs.Key.{key_order}
 use Rattle.storage_key.proofs.OrderLemmas.{key_order_total, key_order_same}
+use Rattle.row_changes.specs.Change.{PlainChange}
 use Rattle.local_area.specs.Area.{area_get, area_put}
 use Rattle.local_area.specs.Put.{put_answer}
 use Rattle.storage_events.specs.declared.event.AreaKind.TheVariants.{Local}
@@ -34,6 +36,7 @@ use Rattle.agent_model.specs.SiteStep.{act_in}
 use Rattle.agent_model.specs.Lines.{AgentWorld, Places, User, no_places, placed, site_at}
 use Rattle.agent_model.specs.TheMachine.{machine}
 use Rattle.agent_model.specs.Isolation.{replies_to}
+use Rattle.one_store.specs.Store.{change_of}
 use Rattle.one_store.specs.WholeWorld.{whole_world, IsPlaced}
 use Rattle.agent_model.proofs.CookieCellsLemmas.{get_none}
 use Rattle.agent_model.proofs.CookieCellsLemmas as shared
@@ -49,7 +52,7 @@ use Rattle.one_store.proofs.WorldActLemmas.{act_makes}
 use Rattle.one_store.proofs.WorldOpenLemmas.{open_makes, open_placed}
 
 -- the replies to a line and to those behind it
-then : (before after : AgentWorld) (action : PlainAction) (told : SiteReply PlainSite Answer) (lines : List PlainAction) → LineMakes [] before action after told
+then : {made : List (DurableChange PlainSite PlainChange)} (before after : AgentWorld) (action : PlainAction) (told : SiteReply PlainSite Answer) (lines : List PlainAction) → LineMakes [] before action after told made
     → replies (machine []) before (action ∷ lines) ≡ told ∷ replies (machine []) after lines
 then before after action told lines makes = λ i. makes.reply i ∷ replies (machine []) (makes.world i) lines
 
@@ -165,7 +168,7 @@ last_line =
 last_two : replies (machine []) (whole_world 7 at_a opened_cells opened_held) (sets ∷ gets ∷ []) ≡ told_at (site a) sets ok ∷ told_at (site a) gets (Text (Some v)) ∷ []
 last_two =
     then (whole_world 7 at_a opened_cells opened_held) (whole_world 7 at_a opened_cells set_held) sets _ (gets ∷ [])
-    (subst (λ cells. LineMakes [] (whole_world 7 at_a opened_cells opened_held) sets (whole_world 7 at_a cells set_held) (told_at (site a) sets (act_in [] 7 (site a) (at_frame 1 0) setting (shows_a 1) opened_cells opened_held).body))
+    (subst (λ cells. LineMakes [] (whole_world 7 at_a opened_cells opened_held) sets (whole_world 7 at_a cells set_held) (told_at (site a) sets (act_in [] 7 (site a) (at_frame 1 0) setting (shows_a 1) opened_cells opened_held).body) (change_of (site a) (act_in [] 7 (site a) (at_frame 1 0) setting (shows_a 1) opened_cells opened_held).changes))
     (ap (λ (done : Done). done.cells) set_done)
     (act_makes [] 7 at_a opened_cells opened_held (came_placed []) (at_frame 1 0) setting (shows_a 1) (one_shows_a []) (site a) one_is_at_a))
     ∙ λ i. told_at (site a) sets (set_done i).body ∷ last_line i

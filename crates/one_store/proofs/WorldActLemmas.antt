@@ -1,6 +1,6 @@
 -- What an action of a document makes of the world of all sites, and what is refused because no tab
 -- of its number is open.
-use Rattle.std.proofs.Common.{◌≡◌, ℕ, Bool, true, false, ◌||◌, List, Option, Some, None, refl, sym, ap, subst, ◌∙◌}
+use Rattle.std.proofs.Common.{◌≡◌, ℕ, Bool, true, false, ◌||◌, List, [], Option, Some, None, refl, sym, ap, subst, ◌∙◌}
 use Rattle.std.specs.Prelude.{bytes_eq, codes, option_map}
 use Rattle.unwinding.specs.FiniteCells.{restrict_cells, merge_cells}
 use Rattle.unwinding.specs.World.{consulted, is_in}
@@ -32,6 +32,7 @@ use Rattle.agent_model.proofs.ApartLemmas.{with_cells}
 use Rattle.agent_model.proofs.CookieLemmas.{among}
 use Rattle.agent_model.proofs.CookieActionLemmas.{act_local}
 use Rattle.one_store.specs.HeldAt.{held_at}
+use Rattle.one_store.specs.Store.{change_of}
 use Rattle.one_store.specs.WholeWorld.{partition_at, whole_world, IsPlaced}
 use Rattle.one_store.proofs.HeldLemmas.{tab_seen}
 use Rattle.one_store.proofs.ActLemmas.{act_seen, act_unseen}
@@ -102,11 +103,11 @@ module _ (rules : List Rule) (now : ℕ) (places : Places) (cells : SharedCells)
         ∙ ap (λ h. outcome_of (partition_at places h site) apart_done.cells apart_done.changes (record { name = document_action_name action; body = apart_done.body })) (sym (ap (λ (d : Done). d.held) local))
 
     -- a line acts in its tab
-    pub act_makes : LineMakes rules (whole_world now places cells held) (Act at action) (whole_world now places done.cells done.held) (told_at site (Act at action) done.body)
+    pub act_makes : LineMakes rules (whole_world now places cells held) (Act at action) (whole_world now places done.cells done.held) (told_at site (Act at action) done.body) (change_of site done.changes)
     unfolding whole_world main_event side_event rest_after
     act_makes =
-        subst (λ (d : Done). LineMakes rules w (Act at action) (whole_world now places d.cells done.held) (told_at site (Act at action) d.body)) (sym local)
-        (subst (λ test. LineMakes rules w (Act at action) (whole_world now places (merge_cells domain_order test apart_done.cells cells) done.held) (told_at site (Act at action) apart_done.body)) asked
+        subst (λ (d : Done). LineMakes rules w (Act at action) (whole_world now places d.cells done.held) (told_at site (Act at action) d.body) (change_of site d.changes)) (sym local)
+        (subst (λ test. LineMakes rules w (Act at action) (whole_world now places (merge_cells domain_order test apart_done.cells cells) done.held) (told_at site (Act at action) apart_done.body) (change_of site apart_done.changes)) asked
         (line_consults rules w (Act at action) (partition_at places done.held) (record { now = now; places = places }) refl site event
         apart_done.changes (record { name = document_action_name action; body = apart_done.body })
         (ap (option_map (occurs w (Acts at action))) place)
@@ -123,11 +124,11 @@ module _ (rules : List Rule) (now : ℕ) (places : Places) (cells : SharedCells)
   w = whole_world now places cells held
 
   -- the world stays
-  pub no_tab_acts : (at : Label) (action : DocumentAction) → site_at at.tab places ≡ None → LineMakes rules w (Act at action) w (told_nowhere (Act at action) (Plain (codes "no-tab")))
+  pub no_tab_acts : (at : Label) (action : DocumentAction) → site_at at.tab places ≡ None → LineMakes rules w (Act at action) w (told_nowhere (Act at action) (Plain (codes "no-tab"))) []
   unfolding whole_world main_event side_event rest_after refusal
   no_tab_acts at action none = line_refused rules w (Act at action) (partition_at places held) w.rest refl (ap (option_map (occurs w (Acts at action))) none) (λ site. refl)
 
-  pub no_tab_closes : (tab : ℕ) → site_at tab places ≡ None → LineMakes rules w (Close tab) w (told_nowhere (Close tab) (Plain (codes "no-tab")))
+  pub no_tab_closes : (tab : ℕ) → site_at tab places ≡ None → LineMakes rules w (Close tab) w (told_nowhere (Close tab) (Plain (codes "no-tab"))) []
   unfolding whole_world main_event side_event rest_after refusal
   no_tab_closes tab none =
       line_refused rules w (Close tab) (partition_at places held) w.rest
@@ -136,7 +137,7 @@ module _ (rules : List Rule) (now : ℕ) (places : Places) (cells : SharedCells)
       (λ site. ap (λ place. after_event rules (closes w tab place site) (partition_at places held site)) none)
 
   pub no_tab_goes : (tab : ℕ) (url : PlainAddress) (by_page : Bool) (method : Method) (head : List HeadField) → site_at tab places ≡ None
-      → LineMakes rules w (Go tab url by_page method head) w (told_nowhere (Go tab url by_page method head) (Plain (codes "no-tab")))
+      → LineMakes rules w (Go tab url by_page method head) w (told_nowhere (Go tab url by_page method head) (Plain (codes "no-tab"))) []
   unfolding whole_world main_event side_event rest_after refusal
   no_tab_goes tab url by_page method head none =
       line_refused rules w (Go tab url by_page method head) (partition_at places held) w.rest

@@ -21,6 +21,7 @@ use Rattle.agent_model.specs.Lines.{AgentWorld, Places, site_at, timed, occurs, 
 use Rattle.agent_model.specs.SideEvents.{where_so, closes, side_event}
 use Rattle.agent_model.specs.Rest.{clock_after, refusal, rest_after}
 use Rattle.one_store.specs.HeldAt.{held_at}
+use Rattle.one_store.specs.Store.{change_of}
 use Rattle.one_store.specs.WholeWorld.{partition_at, whole_world, IsPlaced}
 use Rattle.agent_model.proofs.KeptLemmas as kept
 use Rattle.agent_model.proofs.KeptLemmas.{AgreesBut}
@@ -34,14 +35,14 @@ module _ (rules : List Rule) (now : ℕ) (places : Places) (cells : SharedCells)
   -- ---- a tick
 
   -- the clock is moved
-  pub tick_makes : (s : ℕ) → LineMakes rules (whole_world now places cells held) (Tick s) (whole_world (clock_after now s) places cells held) (told_nowhere (Tick s) (Now (pos (clock_after now s))))
+  pub tick_makes : (s : ℕ) → LineMakes rules (whole_world now places cells held) (Tick s) (whole_world (clock_after now s) places cells held) (told_nowhere (Tick s) (Now (pos (clock_after now s)))) []
   unfolding whole_world main_event side_event rest_after refusal
   tick_makes s = line_refused rules (whole_world now places cells held) (Tick s) (partition_at places held) (record { now = clock_after now s; places = places }) refl refl (λ site. refl)
 
   -- ---- an eviction
 
   -- the areas of a site are evicted
-  pub evict_makes : (site : PlainSite) → LineMakes rules (whole_world now places cells held) (Evict site) (whole_world now places (evict site cells held).cells (evict site cells held).held) (told_at site (Evict site) (evict site cells held).body)
+  pub evict_makes : (site : PlainSite) → LineMakes rules (whole_world now places cells held) (Evict site) (whole_world now places (evict site cells held).cells (evict site cells held).held) (told_at site (Evict site) (evict site cells held).body) (change_of site (evict site cells held).changes)
   unfolding whole_world main_event side_event rest_after site_step
   evict_makes site =
       line_happens rules w (Evict site) (partition_at places (evict site cells held).held) w.rest refl site (timed w Evicts) (evict site cells held).changes (record { name = _; body = (evict site cells held).body }) refl
@@ -101,7 +102,7 @@ module _ (places : Places) (held : Holdings) (placed_all : IsPlaced places held)
     other_closed site apart false is = ap (λ h. record { site = site; held = h }) (sym (close_absent tab (before site).held is (other_there site apart)))
 
     -- the tab is gone, with its session areas under all sites
-    pub close_makes : LineMakes rules (whole_world now places cells held) (Close tab) (whole_world now (finite.remove places tab) cells (close tab held)) (told_at here (Close tab) ok)
+    pub close_makes : LineMakes rules (whole_world now places cells held) (Close tab) (whole_world now (finite.remove places tab) cells (close tab held)) (told_at here (Close tab) ok) []
     unfolding whole_world main_event rest_after site_step
     close_makes =
         line_happens rules w (Close tab) (partition_at (finite.remove places tab) (close tab held)) (record { now = now; places = finite.remove places tab }) refl

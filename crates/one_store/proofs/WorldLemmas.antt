@@ -1,7 +1,9 @@
--- What a line makes of a world and what it is answered, from what its events make of each site.
-use Rattle.std.proofs.Common.{◌≡◌, Bool, true, false, cond, ◌&&◌, ◌||◌, List, [], Option, Some, None, refl, sym, ap, subst, ◌∙◌}
+-- What a line makes of a world, what it is answered and what its durable change is, from what its
+-- events make of each site.
+use Rattle.std.proofs.Common.{◌≡◌, Bool, true, false, cond, ◌&&◌, ◌||◌, List, [], ◌∷◌, Option, Some, None, refl, sym, ap, subst, ◌∙◌}
 use Rattle.unwinding.specs.FiniteCells.{restrict_cells, merge_cells}
 use Rattle.std.specs.Prelude.{bytes_eq}
+use Rattle.unwinding.specs.Durable.{DurableChange, durable_change, main_changes, line_changes}
 use Rattle.unwinding.specs.World.{SiteReply, consulted, is_in, after_side, after_sides, after_main, world_step, main_reply, line_reply}
 use Rattle.suffix_list.specs.Suffix.{Rule}
 use Rattle.origin_site.specs.Site.{PlainSite, same_plain_site}
@@ -20,7 +22,7 @@ use Rattle.agent_model.specs.SideEvents.{side_event}
 use Rattle.agent_model.specs.Rest.{refusal, rest_after}
 use Rattle.agent_model.specs.TheMachine.{machine}
 use Rattle.agent_model.proofs.CookieCellsLemmas.{none_seen, none_left}
-use Rattle.one_store.specs.Store.{null_reply, site_reply}
+use Rattle.one_store.specs.Store.{change_of, null_reply, site_reply}
 
 -- the reply of a site to a line
 abbrev pub told_at : PlainSite → PlainAction → PlainBody → SiteReply PlainSite Answer
@@ -30,10 +32,16 @@ told_at = site_reply
 abbrev pub told_nowhere : PlainAction → PlainBody → SiteReply PlainSite Answer
 told_nowhere = null_reply
 
--- what a line makes of a world, and its reply
-pub record LineMakes (rules : List Rule) (before : AgentWorld) (action : PlainAction) (after : AgentWorld) (told : SiteReply PlainSite Answer) : Type 0 where
+-- row changes of a site as a durable change, in the words of the general law
+change_is : (rules : List Rule) (site : PlainSite) (changes : List PlainChange) → durable_change (machine rules) site changes ≡ change_of site changes
+change_is rules site [] = refl
+change_is rules site (change ∷ changes) = refl
+
+-- what a line makes of a world, its reply and its durable change
+pub record LineMakes (rules : List Rule) (before : AgentWorld) (action : PlainAction) (after : AgentWorld) (told : SiteReply PlainSite Answer) (made : List (DurableChange PlainSite PlainChange)) : Type 0 where
   pub world : world_step (machine rules) before action ≡ after
   pub reply : line_reply (machine rules) before action ≡ told
+  pub changes : line_changes (machine rules) before action ≡ made
 
 -- an outcome with a reply
 abbrev pub outcome_of : Partition → SharedCells → List PlainChange → Answer → SiteOutcome
@@ -71,9 +79,9 @@ module _ (rules : List Rule) (w : AgentWorld) (action : PlainAction) where
 
       -- a line that is an event of a site, which changes that site and the cells that it consults, and is answered
       pub line_consults : (left : SharedCells) → site_step rules (beside site) (restrict_cells domain_order asked w.cells) event ≡ outcome_of (after site) left changes answer
-          → LineMakes rules w action (world_then (merge_cells domain_order asked left w.cells)) (record { site = Some site; reply = answer })
-      unfolding world_step line_reply machine
-      line_consults left step = record { world = to_main ∙ λ i. record { partition = λ t. each t i; cells = merge_cells domain_order asked (step i).cells w.cells; rest = later i }; reply = replies }
+          → LineMakes rules w action (world_then (merge_cells domain_order asked left w.cells)) (record { site = Some site; reply = answer }) (change_of site changes)
+      unfolding world_step line_reply line_changes machine
+      line_consults left step = record { world = to_main ∙ λ i. record { partition = λ t. each t i; cells = merge_cells domain_order asked (step i).cells w.cells; rest = later i }; reply = replies; changes = made }
         where
           -- what the event gives where its site has this partition
           given : Partition → SiteOutcome
@@ -110,24 +118,32 @@ module _ (rules : List Rule) (w : AgentWorld) (action : PlainAction) where
               main_reply_of None = record { site = None; reply = refusal w action }
               main_reply_of (Some r) = record { site = Some site; reply = r }
 
+          made : line_changes (machine rules) w action ≡ change_of site changes
+          made =
+              ap (main_changes (machine rules) (after_sides (machine rules) w action)) main
+              ∙ ap (λ p. durable_change (machine rules) site (given p).changes) (beside_is site)
+              ∙ ap (λ (o : SiteOutcome). durable_change (machine rules) site o.changes) step
+              ∙ change_is rules site changes
+
       -- a line whose event consults no cell leaves them all
       pub line_happens : event_names rules (beside site) event.event ≡ [] → site_step rules (beside site) no_shared_cells event ≡ outcome_of (after site) no_shared_cells changes answer
-          → LineMakes rules w action (world_then w.cells) (record { site = Some site; reply = answer })
+          → LineMakes rules w action (world_then w.cells) (record { site = Some site; reply = answer }) (change_of site changes)
       unfolding machine
       line_happens names step =
-          subst (λ cells. LineMakes rules w action (world_then cells) (record { site = Some site; reply = answer })) (ap (λ test. merge_cells domain_order test no_shared_cells w.cells) none ∙ none_left no_shared_cells w.cells)
+          subst (λ cells. LineMakes rules w action (world_then cells) (record { site = Some site; reply = answer }) (change_of site changes)) (ap (λ test. merge_cells domain_order test no_shared_cells w.cells) none ∙ none_left no_shared_cells w.cells)
           (line_consults no_shared_cells (ap (λ test. site_step rules (beside site) (restrict_cells domain_order test w.cells) event) none ∙ ap (λ cells. site_step rules (beside site) cells event) (none_seen w.cells) ∙ step))
         where
           none : asked ≡ (λ domain. false)
           none = ap (λ domains domain. is_in bytes_eq domain domains || (false && is_own site domain)) names
 
     -- a line that has no such event
-    pub line_refused : main_event rules w action ≡ None → ((site : PlainSite) → beside site ≡ after site) → LineMakes rules w action (world_then w.cells) (record { site = None; reply = refusal w action })
-    unfolding world_step line_reply machine
+    pub line_refused : main_event rules w action ≡ None → ((site : PlainSite) → beside site ≡ after site) → LineMakes rules w action (world_then w.cells) (record { site = None; reply = refusal w action }) []
+    unfolding world_step line_reply line_changes machine
     line_refused main each =
         record {
           world = to_sides ∙ λ i. record { partition = λ t. (beside_is t ∙ each t) i; cells = w.cells; rest = later i };
           reply = ap (main_reply (machine rules) (after_sides (machine rules) w action) (refusal w action)) main;
+          changes = ap (main_changes (machine rules) (after_sides (machine rules) w action)) main;
         }
       where
         to_sides : world_step (machine rules) w action ≡ record { partition = (after_sides (machine rules) w action).partition; cells = w.cells; rest = rest_after rules w action }

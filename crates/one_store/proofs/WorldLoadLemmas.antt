@@ -21,6 +21,7 @@ use Rattle.agent_model.specs.SiteStep.{site_step}
 use Rattle.agent_model.specs.Lines.{AgentWorld, Places, site_at, placed, goer_of, is_same_site, going, main_event}
 use Rattle.agent_model.specs.SideEvents.{where_so, leaves, side_event}
 use Rattle.agent_model.specs.Rest.{rest_after, places_after}
+use Rattle.one_store.specs.Store.{change_of}
 use Rattle.one_store.specs.WholeWorld.{partition_at, whole_world, IsPlaced}
 use Rattle.agent_model.specs.CookieCells.{Domain, domain_order}
 use Rattle.agent_model.specs.CookieUse.{CookieUse, consulted_by}
@@ -123,12 +124,12 @@ module _ (rules : List Rule) (places : Places) (tab : ℕ) (url : PlainAddress) 
           → rest_after rules world action ≡ record { now = now; places = there } → load_name load ≡ action_name action
           → beside rules world action target ≡ partition_at places before target
           → ((other : PlainSite) → same_plain_site other target ≡ false → beside rules world action other ≡ partition_at there (show rules tab url before) other)
-          → LineMakes rules world action (whole_world now there done.cells done.held) (told_at target action done.body)
+          → LineMakes rules world action (whole_world now there done.cells done.held) (told_at target action done.body) (change_of target done.changes)
       unfolding whole_world
       load_makes main later name here others =
-          subst (λ (d : Done). LineMakes rules world action (whole_world now there d.cells done.held) (told_at target action d.body)) (sym local)
-          (subst (λ called. LineMakes rules world action (whole_world now there (merge_cells domain_order asks apart_done.cells cells) done.held) (record { site = Some target; reply = record { name = called; body = apart_done.body } })) name
-          (subst (λ test. LineMakes rules world action (whole_world now there (merge_cells domain_order test apart_done.cells cells) done.held) (record { site = Some target; reply = record { name = load_name load; body = apart_done.body } })) (asked (beside rules world action target) here)
+          subst (λ (d : Done). LineMakes rules world action (whole_world now there d.cells done.held) (told_at target action d.body) (change_of target d.changes)) (sym local)
+          (subst (λ called. LineMakes rules world action (whole_world now there (merge_cells domain_order asks apart_done.cells cells) done.held) (record { site = Some target; reply = record { name = called; body = apart_done.body } }) (change_of target apart_done.changes)) name
+          (subst (λ test. LineMakes rules world action (whole_world now there (merge_cells domain_order test apart_done.cells cells) done.held) (record { site = Some target; reply = record { name = load_name load; body = apart_done.body } }) (change_of target apart_done.changes)) (asked (beside rules world action target) here)
           (line_consults rules world action (partition_at there done.held) (record { now = now; places = there }) later target event
           apart_done.changes (record { name = load_name load; body = apart_done.body }) main
           (λ other apart. others other apart ∙ ap (λ h. record { site = other; held = h }) (sym (request_unseen other (comes_to other) (show rules tab url before) rules now cells how head apart)))
@@ -170,7 +171,7 @@ module _ (rules : List Rule) (now : ℕ) (places : Places) (cells : SharedCells)
 
   -- a tab goes to another address
   pub go_makes : LineMakes rules (whole_world now places cells held) (Go tab url by_page method head)
-      (whole_world now (placed tab (site_of_address rules url) places) went.cells went.held) (told_at (site_of_address rules url) (Go tab url by_page method head) went.body)
+      (whole_world now (placed tab (site_of_address rules url) places) went.cells went.held) (told_at (site_of_address rules url) (Go tab url by_page method head) went.body) (change_of (site_of_address rules url) went.changes)
   unfolding whole_world main_event rest_after
   go_makes =
       load_makes rules places tab url now cells held held method (is_same_site (goer_of by_page here) to) head (Go tab url by_page method head) Goes main

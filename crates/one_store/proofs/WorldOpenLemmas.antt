@@ -1,5 +1,5 @@
 -- What an `open` makes of the world of all sites, and what it is refused for.
-use Rattle.std.proofs.Common.{◌≡◌, ℕ, Bool, true, false, List, Option, Some, None, refl, sym, ap, subst, ◌∙◌}
+use Rattle.std.proofs.Common.{◌≡◌, ℕ, Bool, true, false, List, [], Option, Some, None, refl, sym, ap, subst, ◌∙◌}
 use Rattle.std.specs.Prelude.{codes, option_map}
 use Rattle.suffix_list.specs.Suffix.{Rule}
 use Rattle.origin_site.specs.Address.{PlainAddress}
@@ -18,7 +18,7 @@ use Rattle.agent_model.specs.Lines.{AgentWorld, Places, Starter, Page, site_at, 
 use Rattle.agent_model.specs.SideEvents.{where_so, copies, side_event}
 use Rattle.agent_model.specs.Rest.{open_refusal, refusal, rest_after, places_after}
 use Rattle.one_store.specs.HeldAt.{held_at}
-use Rattle.one_store.specs.Store.{copied_at, with_copies}
+use Rattle.one_store.specs.Store.{change_of, copied_at, with_copies}
 use Rattle.one_store.specs.WholeWorld.{partition_at, whole_world, IsPlaced}
 use Rattle.one_store.proofs.PlacedLemmas.{placed_by_tabs}
 use Rattle.one_store.proofs.SessionLemmas.{copy_seen, copy_unseen}
@@ -64,6 +64,7 @@ module _ (rules : List Rule) (now : ℕ) (places : Places) (cells : SharedCells)
       LineMakes rules (whole_world now places cells held) (Open tab url opener noopener method head)
       (whole_world now (placed tab (site_of_address rules url) places) done.cells done.held)
       (told_at (site_of_address rules url) (Open tab url opener noopener method head) done.body)
+      (change_of (site_of_address rules url) done.changes)
   unfolding whole_world main_event rest_after
   open_makes starter is free =
       load_makes rules places tab url now cells held before method (is_same_site starter (site_of_address rules url)) head (Open tab url opener noopener method head) Opens main
@@ -106,10 +107,10 @@ module _ (rules : List Rule) (now : ℕ) (places : Places) (cells : SharedCells)
   refused_makes : (starter : Option Starter) (here : Option PlainSite) → opener_of opener places ≡ starter → site_at tab places ≡ here
       → opening rules (whole_world now places cells held) tab url method head starter here ≡ None
       → ((site : PlainSite) → copies (whole_world now places cells held) tab opener noopener here site ≡ None)
-      → LineMakes rules (whole_world now places cells held) (Open tab url opener noopener method head) (whole_world now places cells held) (told_nowhere (Open tab url opener noopener method head) (open_refusal starter))
+      → LineMakes rules (whole_world now places cells held) (Open tab url opener noopener method head) (whole_world now places cells held) (told_nowhere (Open tab url opener noopener method head) (open_refusal starter)) []
   unfolding whole_world main_event side_event rest_after refusal
   refused_makes starter here is place nothing no_copies =
-      subst (λ o. LineMakes rules w (Open tab url opener noopener method head) w (told_nowhere (Open tab url opener noopener method head) (open_refusal o))) is
+      subst (λ o. LineMakes rules w (Open tab url opener noopener method head) w (told_nowhere (Open tab url opener noopener method head) (open_refusal o)) []) is
       (line_refused rules w (Open tab url opener noopener method head) (partition_at places held) w.rest (ap (λ arrival. record { now = now; places = places_after arrival tab places }) main) main
       (λ site. ap (λ p. after_event rules (copies w tab opener noopener p site) (partition_at places held site)) place ∙ ap (λ e. after_event rules e (partition_at places held site)) (no_copies site)))
     where
@@ -121,7 +122,7 @@ module _ (rules : List Rule) (now : ℕ) (places : Places) (cells : SharedCells)
 
   -- nothing happens where the opener is not open
   pub no_opener_makes : opener_of opener places ≡ None
-      → LineMakes rules (whole_world now places cells held) (Open tab url opener noopener method head) (whole_world now places cells held) (told_nowhere (Open tab url opener noopener method head) (Plain (codes "no-tab")))
+      → LineMakes rules (whole_world now places cells held) (Open tab url opener noopener method head) (whole_world now places cells held) (told_nowhere (Open tab url opener noopener method head) (Plain (codes "no-tab"))) []
   unfolding whole_world
   no_opener_makes none = refused_makes None (site_at tab places) none refl refl (λ site. by site opener none noopener (site_at tab places))
     where
@@ -139,7 +140,7 @@ module _ (rules : List Rule) (now : ℕ) (places : Places) (cells : SharedCells)
 
   -- or the number is taken
   pub taken_makes : (starter : Starter) (here : PlainSite) → opener_of opener places ≡ Some starter → site_at tab places ≡ Some here
-      → LineMakes rules (whole_world now places cells held) (Open tab url opener noopener method head) (whole_world now places cells held) (told_nowhere (Open tab url opener noopener method head) (Plain (codes "tab-exists")))
+      → LineMakes rules (whole_world now places cells held) (Open tab url opener noopener method head) (whole_world now places cells held) (told_nowhere (Open tab url opener noopener method head) (Plain (codes "tab-exists"))) []
   taken_makes starter here is taken = refused_makes (Some starter) (Some here) is taken refl (λ site. by site opener noopener)
     where
       by : (site : PlainSite) (opener : Option ℕ) (noopener : Bool) → copies (whole_world now places cells held) tab opener noopener (Some here) site ≡ None

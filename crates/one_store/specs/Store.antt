@@ -1,4 +1,5 @@
--- One store for all sites, and what a line makes of it, with the reply. No partition is looked at.
+-- One store for all sites, and what a line makes of it, with its reply and its durable change. No
+-- partition is looked at.
 -- Source: that of each action stands in `agent_model`.
 -- Our own choice: the store has one clock, one list of tabs with the sites that they are at, and
 -- one storage, whose keys have a top-level site. An action is done with all of it at once.
@@ -6,11 +7,13 @@ use Rattle.std.specs.Prelude.{ℕ, Bool, pos, List, [], ◌∷◌, Option, Some,
 use Rattle.std.specs.Prelude.{if◌then◌else◌}
 use Rattle.std.specs.FinMap as finite
 use Rattle.unwinding.specs.World.{SiteReply}
+use Rattle.unwinding.specs.Durable.{DurableChange}
 use Rattle.agent_base.specs.declared.refusals.Label.{Label}
 use Rattle.suffix_list.specs.Suffix.{Rule}
 use Rattle.origin_site.specs.Address.{PlainAddress}
 use Rattle.origin_site.specs.Site.{PlainSite, site_of_address}
 use Rattle.live_state.specs.Tabs.{PlainTab}
+use Rattle.row_changes.specs.Change.{PlainChange}
 use Rattle.script_lines.specs.declared.words.Method.{Method}
 use Rattle.reply_lines.specs.Reply.{PlainBody, Plain, Now}
 use Rattle.script_lines.specs.Script.{PlainAction, Tick, Open, Close, Go, Evict, Act}
@@ -38,10 +41,11 @@ abbrev pub empty_store : ℕ → Store
 empty_store start =
     record { now = start; places = no_places; cells = no_shared_cells; held = no_holdings }
 
--- a store, and the reply to a line
+-- a store, the reply to a line, and its durable change, if it has one
 pub record Step : Type 0 where
   pub store : Store
   pub reply : SiteReply PlainSite Answer
+  pub changes : List (DurableChange PlainSite PlainChange)
 
 -- the reply of a site to a line
 abbrev pub site_reply : PlainSite → PlainAction → PlainBody → SiteReply PlainSite Answer
@@ -53,11 +57,14 @@ abbrev pub null_reply : PlainAction → PlainBody → SiteReply PlainSite Answer
 null_reply line body =
     record { site = None; reply = record { name = action_name line; body = body } }
 
--- ---- each kind of line
+-- row changes of a site as a durable change; no row change is none
+abbrev pub change_of : PlainSite → List PlainChange → List (DurableChange PlainSite PlainChange)
+change_of site [] = []
+change_of site (change ∷ changes) = record { site = site; changes = change ∷ changes } ∷ []
 
 -- a line is refused, and the store stays
 abbrev pub refuses : Store → PlainAction → PlainBody → Step
-refuses store line body = record { store = store; reply = null_reply line body }
+refuses store line body = record { store = store; reply = null_reply line body; changes = [] }
 
 -- a line is done: the tabs are at these places, and this site replies
 abbrev pub done_with : Store → PlainAction → PlainSite → Places → Done → Step
@@ -65,6 +72,7 @@ done_with store line site places done =
     record {
       store = record store { places = places; cells = done.cells; held = done.held };
       reply = site_reply site line done.body;
+      changes = change_of site done.changes;
     }
 
 -- the copies that an opened tab gets of its opener's session areas, where the opener is at a site
@@ -118,13 +126,15 @@ acted rules store line at action (Some here) (Some tab) =
     done_with store line here store.places
     (act_in rules store.now here at action tab store.cells store.held)
 
--- ---- every line
-
--- what a line makes of a store, and its reply
+-- what a line makes of a store, its reply, and its durable change
 abbrev pub store_step : List Rule → Store → PlainAction → Step
 store_step rules store (Tick s) =
     let now = clock_after store.now s in
-    record { store = record store { now = now }; reply = null_reply (Tick s) (Now (pos now)) }
+    record {
+      store = record store { now = now };
+      reply = null_reply (Tick s) (Now (pos now));
+      changes = [];
+    }
 store_step rules store (Open tab url opener noopener method head) =
     opened rules store (Open tab url opener noopener method head) tab url method head
     (with_copies store.places tab opener noopener store.held)
@@ -138,11 +148,3 @@ store_step rules store (Evict site) =
 store_step rules store (Act at action) =
     acted rules store (Act at action) at action (site_at at.tab store.places)
     (tab_named at.tab store.held)
-
--- the replies to lines, in their order
-unfoldable pub store_replies : List Rule → Store → List PlainAction
-    → List (SiteReply PlainSite Answer)
-store_replies rules store [] = []
-store_replies rules store (line ∷ lines) =
-    let step = store_step rules store line in
-    step.reply ∷ store_replies rules step.store lines

@@ -1,7 +1,6 @@
 -- What an edit of one part makes of the durable state of all.
-use Rattle.std.proofs.Common.{◌≡◌, ℕ, Bool, true, false, cond, List, refl, sym, ap, ◌∙◌}
+use Rattle.std.proofs.Common.{◌≡◌, ℕ, Bool, true, cond, List, refl, sym, ap, ◌∙◌}
 use Rattle.std.specs.Prelude.{◌&&◌, Result, Ok, Err, IfOk}
-use Rattle.std.specs.FinMap as finite
 use Rattle.storage_key.specs.Key.{PlainKey}
 use Rattle.local_area.specs.Area.{Pair}
 use Rattle.cookie_jar.specs.Cookie.{PlainCookie}
@@ -11,7 +10,7 @@ use Rattle.access_grants.specs.Grant.{PlainGrant, PlainGrants, kept}
 use Rattle.row_changes.specs.Change.{CookieInsert, CookieRemove, CookieReplace, Grant, SetMode}
 use Rattle.storage_events.specs.declared.event.AreaKind.TheVariants.{Local}
 use Rattle.agent_model.specs.CookieCells.{Cookies}
-use Rattle.agent_model.specs.Partition.{no_holdings, with_area}
+use Rattle.agent_model.specs.Partition.{no_holdings}
 use Rattle.agent_model.specs.Buckets.{made_persistent}
 use Rattle.web_storage.specs.Stored as storage
 use Rattle.web_storage.specs.Lends.{HoldsPairs}
@@ -19,7 +18,7 @@ use Rattle.web_cookies.specs.Stored as cookies
 use Rattle.web_cookies.specs.Cells as web
 use Rattle.web_cookies.specs.Rows.{IsRowDone, cookies_after_row}
 use Rattle.web_cookies.proofs.CellLemmas.{partitioned_at, shared_at}
-use Rattle.durable_model.specs.Saved.{Saved, cookies_at, is_kept_cookie, kind_of, with_cookies, with_pairs}
+use Rattle.durable_model.specs.Saved.{cookies_at, is_kept_cookie, kind_of, with_cookies, with_pairs}
 use Rattle.durable_model.specs.RowEdits.{edited, edited_in, is_valid_in, puts_kept}
 use Rattle.row_store.specs.Edits.{IsEdited}
 use Rattle.row_store.specs.Stored.{HasNoSession, saved_in}

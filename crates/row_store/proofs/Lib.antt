@@ -12,3 +12,6 @@ mod AreaRowLemmas
 mod CookieRowLemmas
 mod SnapshotLaws
 mod StorableLaws
+-- What a snapshot lists.
+mod CellTextLemmas
+mod PushedLemmas

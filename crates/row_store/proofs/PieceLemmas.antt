@@ -1,13 +1,20 @@
 -- What a piece makes of the parts, from the front of others.
 use Rattle.std.proofs.Common.{◌≡◌, ℕ, ◌+◌, ◌<◌, Bool, true, false, cond, List, [], ◌∷◌, length, drop, Option, Some, None, refl, sym, ap, subst, ◌∙◌, arith}
 use Rattle.std.specs.Prelude.{Err, slice_get}
+use Rattle.std.specs.List.{All}
+use Rattle.std.proofs.lemmas.List.Elements.{All-head}
+use Rattle.suffix_list.specs.Suffix.{Rule}
 use Rattle.row_changes.specs.Change.{PlainChange}
 use Rattle.row_changes.specs.Body.{PlainPiece, Begins, Row, Fault}
+use Rattle.row_changes.specs.Laws.{IsSpelledPiece}
 use Rattle.cookie_jar.specs.Key.{OwnCell, PartitionCell}
 use Rattle.web_cookies.proofs.CellLemmas.{partitioned_at, shared_at}
 use Rattle.durable_model.specs.Saved.{IsKeptCell, IsValid, Saved, no_rows, nothing_saved}
-use Rattle.durable_model.specs.RowEdits.{edited, is_valid}
+use Rattle.durable_model.specs.RowEdits.{after_change, edited, is_valid}
 use Rattle.durable_model.specs.Laws.{ChangesKeepValid}
+use Rattle.spelled_model.specs.Laws.{RowsStayRead}
+use Rattle.spelled_model.specs.Rows.{IsReadSaved}
+use Rattle.spelled_model.proofs.SavedLemmas.{nothing_read}
 use Rattle.row_store.specs.Bodies.{after_pieces}
 use Rattle.row_store.specs.Edits.{IsEdited, IsFaultAt, IsStanding, IsTaken}
 use Rattle.row_store.specs.Stored.{HasNoSession, saved_of}
@@ -15,22 +22,24 @@ use Rattle.row_store.specs.declared.parts.Parts.{Parts}
 
 -- a durable change begins
 pub begun : (parts : Parts) → IsTaken Begins parts parts 1
-begun parts = record { after = λ count pieces. refl; standing = λ s. s; one = omega arith }
+begun parts = record { after = λ count pieces. refl; standing = λ rules spelled s. s; one = omega arith }
 
 as_many : (count : ℕ) → count ≡ count + 0
 as_many count = omega arith
 
 module _ (at : ℕ) (change : PlainChange) (old new : Parts) where
   -- a row change that is done
-  pub done : ChangesKeepValid → IsEdited change old new true → IsTaken (Row at change) old new 0
-  done law is =
+  pub done : ChangesKeepValid → RowsStayRead → IsEdited change old new true → IsTaken (Row at change) old new 0
+  done law read is =
       let valid : is_valid change (saved_of old) ≡ true = sym is.valid in
+      let same : after_change (saved_of old) change ≡ saved_of new = ap (λ b. cond b (edited change (saved_of old)) (saved_of old)) valid ∙ sym (is.saved refl) in
       record {
         after = λ count pieces.
             ap (λ b. cond b (after_pieces (edited change (saved_of old)) count pieces) (Err at)) valid
             ∙ ap (λ d. after_pieces d count pieces) (sym (is.saved refl)) ∙ ap (λ n. after_pieces (saved_of new) n pieces) (as_many count);
-        standing = λ s. record {
-          valid = subst IsValid (ap (λ b. cond b (edited change (saved_of old)) (saved_of old)) valid ∙ sym (is.saved refl)) (law (saved_of old) change s.valid);
+        standing = λ rules spelled s. record {
+          valid = subst IsValid same (law (saved_of old) change s.valid);
+          read = subst (IsReadSaved rules) same (read rules (saved_of old) change spelled s.read);
           sessions = is.sessions refl s.sessions;
         };
         one = omega arith;
@@ -55,6 +64,11 @@ pub over : (pieces : List PlainPiece) → slice_get pieces 0 ≡ None → pieces
 over [] is = refl
 over (first ∷ rest) is = let no : ◌≡◌ {A = Option PlainPiece} (Some first) None = is in cc
 
+-- where each piece is spelled, the first is
+pub front_spelled : (rules : List Rule) (pieces : List PlainPiece) (piece : PlainPiece) → slice_get pieces 0 ≡ Some piece → All (IsSpelledPiece rules) pieces → IsSpelledPiece rules piece
+front_spelled rules pieces piece is spelled =
+    All-head (IsSpelledPiece rules) piece (drop 1 pieces) (subst (All (IsSpelledPiece rules)) (front pieces piece is) spelled)
+
 -- ---- the beginning
 
 empty_kept : IsKeptCell []
@@ -66,5 +80,5 @@ nothing_valid (OwnCell domain) = subst IsKeptCell (sym (shared_at domain [])) em
 nothing_valid (PartitionCell top bit domain) = subst IsKeptCell (sym (partitioned_at (record { top = top; bit = bit; domain = domain }) [])) empty_kept
 
 -- parts of which nothing is durable
-pub nothing_standing : (parts : Parts) → saved_of parts ≡ nothing_saved → HasNoSession parts.storage → IsStanding parts
-nothing_standing parts is none = record { valid = subst IsValid (sym is) nothing_valid; sessions = none }
+pub nothing_standing : (rules : List Rule) (parts : Parts) → saved_of parts ≡ nothing_saved → HasNoSession parts.storage → IsStanding rules parts
+nothing_standing rules parts is none = record { valid = subst IsValid (sym is) nothing_valid; read = subst (IsReadSaved rules) (sym is) (nothing_read rules); sessions = none }

@@ -3,10 +3,13 @@ use Rattle.std.specs.Prelude.{◌≡◌, ℕ, ◌+◌, ◌≤◌, Bool, true, Li
 use Rattle.std.specs.Prelude.{IsErrOf}
 use Rattle.journal.specs.declared.replay.ReplayFault.{ReplayFault}
 use Rattle.journal.specs.declared.replay.ReplayFault.TheVariants.{Bad}
+use Rattle.suffix_list.specs.Suffix.{Rule}
 use Rattle.row_changes.specs.Change.{PlainChange}
 use Rattle.row_changes.specs.Body.{PlainPiece}
+use Rattle.row_changes.specs.Laws.{IsSpelledPiece}
 use Rattle.durable_model.specs.Saved.{IsValid}
 use Rattle.durable_model.specs.RowEdits.{edited, is_valid}
+use Rattle.spelled_model.specs.Rows.{IsReadSaved}
 use Rattle.row_store.specs.Bodies.{after_pieces}
 use Rattle.row_store.specs.Stored.{HasNoSession, saved_of}
 use Rattle.row_store.specs.declared.parts.Parts.{Parts}
@@ -18,10 +21,11 @@ pub record IsEdited (change : PlainChange) (old new : Parts) (done : Bool) : Typ
   pub saved : done ≡ true → saved_of new ≡ edited change (saved_of old)
   pub sessions : done ≡ true → HasNoSession old.storage → HasNoSession new.storage
 
--- parts that an agent goes on with: each cell is as it outlives a restart, and no tab has a session
--- area
-pub record IsStanding (parts : Parts) : Type 0 where
+-- parts that an agent goes on with: each cell is as it outlives a restart, the durable state is one
+-- that was read under the rules of a list, and no tab has a session area
+pub record IsStanding (rules : List Rule) (parts : Parts) : Type 0 where
   pub valid : IsValid (saved_of parts)
+  pub read : IsReadSaved rules (saved_of parts)
   pub sessions : HasNoSession parts.storage
 
 -- a piece is taken from the front of others, and so many durable changes begin with it
@@ -29,7 +33,8 @@ pub record IsTaken (piece : PlainPiece) (old new : Parts) (begun : ℕ) : Type 0
   pub after : (count : ℕ) (pieces : List PlainPiece)
       → after_pieces (saved_of old) count (piece ∷ pieces)
       ≡ after_pieces (saved_of new) (count + begun) pieces
-  pub standing : IsStanding old → IsStanding new
+  pub standing : (rules : List Rule) → IsSpelledPiece rules piece
+      → IsStanding rules old → IsStanding rules new
   pub one : begun ≤ 1
 
 -- a piece is the fault of each body that goes on with it from here
@@ -38,7 +43,9 @@ IsFaultAt piece parts at =
     (count : ℕ) (pieces : List PlainPiece)
     → after_pieces (saved_of parts) count (piece ∷ pieces) ≡ Err at
 
--- pieces were taken to their end, by so many durable changes
-pub record AreTaken (pieces : List PlainPiece) (old new : Parts) (count : ℕ) : Type 0 where
+-- pieces that were read under the rules of a list were taken to their end, by so many durable
+-- changes
+pub record AreTaken (rules : List Rule) (pieces : List PlainPiece) (old new : Parts) (count : ℕ)
+    : Type 0 where
   pub after : after_pieces (saved_of old) 0 pieces ≡ Ok (saved_of new, count)
-  pub standing : IsStanding old → IsStanding new
+  pub standing : IsStanding rules old → IsStanding rules new

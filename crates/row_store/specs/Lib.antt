@@ -5,3 +5,5 @@ pub mod Listing
 pub mod Laws
 -- What private functions do. No public clause rests on it.
 pub mod Edits
+pub mod CellTexts
+pub mod Pushed

@@ -5,10 +5,15 @@
 //! [`Parts`] of the last state.
 #![tactic(auto)]
 
+mod cell_texts;
+mod cells;
 mod laws;
+mod listing;
+mod lookups;
 mod parts;
 mod reading;
 mod rows;
+mod texted_cell;
 
 pub use laws::written;
 pub use parts::Parts;

@@ -11,7 +11,8 @@ use crate::parts::Parts;
 use agent_base::NoMemory;
 use durable_model::durable_states;
 use journal::ReplayFault;
-use row_changes::{Piece, Reader};
+use row_changes::{Piece, Reader, written};
+use spelled_model::spelled_lines;
 use std::alloc::Global;
 use suffix_list::SuffixList;
 
@@ -24,10 +25,11 @@ pub fn read_body(
     body: &[u8],
 ) -> Result<u64, ReplayFault>
     ensures taken { let pieces = pieces_of list.now.rules snapshot body.now in
-        IfOk result (λ count. AreTaken pieces parts.old parts.new count) }
+        IfOk result (λ count. AreTaken list.now.rules pieces parts.old parts.new count) }
     ensures fault { let pieces = pieces_of list.now.rules snapshot body.now in
         (at : ℕ) → IsErrOf result (Bad at) → after_pieces (saved_of parts.old) 0 pieces ≡ Err at }
 {
+    written();
     let mut reader = Reader::new(list, snapshot, body);
     let mut count = 0;
     loop {
@@ -46,6 +48,7 @@ fn take(parts: &mut Parts, alloc: Global, piece: Piece) -> Result<u64, ReplayFau
         → IsFaultAt (plain_piece piece) parts.old at }
 {
     durable_states();
+    spelled_lines();
     match piece {
         Piece::Begins => Ok(1),
         Piece::Row { at, change } => match parts.edit(alloc, change) {

@@ -1,12 +1,18 @@
 //! The durable state that frames lead to.
-ghost use Rattle.std.specs.Prelude.{◌≡◌};
+ghost use Rattle.std.specs.Prelude.{◌≡◌, IfOk, map};
+ghost use Rattle.row_changes.specs.Body.{rows_bytes};
+ghost use Rattle.row_changes.specs.Plain.{plain_change};
 ghost use Rattle.durable_model.specs.Saved.{IsValid, nothing_saved};
+ghost use Rattle.spelled_model.specs.Rows.{IsReadSaved};
 ghost use Rattle.row_store.specs.Bodies.{from};
+ghost use Rattle.row_store.specs.Listing.{listed};
 ghost use Rattle.row_store.specs.Stored.{HasNoSession, saved_of};
 
 use crate::parts::Parts;
 use crate::reading::read_body;
+use agent_base::NoMemory;
 use journal::{Replay, ReplayFault};
+use row_changes::Change;
 use std::alloc::Global;
 use std::marker::Model;
 use suffix_list::SuffixList;
@@ -27,7 +33,7 @@ impl<'l> Model for Rows<'l> {
 
     ghost view = { λ r. record { rules = r.list.now.rules; parts = r.parts } };
 
-    ghost invariant = { λ r. IsStanding r.parts };
+    ghost invariant = { λ r. IsStanding r.list.now.rules r.parts };
 }
 
 impl<'l> Rows<'l> {
@@ -47,9 +53,26 @@ impl<'l> Rows<'l> {
     pub fn into_parts(self) -> Parts
         ensures parts { result ≡ self.entry.parts }
         ensures valid { IsValid (saved_of self.entry.parts) }
+        ensures read { IsReadSaved self.entry.rules (saved_of self.entry.parts) }
         ensures sessions { HasNoSession self.entry.parts.storage }
     {
         self.parts
+    }
+
+    /// The row changes of a snapshot, in the order in which they are written.
+    pub fn listing(&self, alloc: Global) -> Result<Vec<Change>, NoMemory>
+        ensures rows { IfOk result
+            (λ rows. map plain_change rows.items ≡ listed (saved_of self.now.parts)) }
+    {
+        self.parts.listing(alloc)
+    }
+
+    /// The body of a snapshot.
+    pub fn snapshot(&self, alloc: Global) -> Result<Vec<u8>, NoMemory>
+        ensures bytes { IfOk result
+            (λ body. body.items ≡ rows_bytes (listed (saved_of self.now.parts))) }
+    {
+        self.parts.snapshot(alloc)
     }
 
     // Stands for the state from which a frame of this kind is read.

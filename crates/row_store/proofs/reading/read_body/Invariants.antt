@@ -1,5 +1,7 @@
 use Rattle.std.proofs.Common.{◌≡◌, ℕ, ◌+◌, ◌≤◌, length}
+use Rattle.std.specs.List.{All}
 use Rattle.row_changes.specs.Body.{pieces_of}
+use Rattle.row_changes.specs.Laws.{IsSpelledPiece}
 use Rattle.row_store.specs.Bodies.{after_pieces}
 use Rattle.row_store.specs.Edits.{IsStanding}
 use Rattle.row_store.specs.Stored.{saved_of}
@@ -8,7 +10,8 @@ use Rattle.row_store.proofs.reading.read_body.Given as goal
 abbrev pub invariant-loop-piece : goal.invariant-loop-piece
 invariant-loop-piece l = record {
   after : after_pieces (saved_of l.fn.parts) 0 (pieces_of l.list.rules l.snapshot l.body) ≡ after_pieces (saved_of l.parts) l.count l.reader;
-  standing : IsStanding l.fn.parts → IsStanding l.parts;
+  spelled : All (IsSpelledPiece l.list.rules) l.reader;
+  standing : IsStanding l.list.rules l.fn.parts → IsStanding l.list.rules l.parts;
   few : l.count + length l.reader ≤ length l.body + 1;
 }
 

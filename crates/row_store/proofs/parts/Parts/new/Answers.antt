@@ -1,5 +1,4 @@
 -- Each part is empty.
-use Rattle.std.proofs.Common.{ap}
 use Rattle.agent_model.specs.Partition.{no_holdings}
 use Rattle.durable_model.specs.Saved.{no_rows, nothing_saved}
 use Rattle.row_store.proofs.parts.Parts.new.Goals as goal

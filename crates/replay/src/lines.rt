@@ -2,7 +2,7 @@
 ghost use Rattle.std.specs.Prelude.{◌≡◌, ◌≤◌, ◌++◌, IfOk, OnErr, OnOk};
 ghost use Rattle.agent_base.specs.Counts.{HasCause};
 ghost use Rattle.agent_base.specs.Streams.{TakesPrefix};
-ghost use Rattle.agent_core.specs.AgentState.{world_of};
+ghost use Rattle.agent_memory.specs.AgentState.{world_of};
 ghost use Rattle.agent_model.specs.Isolation.{printed};
 ghost use Rattle.agent_model.specs.Rest.{last_moment};
 ghost use Rattle.agent_model.specs.TheMachine.{machine};
@@ -16,7 +16,7 @@ ghost use Rattle.replay.specs.Loop.{WritesScript, acted};
 
 use crate::Status;
 use agent_base::{Failed, NoMemory, Sink, Source, write_all};
-use agent_core::Agent;
+use agent_memory::{Body, Memory};
 use reply_lines::print_into;
 use script_lines::{Action, Line, Script, ScriptFault};
 use std::alloc::Global;
@@ -62,7 +62,7 @@ fn run_lines<O: Sink>(
         (from_to (O.taken out.old) (O.taken out.new)) }
     ensures write { WriteCounts result (from_to (O.faults out.old) (O.faults out.new)) }
 {
-    let mut agent = Agent::new(alloc, list, start);
+    let mut agent = Memory::new(alloc, list, start);
     let mut text = Vec::new(alloc);
     let mut waiting = Vec::new(alloc);
     for line in lines {
@@ -77,9 +77,9 @@ fn run_lines<O: Sink>(
 }
 
 // Runs one line. The text of its reply waits behind what waits already. It is made in a buffer that
-// is kept from line to line.
+// is kept from line to line. A run in memory keeps no row changes: they end with the line.
 fn answer(
-    agent: &mut Agent,
+    agent: &mut Memory,
     action: &Action,
     text: &mut Vec<u8>,
     waiting: &mut Vec<u8>,
@@ -93,7 +93,8 @@ fn answer(
     ensures rules { agent.new.rules ≡ agent.old.rules }
     ensures unchanged { OnErr result (waiting.new.items ≡ waiting.old.items) }
 {
-    let reply = agent.line(action)?;
+    let mut body = Body::new(*waiting.allocator(), usize::MAX);
+    let reply = agent.line(action, &mut body)?;
     print_into(text, &reply)?;
     match waiting.extend_from_slice(text) {
         Ok(()) => Ok(()),

@@ -5,7 +5,7 @@ use Rattle.script_lines.specs.Plain.{action_of}
 use Rattle.script_lines.specs.declared.script.Line.{Line}
 use Rattle.agent_model.specs.TheMachine.{machine}
 use Rattle.agent_model.specs.Isolation.{transcript}
-use Rattle.agent_core.specs.AgentState.{world_of}
+use Rattle.agent_memory.specs.AgentState.{world_of}
 use Rattle.replay.specs.Loop.{TakesFront, acted}
 use Rattle.replay.specs.BeforeAfter.{from_to}
 use Rattle.replay.specs.declared.status.Status.TheVariants.{Done, Memory}

@@ -1,6 +1,6 @@
 use Rattle.std.proofs.Common.{◌≡◌, take}
 use Rattle.agent_model.specs.Isolation.{transcript}
-use Rattle.agent_core.specs.AgentState.{world_of}
+use Rattle.agent_memory.specs.AgentState.{world_of}
 use Rattle.replay.specs.Loop.{TakesFront, acted}
 use Rattle.replay.proofs.LoopLemmas.{world_at}
 use Rattle.replay.proofs.lines.run_lines.Given as goal

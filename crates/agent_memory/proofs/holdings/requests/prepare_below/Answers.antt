@@ -1,0 +1,26 @@
+-- The context is by the chain of the document.
+use Rattle.std.proofs.Common.{◌≡◌, false, map, not, ap, ◌∙◌}
+use Rattle.origin_site.specs.Plain.{plain_address}
+use Rattle.script_lines.specs.Plain.{head_field_of}
+use Rattle.storage_key.specs.Context.{is_first_party}
+use Rattle.frame_tree.specs.Keys.{is_first_at, sites}
+use Rattle.frame_tree.specs.Tree.{chain_of}
+use Rattle.origin_site.specs.Site.{site_of_address}
+use Rattle.agent_model.specs.CookieUses.{is_safe, request_use}
+use Rattle.agent_memory.proofs.RequestLemmas.{first_is, prepared_as}
+use Rattle.agent_memory.proofs.holdings.requests.prepare_below.Goals as goal
+
+pub returns : goal.returns
+returns c =
+    let rules = c.args.list.now.rules in
+    let url = plain_address c.args.url.now in
+    let frames = c.args.tab.now in
+    let first : c.first_party-first.result ≡ is_first_party (sites (chain_of c.args.frame frames)) (site_of_address rules url) =
+    c.first_party-first.ensures.first ∙ ap (is_first_at c.args.frame frames) c.in_ok-target.ensures ∙ first_is c.args.frame frames (site_of_address rules url) c.requires.there in
+    record {
+      prepared = λ site top.
+          prepared_as rules c.args.now _ (request_use rules site (chain_of c.args.frame frames) (chain_of c.args.frame frames) url c.args.method c.args.granted) (map head_field_of c.args.head.now) c.args.cookies.now c.prepare.new.self c.prepare.result
+          (c.request_use-how.ensures site top
+          ∙ λ i. record { url = url; top = site; context = record { first = first i; bit = not (first i) }; same_site = first i; top_load = false; safe = is_safe c.args.method; script = false; granted = c.args.granted })
+          (record { shared = c.prepare.ensures.shared; partitioned = c.prepare.ensures.partitioned }) c.prepare.ensures.prepared;
+    }

@@ -1,0 +1,292 @@
+//! Requests: which use of cookies each kind is, and what is prepared for it.
+ghost use Rattle.std.specs.Prelude.{◌≡◌, ◌≤◌, ◌-◌, IfOk, OnOk, Some, false, length, map, take, true};
+ghost use Rattle.origin_site.specs.Plain.{plain_address, plain_site};
+ghost use Rattle.origin_site.specs.Site.{PlainSite, site_of_address};
+ghost use Rattle.storage_key.specs.Context.{context_of};
+ghost use Rattle.storage_key.specs.Plain.{plain_context, plain_key};
+ghost use Rattle.frame_tree.specs.Document.{PlainDocument};
+ghost use Rattle.frame_tree.specs.Plain.{plain_document};
+ghost use Rattle.frame_tree.specs.Keys.{sites};
+ghost use Rattle.frame_tree.specs.Tree.{chain_of, document_of, has_frame, top_site};
+ghost use Rattle.script_lines.specs.Plain.{head_field_of};
+ghost use Rattle.agent_model.specs.CookieUses as spec;
+ghost use Rattle.agent_model.specs.Documents.{Keyed};
+ghost use Rattle.agent_model.specs.Lines as lines;
+ghost use Rattle.agent_model.specs.Rest.{last_moment};
+ghost use Rattle.web_cookies.specs.Uses.{plain_use};
+ghost use Rattle.agent_memory.specs.Lines.{is_there};
+ghost use Rattle.agent_memory.specs.Requests.{IsPrepared, starter_in};
+ghost use Rattle.row_changes.specs.Appended.{IsFront};
+ghost use Rattle.agent_memory.specs.Writes.{AreRows};
+
+use crate::body::Body;
+use crate::holdings::open_tab;
+use agent_base::{Label, NoMemory};
+use frame_tree::{Document, Tab};
+use live_state::Live;
+use origin_site::{Address, Site, same_origin, same_site, site_of};
+use script_lines::{HeadField, Method};
+use std::alloc::Global;
+use storage_key::{Context, StorageKey};
+use suffix_list::SuffixList;
+use web_cookies::{CookieUse, Cookies, Prepared};
+
+/// Prepares the load of a top document at a site. A page of the starter's tab starts it, or the
+/// user.
+pub fn prepare_top(
+    live: &Live,
+    cookies: &mut Cookies,
+    alloc: Global,
+    list: &SuffixList,
+    now: u64,
+    starter: Option<u16>,
+    url: &Address,
+    target: &Site,
+    method: Method,
+    head: &[HeadField],
+) -> Result<Prepared, NoMemory>
+    requires now { now ≤ last_moment }
+    requires starter { is_there starter live.now.tabs ≡ true }
+    ensures prepared { let same_site = lines.is_same_site (starter_in starter live.now.tabs)
+        (plain_site target.now) in
+        let how = spec.top_use (plain_site target.now) (plain_address url.now) method same_site in
+        let fields = map head_field_of head.now in
+        IsPrepared list.now.rules now how fields cookies.old cookies.new result }
+{
+    let how = CookieUse {
+        url,
+        top: target,
+        context: Context {
+            first: true,
+            bit: false,
+        },
+        same_site: is_started_at(live, starter, target),
+        top_load: true,
+        safe: is_safe(method),
+        script: false,
+        granted: false,
+    };
+    cookies.prepare(alloc, list, now, &how, head)
+}
+
+// Whether the user starts a load, or a page of this site.
+fn is_started_at(live: &Live, starter: Option<u16>, target: &Site) -> bool
+    requires { is_there starter live.now.tabs ≡ true }
+    ensures { let who = starter_in starter live.now.tabs in
+        result ≡ lines.is_same_site who (plain_site target.now) }
+{
+    match starter {
+        Some(tab) => same_site(open_tab(live, tab).top_site(), target),
+        None => true,
+    }
+}
+
+/// Prepares a request below a document, which starts it: a request of that document, or the load of
+/// a frame that is added to it. `granted` is whether access is granted to it.
+pub fn prepare_below(
+    tab: &Tab,
+    cookies: &mut Cookies,
+    alloc: Global,
+    list: &SuffixList,
+    now: u64,
+    frame: u8,
+    url: &Address,
+    method: Method,
+    granted: bool,
+    head: &[HeadField],
+) -> Result<Prepared, NoMemory>
+    requires now { now ≤ last_moment }
+    requires there { has_frame frame tab.now ≡ true }
+    ensures prepared { (site : PlainSite) → top_site tab.now ≡ Some site
+        → let chain = chain_of frame tab.now in
+        let how = spec.request_use list.now.rules site chain chain (plain_address url.now) method
+        granted in
+        let fields = map head_field_of head.now in
+        IsPrepared list.now.rules now how fields cookies.old cookies.new result }
+{
+    let target = target_of(alloc, list, url)?;
+    let first = tab.first_party(frame, &target);
+    let context = Context { first, bit: !first };
+    let how = request_use(tab, url, context, first, method, granted);
+    cookies.prepare(alloc, list, now, &how, head)
+}
+
+/// Prepares the load of a frame that goes to another address. Its own document starts it, or its
+/// parent's. `granted` is whether access is granted to it.
+pub fn prepare_nav(
+    tab: &Tab,
+    cookies: &mut Cookies,
+    alloc: Global,
+    list: &SuffixList,
+    now: u64,
+    frame: u8,
+    url: &Address,
+    by_self: bool,
+    method: Method,
+    granted: bool,
+    head: &[HeadField],
+) -> Result<Prepared, NoMemory>
+    requires now { now ≤ last_moment }
+    requires there { has_frame frame tab.now ≡ true }
+    ensures prepared { (site : PlainSite) → top_site tab.now ≡ Some site
+        → let how = spec.request_use list.now.rules site (spec.chain_above frame tab.now)
+        (spec.starter_of by_self frame tab.now) (plain_address url.now) method granted in
+        let fields = map head_field_of head.now in
+        IsPrepared list.now.rules now how fields cookies.old cookies.new result }
+{
+    let target = target_of(alloc, list, url)?;
+    let context = context_above(tab, frame, &target)?;
+    let same_site = if by_self {
+        tab.first_party(frame, &target)
+    } else {
+        context.first
+    };
+    let how = request_use(tab, url, context, same_site, method, granted);
+    cookies.prepare(alloc, list, now, &how, head)
+}
+
+// The context of a load below the parent of a frame.
+fn context_above(tab: &Tab, frame: u8, target: &Site) -> Result<Context, NoMemory>
+    requires there { has_frame frame tab.now ≡ true }
+    ensures { IfOk result (λ context. plain_context context
+        ≡ context_of (sites (spec.chain_above frame tab.now)) (plain_site target.now)) }
+{
+    match tab.chain(frame) {
+        Ok(chain) => Ok(Context::of(above(chain.as_slice()), target)),
+        Err(_) => Err(NoMemory),
+    }
+}
+
+// A chain without its last document.
+fn above(chain: &[Option<Site>]) -> &[Option<Site>]
+    ensures { result.now ≡ take (length chain.now - 1) chain.now }
+{
+    &chain[..chain.len().saturating_sub(1)]
+}
+
+// The use of a request in a tab.
+fn request_use<'a>(
+    tab: &'a Tab,
+    url: &'a Address,
+    context: Context,
+    same_site: bool,
+    method: Method,
+    granted: bool,
+) -> CookieUse<'a>
+    ensures { (site : PlainSite) → top_site tab.now ≡ Some site
+        → plain_use result ≡ record {
+          url = plain_address url.now;
+          top = site;
+          context = plain_context context;
+          same_site = same_site;
+          top_load = false;
+          safe = spec.is_safe method;
+          script = false;
+          granted = granted;
+        } }
+{
+    CookieUse {
+        url,
+        top: tab.top_site(),
+        context,
+        same_site,
+        top_load: false,
+        safe: is_safe(method),
+        script: false,
+        granted,
+    }
+}
+
+/// Whether access is granted to the load of a frame that goes to another address.
+pub fn is_granted_nav(
+    alloc: Global,
+    tab: &Tab,
+    frame: u8,
+    url: &Address,
+    by_self: bool,
+) -> Result<bool, NoMemory>
+    ensures { let granted = spec.is_granted_nav by_self frame tab.now (plain_address url.now) in
+        IfOk result (λ is. is ≡ granted) }
+{
+    if by_self {
+        is_granted_at(alloc, tab, frame, url)
+    } else {
+        Ok(false)
+    }
+}
+
+/// Whether access is granted to a request of a frame's document.
+pub fn is_granted_at(alloc: Global, tab: &Tab, frame: u8, url: &Address) -> Result<bool, NoMemory>
+    ensures { let granted = spec.is_granted_at frame tab.now (plain_address url.now) in
+        IfOk result (λ is. is ≡ granted) }
+{
+    match tab.document(frame) {
+        Some(document) => is_granted_to(alloc, document, url),
+        None => Ok(false),
+    }
+}
+
+// Whether access is granted to a request of a document.
+fn is_granted_to(alloc: Global, document: &Document, url: &Address) -> Result<bool, NoMemory>
+    ensures { let own = Some (plain_document document.now) in
+        IfOk result (λ is. is ≡ spec.is_granted_to (plain_address url.now) own) }
+{
+    if !document.flag {
+        return Ok(false);
+    }
+    match &document.origin {
+        Some(origin) => Ok(same_origin(origin, &url.origin(alloc)?)),
+        None => Ok(false),
+    }
+}
+
+/// The use of a script of a document that has a storage key.
+pub fn script_use<'a>(tab: &'a Tab, at: Label, key: &StorageKey) -> CookieUse<'a>
+    requires there { has_frame at.frame tab.now ≡ true }
+    ensures { (document : PlainDocument) (site : PlainSite)
+        → document_of at.frame tab.now ≡ Some document → top_site tab.now ≡ Some site
+        → let own : Keyed = record { at = at; document = document; key = plain_key key.now } in
+        plain_use result ≡ spec.script_use site own }
+{
+    match tab.document(at.frame) {
+        Some(document) => CookieUse {
+            url: &document.address,
+            top: tab.top_site(),
+            context: Context {
+                first: !key.bit,
+                bit: key.bit,
+            },
+            same_site: !key.bit,
+            top_load: false,
+            safe: true,
+            script: true,
+            granted: document.flag,
+        },
+        None => unreachable!(),
+    }
+}
+
+/// Writes the row changes of what was prepared.
+pub fn write_rows(prepared: &Prepared, body: &mut Body) -> Result<(), NoMemory>
+    ensures rows { OnOk result (AreRows prepared.now body.old.bytes body.new.bytes) }
+    ensures front { IsFront body.old.bytes body.new.bytes }
+    ensures limit { body.new.limit ≡ body.old.limit }
+{
+    body.append_all(prepared.rows())
+}
+
+/// The site that a load reaches.
+pub fn target_of(alloc: Global, list: &SuffixList, url: &Address) -> Result<Site, NoMemory>
+    ensures { let target = site_of_address list.now.rules (plain_address url.now) in
+        IfOk result (λ site. plain_site site ≡ target) }
+{
+    let origin = url.origin(alloc)?;
+    site_of(alloc, &origin, list)
+}
+
+// Whether a method is safe.
+fn is_safe(method: Method) -> bool
+    ensures { result ≡ spec.is_safe method }
+{
+    matches!(method, Method::Get | Method::Head | Method::Options)
+}

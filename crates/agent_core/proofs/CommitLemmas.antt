@@ -1,0 +1,247 @@
+-- What the commit of an open batch makes of what an agent stands for.
+use Rattle.std.proofs.Common.{◌≡◌, inl, inr, ⊎_elim, ℕ, ◌+◌, ◌%◌, ◌^◌, ◌<◌, ◌≤◌, true, List, [], ◌∷◌, length, refl, sym, ap, ◌∙◌, arith}
+use Rattle.std.specs.Prelude.{◌⊎◌}
+use Rattle.std.proofs.lemmas.List.Elements.{All-nil}
+use Rattle.unwinding.specs.Course.{AtBase, IsAt}
+use Rattle.unwinding.specs.CourseSteps.{committed}
+use Rattle.unwinding.specs.Durable.{apply_all}
+use Rattle.disk_model.specs.Disk.{LeavesOnly, View}
+use Rattle.disk_model.specs.DiskLaws.{IsLawful}
+use Rattle.journal.specs.Journal.{JournalView}
+use Rattle.journal.specs.Region.{StandsFor}
+use Rattle.journal.proofs.Moments.{weaker}
+use Rattle.suffix_list.specs.Suffix.{Rule}
+use Rattle.row_changes.specs.Change.{PlainChange}
+use Rattle.row_changes.specs.Laws.{IsWritable}
+use Rattle.agent_model.specs.Lines.{AgentWorld}
+use Rattle.durable_model.specs.Keeping.{AgentDurable, durable_of, keeping}
+use Rattle.durable_model.specs.Laws.{ChangesKeepValid}
+use Rattle.durable_model.specs.RowEdits.{after_all, after_change, after_changes}
+use Rattle.durable_model.specs.Saved.{IsValid, Saved, nothing_saved}
+use Rattle.durable_model.proofs.HistoryLemmas.{all_projected}
+use Rattle.row_store.specs.Bodies.{Takes}
+use Rattle.row_store.specs.Laws.{WrittenBodiesMean}
+use Rattle.one_store.specs.WholeWorld.{whole_world}
+use Rattle.agent_memory.specs.AgentState.{AgentState, world_of}
+use Rattle.agent_memory.specs.Written.{AgentChange}
+use Rattle.agent_core.specs.AgentView.{AgentView, may_find, may_of, since_opening}
+use Rattle.agent_core.specs.Batch.{PlainBatch}
+use Rattle.open_store.specs.Commits.{BodyLeads, IsEither}
+use Rattle.agent_core.specs.Means.{IsBeforeOrAfter, after_commit}
+use Rattle.agent_core.specs.Seen.{AgentSeen, IsAtBase, IsSeen, IsUp, LeavesStores}
+use Rattle.agent_core.specs.Standing.{IsHeld}
+use Rattle.agent_core.specs.declared.agent.Power.{Power}
+use Rattle.agent_core.specs.declared.agent.Power.TheVariants.{Up}
+use Rattle.agent_core.proofs.BatchLemmas.{body_leads}
+use Rattle.agent_core.proofs.SeenLemmas.{from_parts, up_at_base, up_may, up_stores}
+use Rattle.agent_core.proofs.StoreLemmas.{stands_one}
+
+-- ---- valid states
+
+changes_valid : ChangesKeepValid → (d : Saved) (changes : List PlainChange) → IsValid d
+    → IsValid (after_changes d changes)
+changes_valid law d [] valid = valid
+changes_valid law d (change ∷ changes) valid =
+    changes_valid law (after_change d change) changes (law d change valid)
+
+pub all_valid : ChangesKeepValid → (d : Saved) (made : List AgentChange) → IsValid d
+    → IsValid (after_all d made)
+all_valid law d [] valid = valid
+all_valid law d (one ∷ made) valid =
+    all_valid law (after_changes d one.changes) made (changes_valid law d one.changes valid)
+
+-- ---- numbers of changes
+
+pub since_next : (last later more count opened : ℕ) → later % 2 ^ 64 ≡ (last + more) % 2 ^ 64
+    → count ≡ since_opening last opened → count + more < 2 ^ 64
+    → count + more ≡ since_opening later opened
+since_next last later more count opened same is fits = omega (arith, same, is, fits)
+
+twice : (n : ℕ) → n % 2 ^ 64 % 2 ^ 64 ≡ n % 2 ^ 64
+twice n = omega arith
+
+-- a store that stands for some state
+store_of : (rules : List Rule) (digest file : List ℕ) (d : Saved) (last : ℕ)
+    → StandsFor (Takes rules) nothing_saved digest file d last
+    → (base : Saved) × (n : ℕ) × StandsFor (Takes rules) nothing_saved digest file base n
+store_of rules digest file d last stands = (d, last, stands)
+
+-- ---- the open batch
+
+-- what the open batch of an agent that is up leads to
+abbrev pub held_of : {D : Type 0} (x : AgentView D) (v : View) (a : AgentSeen) → IsUp x v a
+    → IsHeld x v a
+held_of x v a up = record {
+  changes = up.changes;
+  base = up.base;
+  state = up.state;
+  batch = up.batch;
+  store = up.store;
+}
+
+module _ {D : Type 0} (x : AgentView D) (v : View) (a : AgentSeen) (held : IsHeld x v a) where
+  pub batch_leads : WrittenBodiesMean
+      → BodyLeads (Takes x.memory.rules) held.base x.body x.changes (after_all held.base a.pending)
+  batch_leads law =
+      body_leads law x.memory.rules held.base a.pending x.body x.changes held.batch.bytes
+      held.changes held.batch.writable held.batch.valid
+
+  state_after : durable_of (after_all held.base a.pending)
+      ≡ (after_commit x.memory.rules a).base.state
+  unfolding committed
+  state_after =
+      all_projected held.base a.pending
+      ∙ ap (λ (d : AgentDurable). apply_all keeping a.pending d) (sym held.state)
+
+  -- what each moment leaves
+  pub moments_after : (w : View)
+      → LeavesOnly v w (IsEither (Takes x.memory.rules) nothing_saved x.journal.digest held.base
+      x.journal.changes (after_all held.base a.pending)
+      ((x.journal.changes + x.changes) % 2 ^ 64))
+      → LeavesOnly v w (IsBeforeOrAfter x.memory.rules x.journal.digest a a)
+  moments_after w leaves =
+      weaker v w
+      (IsEither (Takes x.memory.rules) nothing_saved x.journal.digest held.base
+      x.journal.changes (after_all held.base a.pending)
+      ((x.journal.changes + x.changes) % 2 ^ 64))
+      (IsBeforeOrAfter x.memory.rules x.journal.digest a a)
+      (λ file either. ⊎_elim
+      (λ (s : StandsFor (Takes x.memory.rules) nothing_saved x.journal.digest file held.base
+      x.journal.changes). (held.base, x.journal.changes, s, inl (sym held.state)))
+      (λ (s : StandsFor (Takes x.memory.rules) nothing_saved x.journal.digest file
+      (after_all held.base a.pending) ((x.journal.changes + x.changes) % 2 ^ 64)). (
+        after_all held.base a.pending,
+        (x.journal.changes + x.changes) % 2 ^ 64,
+        s,
+        inr state_after,
+      ))
+      either)
+      leaves
+
+-- ---- the open batch of an agent that is up
+
+module _ {D : Type 0} (x : AgentView D) (v : View) (a : AgentSeen) (up : IsUp x v a) where
+  -- what the store stands for after the commit
+  abbrev pub base_after : Saved
+  base_after = after_all up.base a.pending
+
+  count_after : (later : ℕ) → later % 2 ^ 64 ≡ (x.journal.changes + x.changes) % 2 ^ 64
+      → (after_commit x.memory.rules a).base.count ≡ since_opening later x.opened
+  unfolding committed
+  count_after later same =
+      since_next x.journal.changes later (length a.pending) a.base.count x.opened
+      (same ∙ ap (λ (n : ℕ). (x.journal.changes + n) % 2 ^ 64) up.changes) up.count up.fits
+
+  -- ---- a commit that failed
+
+  module _ (w : View) (before : IsLawful v) (after : IsLawful w) (tells : w.tells ≡ v.tells)
+      (leaves : v.tells ≡ true
+      → LeavesOnly v w (IsEither (Takes x.memory.rules) nothing_saved x.journal.digest up.base x.journal.changes
+      base_after ((x.journal.changes + x.changes) % 2 ^ 64))) where
+    is_told : (file : List ℕ) → w.may_leave file → v.tells ≡ true
+    is_told file left =
+        sym tells ∙ after.untold w.moment file (after.counts_now w.moment file (omega arith) left)
+
+    either : (file : List ℕ) → w.may_leave file
+        → IsEither (Takes x.memory.rules) nothing_saved x.journal.digest up.base x.journal.changes base_after
+        ((x.journal.changes + x.changes) % 2 ^ 64) file
+    either file left =
+        let moments = leaves (is_told file left) in
+        moments.each file (after.counts_now v.moment file moments.later left)
+
+    pub failed_stores : LeavesStores x.memory.rules x.journal.digest w
+    failed_stores tells file left =
+        ⊎_elim
+        (λ (s : StandsFor (Takes x.memory.rules) nothing_saved x.journal.digest file up.base
+        x.journal.changes).
+        store_of x.memory.rules x.journal.digest file up.base x.journal.changes s)
+        (λ (s : StandsFor (Takes x.memory.rules) nothing_saved x.journal.digest file base_after
+        ((x.journal.changes + x.changes) % 2 ^ 64)).
+        store_of x.memory.rules x.journal.digest file base_after
+        ((x.journal.changes + x.changes) % 2 ^ 64) s)
+        (either file left)
+
+    pub failed_may : (d : AgentDurable) (n : ℕ)
+        → may_find x.memory.rules x.journal.digest x.opened w d n
+        → may_of x v d n ⊎ IsAt (after_commit x.memory.rules a).base d n
+    unfolding may_find
+    failed_may d n left =
+        ⊎_elim
+        (λ (s : StandsFor (Takes x.memory.rules) nothing_saved x.journal.digest left.0 up.base
+        x.journal.changes).
+        let same =
+        stands_one x.memory.rules x.journal.digest left.0 left.2 up.base left.3
+        x.journal.changes left.4 s in
+        inl (up_may x v a up before (is_told left.0 left.1) d n (
+          left.5 ∙ ap durable_of same.0 ∙ sym up.state,
+          left.6 ∙ ap (λ (i : ℕ). since_opening i x.opened) same.1 ∙ sym up.count,
+        )))
+        (λ (s : StandsFor (Takes x.memory.rules) nothing_saved x.journal.digest left.0 base_after
+        ((x.journal.changes + x.changes) % 2 ^ 64)).
+        let later = (x.journal.changes + x.changes) % 2 ^ 64 in
+        let same =
+        stands_one x.memory.rules x.journal.digest left.0 left.2 base_after left.3 later
+        left.4 s in
+        inr (
+          left.5 ∙ ap durable_of same.0 ∙ state_after x v a (held_of x v a up),
+          left.6 ∙ ap (λ (i : ℕ). since_opening i x.opened) same.1
+              ∙ sym (count_after later (twice (x.journal.changes + x.changes))),
+        ))
+        (either left.0 left.1)
+
+-- ---- a commit that succeeded
+
+module _ {D : Type 0} (m : AgentState) (b b' : PlainBatch) (j j' : JournalView)
+    (now opened : ℕ) (power : Power) (disk disk' : D) (v w : View) (a : AgentSeen)
+    (up : IsUp (from_parts m now b j opened power disk) v a) where
+  pub committed_up : ChangesKeepValid → b'.body ≡ [] → b'.changes ≡ 0 → b'.held ≡ []
+      → IsAtBase m.rules j' w (after_all up.base a.pending)
+      → j'.changes % 2 ^ 64 ≡ (j.changes + b.changes) % 2 ^ 64
+      → IsUp (from_parts m m.now b' j' opened power disk') w (after_commit m.rules a)
+  unfolding committed
+  committed_up law body changes held at count = record {
+    world = up.world;
+    sound = up.sound;
+    read = up.read;
+    held = sym held;
+    changes = changes;
+    count =
+        count_after (from_parts m now b j opened power disk) v a up j'.changes count;
+    fits = omega (arith, up.fits);
+    base = after_all up.base a.pending;
+    valid = all_valid law up.base a.pending up.valid;
+    state = sym (state_after (from_parts m now b j opened power disk) v a
+        (held_of (from_parts m now b j opened power disk) v a up));
+    batch = record {
+      bytes = body;
+      writable = All-nil (λ one. IsWritable m.rules one.changes);
+      valid = tt;
+      saved = up.batch.saved;
+    };
+    store = at;
+  }
+
+  now_is : a.world.rest.now ≡ m.now
+  unfolding world_of whole_world
+  now_is = ap (λ (x : AgentWorld). x.rest.now) up.world
+
+  pub committed_seen : ChangesKeepValid → power ≡ Up → b'.body ≡ [] → b'.changes ≡ 0
+      → b'.held ≡ [] → 1 ≤ b'.size
+      → IsAtBase m.rules j' w (after_all up.base a.pending)
+      → j'.changes % 2 ^ 64 ≡ (j.changes + b.changes) % 2 ^ 64
+      → IsSeen (from_parts m m.now b' j' opened power disk') w (after_commit m.rules a)
+      × AtBase (after_commit m.rules a).base
+      (may_of (from_parts m m.now b' j' opened power disk') w)
+  unfolding committed
+  committed_seen law is_up body changes held size at count =
+      let here = committed_up law body changes held at count in
+      let x = from_parts m m.now b' j' opened power disk' in (
+        record {
+          up = (λ _. is_up, λ _. refl);
+          clock = now_is;
+          stores = up_stores x w (after_commit m.rules a) here;
+          standing = λ _. here;
+          short = λ _. omega (arith, ap length held, size);
+        },
+        up_at_base x w (after_commit m.rules a) here,
+      )

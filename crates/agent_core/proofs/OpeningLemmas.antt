@@ -1,0 +1,77 @@
+-- What the opening of a journal gives to an agent.
+use Rattle.std.proofs.Common.{◌≡◌, ⊎_elim, ℕ, ◌<◌, true, false, List, length, Some, sym, subst}
+use Rattle.std.proofs.lemmas.Bool.{cases_lt}
+use Rattle.disk_model.specs.Disk.{IsSettled, View}
+use Rattle.journal.specs.Journal.{JournalView, Stands}
+use Rattle.journal.specs.Opening.{FileMeans, IsWithin, limit}
+use Rattle.journal.specs.Region.{Runs}
+use Rattle.journal.specs.Store.{Frame}
+use Rattle.suffix_list.specs.ListText.{RuleList}
+use Rattle.suffix_list.specs.Suffix.{Rule}
+use Rattle.durable_model.specs.Saved.{IsValid, Saved, nothing_saved}
+use Rattle.spelled_model.specs.Rows.{IsReadSaved}
+use Rattle.row_store.specs.Bodies.{Takes}
+use Rattle.row_store.specs.Stored.{HasNoSession, PlainRows, saved_of}
+use Rattle.row_store.specs.declared.parts.Parts.{Parts}
+use Rattle.agent_core.specs.Openings.{IsFound, IsOpened}
+use Rattle.agent_core.specs.Seen.{IsAtBase, LeavesStores}
+
+-- the store is open, and nothing is pending
+pub at_base : (rules : List Rule) (journal : JournalView) (view : View) (state : Saved)
+    → ((c : List ℕ) → view.contents ≡ Some c
+    → (frames : List Frame) × Stands journal c frames
+    × Runs (Takes rules) true nothing_saved 0 frames state journal.changes)
+    → journal.shut ≡ false → IsSettled view → IsAtBase rules journal view state
+at_base rules journal view state stands usable settled = record {
+  rests = record {
+    settled = settled;
+    stands = λ c told. let here = stands c told in (here.0, here.1);
+  };
+  usable = usable;
+  stands = stands;
+}
+
+-- the rows that its frames led to are the parts of what it stands for
+pub is_opened : (list : RuleList) (journal : JournalView) (view : View) (rows : PlainRows)
+    (parts : Parts) → parts ≡ rows.parts → rows.rules ≡ list.rules
+    → IsAtBase list.rules journal view (saved_of rows.parts) → journal.digest ≡ list.digest
+    → IsValid (saved_of rows.parts) → IsReadSaved rows.rules (saved_of rows.parts)
+    → HasNoSession rows.parts.storage → IsOpened list journal view parts
+is_opened list journal view rows parts same by at digest valid read none =
+    subst (λ (p : Parts). IsOpened list journal view p) (sym same)
+    (record {
+      at = at;
+      digest = digest;
+      valid = valid;
+      keys = subst (λ (r : List Rule). IsReadSaved r (saved_of rows.parts)) by read;
+      sessions = none;
+    })
+
+-- a file that is not too large
+pub is_within : (c : List ℕ) → (limit < length c → ⊥) → IsWithin true c
+is_within c never =
+    ⊎_elim (λ (over : limit < length c). absurd (never over)) (λ le limited. le)
+    (cases_lt limit (length c))
+
+-- the same rules and the same digest
+both : {A B : Type 0} (P : A → B → Type 0) (a c : A) (b d : B) → a ≡ c → b ≡ d → P a b → P c d
+both P a c b d one two here = subst (λ x. P x d) one (subst (λ y. P a y) two here)
+
+module _ (by rules : List Rule) (under digest : List ℕ) (same : by ≡ rules)
+    (like : under ≡ digest) where
+  pub means_under : (file : List ℕ) (d : Saved) (n : ℕ)
+      → FileMeans (Takes rules) nothing_saved digest file d n
+      → FileMeans (Takes by) nothing_saved under file d n
+  means_under file d n means =
+      both (λ r t. FileMeans (Takes r) nothing_saved t file d n) rules by digest under (sym same)
+      (sym like) means
+
+  pub stores_under : (view : View) → LeavesStores rules digest view → LeavesStores by under view
+  stores_under view stores =
+      both (λ r t. LeavesStores r t view) rules by digest under (sym same) (sym like) stores
+
+  pub found_under : (view : View) (had parts : Parts) (last : ℕ) → parts ≡ had
+      → IsFound by under view (saved_of had) last → IsFound rules digest view (saved_of parts) last
+  found_under view had parts last is found =
+      subst (λ (p : Parts). IsFound rules digest view (saved_of p) last) (sym is)
+      (both (λ r t. IsFound r t view (saved_of had) last) by rules under digest same like found)

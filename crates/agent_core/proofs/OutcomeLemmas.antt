@@ -1,0 +1,315 @@
+-- From what the parts of an agent do to what its calls mean.
+use Rattle.std.proofs.Common.{◌≡◌, inl, inr, ⊎_elim, ℕ, ◌+◌, ◌<◌, ◌≤◌, Bool, true, false, List, length, Option, Vec, Global, refl, sym, ap, subst, ◌∙◌, arith}
+use Rattle.std.specs.Prelude.{Result}
+use Rattle.unwinding.specs.CourseSteps.{holding}
+use Rattle.agent_base.specs.Counts.{Rose}
+use Rattle.disk_model.specs.Disk.{FailedPowered, HasFailed, IsNextCut, View, WasOff}
+use Rattle.journal.specs.Journal.{JournalView}
+use Rattle.journal.specs.Opening.{HasNoFault}
+use Rattle.journal.specs.Region.{StandsFor}
+use Rattle.suffix_list.specs.Suffix.{Rule}
+use Rattle.script_lines.specs.Script.{PlainAction}
+use Rattle.reply_lines.specs.declared.reply.Reply.{Reply}
+use Rattle.agent_model.specs.Lines.{AgentWorld}
+use Rattle.durable_model.specs.Keeping.{AgentDurable}
+use Rattle.durable_model.specs.Saved.{Saved, nothing_saved}
+use Rattle.spelled_model.specs.Worlds.{IsReadWorld}
+use Rattle.row_store.specs.Bodies.{Takes}
+use Rattle.one_store.specs.WholeWorld.{whole_world}
+use Rattle.agent_memory.specs.AgentState.{AgentState, world_of}
+use Rattle.agent_core.specs.AgentView.{AgentView, may_find, may_of, since_opening}
+use Rattle.agent_core.specs.Batch.{HasNotRun, PlainBatch}
+use Rattle.open_store.specs.Commits.{CommitDevice}
+use Rattle.open_store.specs.Standing.{IsRoomier}
+use Rattle.agent_core.specs.Means.{AgentMay, FlushMeans, LineMeans, OutcomeDevice, after_commit, after_line}
+use Rattle.agent_core.specs.Seen.{AgentSeen, IsAtBase, IsBatch, IsSeen, IsUp, LeavesStores}
+use Rattle.agent_core.specs.Standing.{Finishes}
+use Rattle.agent_core.specs.declared.agent.Power.{Power}
+use Rattle.agent_core.specs.declared.agent.Power.TheVariants.{Down, Up}
+use Rattle.agent_core.specs.declared.outcome.Outcome.{Outcome}
+use Rattle.agent_core.specs.declared.outcome.Outcome.TheVariants as outcome
+use Rattle.agent_core.proofs.SeenLemmas.{from_parts, up_at_base, up_stores}
+use Rattle.agent_core.proofs.StoreLemmas.{roomier_base}
+
+pub down_up : (power : Power) → power ≡ Down → power ≡ Up → ⊥
+down_up power is up = not_both (sym is ∙ up)
+  where
+    not_both : Down ≡ Up → ⊥
+    not_both e = cc
+
+false_true : ◌≡◌ {A = Bool} false true → ⊥
+false_true e = cc
+
+-- the same, but down
+abbrev pub down_of : AgentSeen → AgentSeen
+down_of a =
+    record { world = a.world; base = a.base; pending = a.pending; held = a.held; up = false }
+
+pub down_seen : {D : Type 0} (new : AgentView D) (w : View) (a : AgentSeen) (now : ℕ)
+    → a.world.rest.now ≡ now → new.power ≡ Down → new.now ≡ now
+    → LeavesStores new.memory.rules new.journal.digest w → IsSeen new w (down_of a)
+down_seen new w a now clock down same stores = record {
+  up = (λ up. absurd (false_true up), λ up. absurd (down_up new.power down up));
+  clock = clock ∙ sym same;
+  stores = stores;
+  standing = λ up. absurd (false_true up);
+  short = λ up. absurd (false_true up);
+}
+
+-- ---- the batch is full
+
+pub line_finished : {D : Type 0} (new : AgentView D) (w : View) (rules : List Rule) (batch : ℕ)
+    (line : PlainAction) (a : AgentSeen) (may mid may' : AgentMay) (now : ℕ) (result : Outcome)
+    → a.up ≡ true → length a.held + 1 ≡ batch → a.world.rest.now ≡ now
+    → ((d : AgentDurable) (n : ℕ) → mid d n → may d n)
+    → Finishes rules now (after_line rules a line) mid new w may' result
+    → (b : AgentSeen) × IsSeen new w b × LineMeans rules batch line a may b may' result
+line_finished new w rules batch line a may mid may' now (outcome.Replies given) up full clock back done =
+    (after_commit rules (after_line rules a line), done.1, (up, full, (done.0, refl, done.2)))
+line_finished new w rules batch line a may mid may' now outcome.Down up full clock back done = (
+  down_of a,
+  down_seen new w a now clock done.0 done.1 done.2,
+  record {
+    down = refl;
+    rest = refl;
+    images = λ d n left.
+        ⊎_elim (λ (was : mid d n). inl (back d n was)) (λ at. inr ((up, full), at))
+        (done.3 d n left);
+  },
+)
+line_finished new w rules batch line a may mid may' now outcome.Held up full clock back done =
+    absurd done
+line_finished new w rules batch line a may mid may' now outcome.NoMemory up full clock back done =
+    absurd done
+
+pub flush_finished : {D : Type 0} (new : AgentView D) (w : View) (rules : List Rule)
+    (a : AgentSeen) (may may' : AgentMay) (now : ℕ) (result : Outcome)
+    → a.up ≡ true → a.world.rest.now ≡ now → Finishes rules now a may new w may' result
+    → (b : AgentSeen) × IsSeen new w b × FlushMeans rules a may b may' result
+flush_finished new w rules a may may' now (outcome.Replies given) up clock done =
+    (after_commit rules a, done.1, (up, (done.0, refl, done.2)))
+flush_finished new w rules a may may' now outcome.Down up clock done = (
+  down_of a,
+  down_seen new w a now clock done.0 done.1 done.2,
+  record {
+    down = refl;
+    rest = refl;
+    images = λ d n left.
+        ⊎_elim (λ (was : may d n). inl was) (λ at. inr (up, at)) (done.3 d n left);
+  },
+)
+flush_finished new w rules a may may' now outcome.Held up clock done = absurd done
+flush_finished new w rules a may may' now outcome.NoMemory up clock done = absurd done
+
+-- ---- the agent is not up
+
+not_up : (up : Bool) → (up ≡ true → ⊥) → up ≡ false
+not_up true never = absurd (never refl)
+not_up false never = refl
+
+pub seen_down : {D : Type 0} (x : AgentView D) (v : View) (a : AgentSeen) → IsSeen x v a
+    → (x.power ≡ Up → ⊥) → a.up ≡ false
+seen_down x v a seen off = not_up a.up (λ up. off (seen.up.0 up))
+
+-- ---- want of memory
+
+module _ {D : Type 0} (m m' : AgentState) (b b' : PlainBatch) (j j' : JournalView)
+    (now opened : ℕ) (power : Power) (disk disk' : D) (v w : View) (a : AgentSeen)
+    (kept : HasNotRun m m' b b') (roomier : IsRoomier j j' v w) where
+  pub kept_up : IsUp (from_parts m now b j opened power disk) v a
+      → IsUp (from_parts m' now b' j' opened power disk') w a
+  kept_up up = record {
+    world = up.world ∙ sym kept.world;
+    sound = up.sound;
+    read = subst (λ (r : List Rule). IsReadWorld r a.world) (sym kept.rules) up.read;
+    held = up.held ∙ sym kept.held;
+    changes = kept.changes ∙ up.changes;
+    count = up.count
+        ∙ ap (λ (i : JournalView). since_opening i.changes opened) (sym roomier.journal);
+    fits = up.fits;
+    base = up.base;
+    valid = up.valid;
+    state = up.state;
+    batch =
+        subst (λ (r : List Rule). IsBatch r up.base a.pending b'.body a.world) (sym kept.rules)
+        (record {
+          bytes = kept.body ∙ up.batch.bytes;
+          writable = up.batch.writable;
+          valid = up.batch.valid;
+          saved = up.batch.saved;
+        });
+    store =
+        subst (λ (r : List Rule). IsAtBase r j' w up.base) (sym kept.rules)
+        (roomier_base m.rules j j' v w up.base roomier up.store);
+  }
+
+-- ---- room was made
+
+module _ (j j' : JournalView) (v w : View) (roomier : IsRoomier j j' v w) where
+  pub roomier_may : (rules : List Rule) (opened : ℕ) (d : AgentDurable) (n : ℕ)
+      → may_find rules j'.digest opened w d n → may_find rules j.digest opened v d n
+  unfolding may_find
+  roomier_may rules opened d n left = (
+    left.0,
+    roomier.stays.no_more left.0 left.1,
+    left.2,
+    left.3,
+    subst
+        (λ (i : JournalView). StandsFor (Takes rules) nothing_saved i.digest left.0 left.2 left.3)
+        roomier.journal left.4,
+    left.5,
+    left.6,
+  )
+
+  pub roomier_stores : (rules : List Rule) → LeavesStores rules j.digest v
+      → LeavesStores rules j'.digest w
+  roomier_stores rules stores tells file left =
+      subst
+      (λ (i : JournalView). (base : Saved) × (last : ℕ)
+      × StandsFor (Takes rules) nothing_saved i.digest file base last)
+      (sym roomier.journal)
+      (stores (sym roomier.stays.tells ∙ tells) file (roomier.stays.no_more file left))
+
+pub not_run : {D : Type 0} (m m' : AgentState) (b b' : PlainBatch) (j j' : JournalView)
+    (now opened : ℕ) (power : Power) (disk disk' : D) (v w : View) (a : AgentSeen)
+    → HasNotRun m m' b b' → IsRoomier j j' v w
+    → IsSeen (from_parts m now b j opened power disk) v a
+    → IsSeen (from_parts m' now b' j' opened power disk') w a
+not_run m m' b b' j j' now opened power disk disk' v w a kept roomier seen = record {
+  up = seen.up;
+  clock = seen.clock;
+  stores =
+      subst (λ (r : List Rule). LeavesStores r j'.digest w) (sym kept.rules)
+      (roomier_stores j j' v w roomier m.rules seen.stores);
+  standing = λ up.
+      kept_up m m' b b' j j' now opened power disk disk' v w a kept roomier (seen.standing up);
+  short = λ up. omega (arith, seen.short up, ap length kept.held, kept.size);
+}
+
+pub not_run_may : (m m' : AgentState) (b b' : PlainBatch) (j j' : JournalView) (opened : ℕ)
+    (v w : View) → HasNotRun m m' b b' → IsRoomier j j' v w → (d : AgentDurable) (n : ℕ)
+    → may_find m'.rules j'.digest opened w d n → may_find m.rules j.digest opened v d n
+not_run_may m m' b b' j j' opened v w kept roomier d n left =
+    roomier_may j j' v w roomier m.rules opened d n
+    (subst (λ (r : List Rule). may_find r j'.digest opened w d n) kept.rules left)
+
+-- ---- a line waits
+
+pub line_waits : {D : Type 0} (m' : AgentState) (b b' : PlainBatch) (j' : JournalView)
+    (opened : ℕ) (power : Power) (disk' : D) (w : View) (rules : List Rule) (line : PlainAction)
+    (a : AgentSeen) (may : AgentMay) (now : ℕ)
+    → m'.rules ≡ rules → power ≡ Up → a.up ≡ true
+    → b'.size ≡ b.size → length b'.held < b'.size → length b'.held ≡ length b.held + 1
+    → length a.held ≡ length b.held
+    → IsUp (from_parts m' now b' j' opened power disk') w (after_line rules a line)
+    → (s : AgentSeen) × IsSeen (from_parts m' m'.now b' j' opened power disk') w s
+    × LineMeans rules b.size line a may s
+    (may_of (from_parts m' m'.now b' j' opened power disk') w) outcome.Held
+unfolding holding world_of whole_world
+line_waits m' b b' j' opened power disk' w rules line a may now same is_up up size short longer held here =
+    let x = from_parts m' m'.now b' j' opened power disk' in
+    let after = after_line rules a line in
+    let there : IsUp x w after = record {
+      world = here.world;
+      sound = here.sound;
+      read = here.read;
+      held = here.held;
+      changes = here.changes;
+      count = here.count;
+      fits = here.fits;
+      base = here.base;
+      valid = here.valid;
+      state = here.state;
+      batch = here.batch;
+      store = here.store;
+    } in (
+      after,
+      record {
+        up = (λ _. is_up, λ _. refl);
+        clock = ap (λ (y : AgentWorld). y.rest.now) here.world;
+        stores = up_stores x w after there;
+        standing = λ _. there;
+        short = λ _. short;
+      },
+      (up, omega (arith, size, short, longer, held), refl, up_at_base x w after there),
+    )
+
+-- ---- the device
+
+module _ (j j' : JournalView) (v mid w : View) (roomier : IsRoomier j j' v mid) where
+  off_before : WasOff mid w → WasOff v w
+  off_before was = record {
+    before = sym roomier.fine.off ∙ was.before;
+    after = was.after;
+    failures = was.failures ∙ roomier.fine.failures;
+    cuts = was.cuts ∙ roomier.fine.cuts;
+  }
+
+  powered_before : FailedPowered mid w → FailedPowered v w
+  powered_before failed = record {
+    before = sym roomier.fine.off ∙ failed.before;
+    counted =
+        subst (λ (n : ℕ). Rose n w.failures) roomier.fine.failures failed.counted;
+    one = subst (λ (n : ℕ). w.failures ≤ n + 1) roomier.fine.failures failed.one;
+    cut =
+        subst (λ (c : Option (List ℕ)). IsNextCut c w.cuts w.changing) roomier.fine.cuts
+        failed.cut;
+  }
+
+  pub device_before : (result : Outcome) → OutcomeDevice 4 result mid w
+      → OutcomeDevice 4 result v w
+  device_before result device = record {
+    tells = device.tells ∙ roomier.stays.tells;
+    later = omega (arith, device.later, roomier.stays.changing);
+    calls = omega (arith, device.calls, roomier.stays.changing);
+    down = λ is.
+        let was = device.down is in (
+          subst (λ (n : ℕ). Rose n w.faults) roomier.fine.faults was.0,
+          ⊎_elim (λ (f : WasOff mid w). inl (off_before f))
+              (λ (f : FailedPowered mid w). inr (powered_before f)) was.1,
+        );
+    others = λ is.
+        let was = device.others is in
+        record {
+          faults = was.faults ∙ roomier.fine.faults;
+          off = was.off ∙ roomier.fine.off;
+          failures = was.failures ∙ roomier.fine.failures;
+          cuts = was.cuts ∙ roomier.fine.cuts;
+        };
+  }
+
+  -- no call was made
+  pub device_none : (result : Outcome) → (result ≡ outcome.Down → ⊥)
+      → OutcomeDevice 4 result v mid
+  device_none result other = record {
+    tells = roomier.stays.tells;
+    later = omega (arith, roomier.stays.changing);
+    calls = omega (arith, roomier.stays.changing);
+    down = λ is. absurd (other is);
+    others = λ _. roomier.fine;
+  }
+
+not_down : (given : Vec Reply Global) → outcome.Replies given ≡ outcome.Down → ⊥
+not_down given e = cc
+
+pub device_gave : {T E : Type 0} (result : Result T E) (v w : View) (given : Vec Reply Global)
+    → HasNoFault v w → CommitDevice 4 result v w
+    → OutcomeDevice 4 (outcome.Replies given) v w
+device_gave result v w given fine device = record {
+  tells = device.tells;
+  later = device.later;
+  calls = device.calls;
+  down = λ is. absurd (not_down given is);
+  others = λ _. fine;
+}
+
+pub device_failed : {T E : Type 0} (result : Result T E) (v w : View)
+    → Rose v.faults w.faults × HasFailed v w → CommitDevice 4 result v w
+    → OutcomeDevice 4 outcome.Down v w
+device_failed result v w failed device = record {
+  tells = device.tells;
+  later = device.later;
+  calls = device.calls;
+  down = λ _. failed;
+  others = λ never. absurd (never refl);
+}

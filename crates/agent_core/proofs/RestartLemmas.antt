@@ -1,0 +1,314 @@
+-- The power is cut, and the store is opened again.
+use Rattle.std.proofs.Common.{◌≡◌, inl, ℕ, ◌^◌, ◌<◌, ◌≤◌, Bool, true, false, List, [], length, refl, sym, ap, subst, ◌∙◌, arith}
+use Rattle.std.specs.Prelude.{Ok, Err}
+use Rattle.std.proofs.lemmas.List.Elements.{All-nil}
+use Rattle.unwinding.specs.Course.{AtBase}
+use Rattle.unwinding.specs.CourseSteps.{reopened}
+use Rattle.disk_model.specs.Disk.{View}
+use Rattle.journal.specs.Journal.{JournalView}
+use Rattle.journal.specs.Opening.{IsExcused}
+use Rattle.journal.specs.declared.open_fault.OpenFault.{OpenFault}
+use Rattle.journal.specs.declared.open_fault.OpenFault.TheVariants as fault
+use Rattle.suffix_list.specs.ListText.{RuleList}
+use Rattle.suffix_list.specs.Suffix.{Rule}
+use Rattle.row_changes.specs.Laws.{IsWritable}
+use Rattle.agent_model.specs.Lines.{Rest, no_places}
+use Rattle.agent_model.specs.TheMachine.{machine}
+use Rattle.agent_model.specs.Rest.{last_moment}
+use Rattle.durable_model.specs.Histories.{reopened_world}
+use Rattle.durable_model.specs.Keeping.{AgentDurable, durable_of, keeping}
+use Rattle.durable_model.specs.Laws.{OpensKept}
+use Rattle.durable_model.specs.Saved.{IsValid, Saved}
+use Rattle.spelled_model.specs.Laws.{OpensRead}
+use Rattle.spelled_model.specs.Rows.{IsReadSaved}
+use Rattle.agent_memory.specs.AgentState.{AgentState, world_of}
+use Rattle.agent_core.specs.AgentView.{AgentView, may_find, may_of, since_opening}
+use Rattle.agent_core.specs.Batch.{PlainBatch}
+use Rattle.agent_core.specs.Means.{AgentMay, RestartMeans}
+use Rattle.row_store.specs.Stored.{saved_of}
+use Rattle.row_store.specs.declared.parts.Parts.{Parts}
+use Rattle.agent_core.specs.Openings.{IsFound, IsOpened, resumed}
+use Rattle.agent_core.specs.Seen.{AgentSeen, IsAtBase, IsSeen, IsUp, LeavesStores}
+use Rattle.agent_core.specs.declared.agent.Power.{Power}
+use Rattle.agent_core.specs.declared.agent.Power.TheVariants.{Up}
+use Rattle.agent_core.proofs.SeenLemmas.{from_parts, up_at_base, up_stores}
+use Rattle.agent_core.specs.Standing.{power_of}
+use Rattle.agent_core.proofs.OutcomeLemmas.{down_of}
+use Rattle.agent_core.proofs.OpeningLemmas.{found_under, stores_under}
+use Rattle.agent_core.proofs.ResumeLemmas.{resumed_world}
+
+-- ---- what an opened agent stands for
+
+module _ {D : Type 0} (m : AgentState) (b : PlainBatch) (j : JournalView) (now : ℕ)
+    (power : Power) (disk : D) (w : View) (d : Saved) where
+  reopened_up : OpensKept → OpensRead → m.now ≡ now → world_of m ≡ reopened_world now d
+      → now ≤ last_moment → j.changes < 2 ^ 64 → IsValid d → IsReadSaved m.rules d
+      → b.body ≡ [] → b.changes ≡ 0 → b.held ≡ [] → IsAtBase m.rules j w d
+      → IsUp (from_parts m now b j j.changes power disk) w
+      (reopened (machine m.rules) keeping (record { now = now; places = no_places })
+      (durable_of d))
+  unfolding reopened
+  reopened_up kept read clock world in_time small valid keys body changes held at = record {
+    world = sym world;
+    sound = (kept m.rules now d valid).0;
+    read = read m.rules now d in_time keys;
+    held = sym held;
+    changes = changes;
+    count = none j.changes small;
+    fits = omega arith;
+    base = d;
+    valid = valid;
+    state = refl;
+    batch = record {
+      bytes = body;
+      writable = All-nil (λ one. IsWritable m.rules one.changes);
+      valid = tt;
+      saved = (kept m.rules now d valid).1;
+    };
+    store = at;
+  }
+    where
+      none : (n : ℕ) → n < 2 ^ 64 → 0 ≡ since_opening n n
+      none n small = omega (arith, small)
+
+  pub reopened_seen : OpensKept → OpensRead → m.now ≡ now → world_of m ≡ reopened_world now d
+      → now ≤ last_moment → j.changes < 2 ^ 64 → IsValid d → IsReadSaved m.rules d
+      → b.body ≡ [] → b.changes ≡ 0 → b.held ≡ [] → 1 ≤ b.size → power ≡ Up
+      → IsAtBase m.rules j w d
+      → (let s =
+      reopened (machine m.rules) keeping (record { now = now; places = no_places })
+      (durable_of d) in
+      IsSeen (from_parts m now b j j.changes power disk) w s
+      × AtBase s.base (may_of (from_parts m now b j j.changes power disk) w))
+  unfolding reopened keeping
+  reopened_seen kept read clock world in_time small valid keys body changes held size is_up at =
+      let up = reopened_up kept read clock world in_time small valid keys body changes held at in
+      let x = from_parts m now b j j.changes power disk in
+      let s =
+      reopened (machine m.rules) keeping (record { now = now; places = no_places })
+      (durable_of d) in (
+        record {
+          up = (λ _. is_up, λ _. refl);
+          clock = refl;
+          stores = up_stores x w s up;
+          standing = λ _. up;
+          short = λ _. omega (arith, ap length held, size);
+        },
+        up_at_base x w s up,
+      )
+
+-- an agent that goes on with what an opening gave
+pub resumed_seen : {D : Type 0} (list : RuleList) (m : AgentState) (b : PlainBatch)
+    (j : JournalView) (now opened : ℕ) (power : Power) (disk : D) (w : View) (parts : Parts)
+    → OpensKept → OpensRead
+    → m ≡ resumed list.rules now parts.storage parts.cookies parts.grants
+    → now ≤ last_moment → j.changes < 2 ^ 64 → opened ≡ j.changes → IsOpened list j w parts
+    → b.body ≡ [] → b.changes ≡ 0 → b.held ≡ [] → 1 ≤ b.size → power ≡ Up
+    → (let s =
+    reopened (machine list.rules) keeping (record { now = now; places = no_places })
+    (durable_of (saved_of parts)) in
+    IsSeen (from_parts m now b j opened power disk) w s
+    × AtBase s.base (may_of (from_parts m now b j opened power disk) w))
+resumed_seen {D} list m b j now opened power disk w parts kept read is in_time small count at body changes held size up =
+    let d = saved_of parts in
+    let again = resumed list.rules now parts.storage parts.cookies parts.grants in
+    let s =
+    reopened (machine list.rules) keeping (record { now = now; places = no_places })
+    (durable_of d) in
+    let P : AgentState → ℕ → Type 0 =
+    λ x o. IsSeen (from_parts x now b j o power disk) w s
+    × AtBase s.base (may_of (from_parts x now b j o power disk) w) in
+    let here : P again j.changes =
+    reopened_seen again b j now power disk w d kept read refl
+    (resumed_world list.rules now parts.storage parts.cookies parts.grants at.sessions) in_time
+    small at.valid at.keys body changes held size up at.at in
+    subst (λ x. P x opened) (sym is) (subst (λ o. P again o) (sym count) here)
+
+-- an agent of which a restart opened the store again
+pub gone_on : {D : Type 0} (told : D → View) (was old : AgentView D) (rules : List Rule)
+    (m : AgentState) (b : PlainBatch) (j : JournalView) (opened : ℕ) (parts : Parts)
+    → was ≡ old → was.memory.rules ≡ rules → OpensKept → OpensRead
+    → m ≡ resumed rules was.now parts.storage parts.cookies parts.grants
+    → was.now ≤ last_moment → j.changes < 2 ^ 64 → opened ≡ j.changes
+    → IsOpened (record { rules = old.memory.rules; digest = old.journal.digest }) j
+    (told old.disk) parts
+    → b.body ≡ [] → b.changes ≡ 0 → b.held ≡ [] → 1 ≤ b.size
+    → (let s =
+    reopened (machine old.memory.rules) keeping (record { now = old.now; places = no_places })
+    (durable_of (saved_of parts)) in
+    IsSeen (from_parts m was.now b j opened Up was.disk) (told was.disk) s
+    × AtBase s.base (may_of (from_parts m was.now b j opened Up was.disk) (told was.disk)))
+gone_on {D} told was old rules m b j opened parts is under kept read resumes in_time small count at body changes held size =
+    let new = from_parts m was.now b j opened Up was.disk in
+    let w = told was.disk in
+    let list : AgentView D → RuleList =
+    λ o. record { rules = o.memory.rules; digest = o.journal.digest } in
+    let P : AgentView D → Type 0 =
+    λ o. IsOpened (list o) j (told o.disk) parts
+    → (let s =
+    reopened (machine o.memory.rules) keeping (record { now = o.now; places = no_places })
+    (durable_of (saved_of parts)) in
+    IsSeen new w s × AtBase s.base (may_of new w)) in
+    let here : P was =
+    λ opens. resumed_seen (list was) m b j was.now opened Up was.disk w parts kept read
+    (resumes
+    ∙ ap (λ (r : List Rule). resumed r was.now parts.storage parts.cookies parts.grants)
+    (sym under))
+    in_time small count opens body changes held size refl in
+    subst P is here at
+
+-- the places of tabs are lost at a restart
+pub reopened_rest : (rules : List Rule) (rest : Rest) (now : ℕ) (d : AgentDurable)
+    → rest.now ≡ now
+    → reopened (machine rules) keeping (record { now = now; places = no_places }) d
+    ≡ reopened (machine rules) keeping rest d
+unfolding reopened keeping
+reopened_rest rules rest now d same = λ i.
+    reopened (machine rules) keeping (record { now = sym same i; places = no_places }) d
+
+-- ---- what a restart means
+
+pub found_may : (rules : List Rule) (digest : List ℕ) (opened : ℕ) (v : View) (d : Saved)
+    (last : ℕ) → IsFound rules digest v d last
+    → may_find rules digest opened v (durable_of d) (since_opening last opened)
+unfolding may_find
+found_may rules digest opened v d last found =
+    (found.0, found.1, d, last, found.2, refl, refl)
+
+pub fewer_may : (rules : List Rule) (digest : List ℕ) (opened : ℕ) (v w : View)
+    → ((file : List ℕ) → w.may_leave file → v.may_leave file)
+    → (d : AgentDurable) (n : ℕ) → may_find rules digest opened w d n
+    → may_find rules digest opened v d n
+unfolding may_find
+fewer_may rules digest opened v w fewer d n there =
+    (there.0, fewer there.0 there.1, there.2, there.3, there.4, there.5, there.6)
+
+-- one that was refused leaves the agent down
+pub refused_means : (rules : List Rule) (a : AgentSeen) (may may' : AgentMay) (why : OpenFault)
+    → IsExcused why → ((d : AgentDurable) (n : ℕ) → may' d n → may d n)
+    → RestartMeans rules a may (down_of a) may' (Err why)
+refused_means rules a may may' fault.DeviceFault excused fewer =
+    record { down = refl; rest = refl; images = λ d n there. inl (fewer d n there) }
+refused_means rules a may may' fault.NoMemory excused fewer =
+    record { down = refl; rest = refl; images = λ d n there. inl (fewer d n there) }
+refused_means rules a may may' (fault.NotAStore offset) excused fewer = excused
+refused_means rules a may may' (fault.OtherList kept given) excused fewer = excused
+refused_means rules a may may' (fault.TooLarge len) excused fewer = excused
+
+-- an opening that was refused leaves no agent up
+never_up : (why : OpenFault) → power_of why ≡ Up → ⊥
+never_up fault.DeviceFault e = cc
+never_up (fault.NotAStore offset) e = cc
+never_up (fault.OtherList kept given) e = cc
+never_up (fault.TooLarge len) e = cc
+never_up fault.NoMemory e = cc
+
+false_true : ◌≡◌ {A = Bool} false true → ⊥
+false_true e = cc
+
+-- an agent that is not up
+off_seen : {D : Type 0} (new : AgentView D) (w : View) (a : AgentSeen)
+    → a.world.rest.now ≡ new.now → (new.power ≡ Up → ⊥)
+    → LeavesStores new.memory.rules new.journal.digest w → IsSeen new w (down_of a)
+off_seen new w a clock off stores = record {
+  up = (λ up. absurd (false_true up), λ up. absurd (off up));
+  clock = clock;
+  stores = stores;
+  standing = λ up. absurd (false_true up);
+  short = λ up. absurd (false_true up);
+}
+
+pub refused_restart : {D : Type 0} (new : AgentView D) (w : View) (rules : List Rule)
+    (a : AgentSeen) (may may' : AgentMay) (why : OpenFault)
+    → a.world.rest.now ≡ new.now → new.power ≡ power_of why → IsExcused why
+    → LeavesStores new.memory.rules new.journal.digest w
+    → ((d : AgentDurable) (n : ℕ) → may' d n → may d n)
+    → (b : AgentSeen) × IsSeen new w b × RestartMeans rules a may b may' (Err why)
+refused_restart new w rules a may may' why clock power excused stores fewer = (
+  down_of a,
+  off_seen new w a clock (λ up. never_up why (sym power ∙ up)) stores,
+  refused_means rules a may may' why excused fewer,
+)
+
+-- one that opened a store goes on with it
+pub opened_restart : {D : Type 0} (new : AgentView D) (w : View) (rules : List Rule)
+    (a : AgentSeen) (may may' : AgentMay) (now kept : ℕ) (d : AgentDurable)
+    → a.world.rest.now ≡ now → may d kept
+    → (let s = reopened (machine rules) keeping (record { now = now; places = no_places }) d in
+    IsSeen new w s × AtBase s.base may')
+    → (b : AgentSeen) × IsSeen new w b × RestartMeans rules a may b may' (Ok kept)
+opened_restart new w rules a may may' now kept d clock found seen = (
+  reopened (machine rules) keeping (record { now = now; places = no_places }) d,
+  seen.0,
+  (d, found, reopened_rest rules a.world.rest now d clock, seen.1),
+)
+
+-- ---- a restart of an agent under a list
+
+module _ {D : Type 0} (told : D → View) (was old : AgentView D) (list : RuleList)
+    (is : was ≡ old) (rules : was.memory.rules ≡ list.rules)
+    (digest : was.journal.digest ≡ list.digest) where
+  abbrev Stores : Type 0
+  Stores = LeavesStores list.rules list.digest (told was.disk)
+
+  stores_here : (a : AgentSeen) → IsSeen was (told was.disk) a → Stores
+  stores_here a here =
+      stores_under list.rules was.memory.rules list.digest was.journal.digest (sym rules)
+      (sym digest) (told was.disk) here.stores
+
+  pub restart_opened : (new : AgentView D) (w : View) (j : JournalView) (parts : Parts) (kept : ℕ)
+      → ((told was.disk).tells ≡ true → Stores
+      → IsFound list.rules list.digest (told was.disk) (saved_of parts) j.changes)
+      → kept ≡ since_opening j.changes was.opened
+      → (let s =
+      reopened (machine was.memory.rules) keeping (record { now = was.now; places = no_places })
+      (durable_of (saved_of parts)) in
+      IsSeen new w s × AtBase s.base (may_of new w))
+      → (told old.disk).tells ≡ true → (a : AgentSeen) → IsSeen old (told old.disk) a
+      → (b : AgentSeen) × IsSeen new w b
+      × RestartMeans old.memory.rules a (may_of old (told old.disk)) b (may_of new w) (Ok kept)
+  restart_opened new w j parts kept found count seen tells a here =
+      let d = durable_of (saved_of parts) in
+      let P : AgentView D → Type 0 =
+      λ o. (told o.disk).tells ≡ true → IsSeen o (told o.disk) a
+      → (b : AgentSeen) × IsSeen new w b
+      × RestartMeans o.memory.rules a (may_of o (told o.disk)) b (may_of new w) (Ok kept) in
+      let at : P was =
+      λ tells here.
+      let v = told was.disk in
+      let one =
+      found_under list.rules was.memory.rules list.digest was.journal.digest (sym rules)
+      (sym digest) v parts parts j.changes refl (found tells (stores_here a here)) in
+      let may : may_of was v d kept =
+      subst (λ (n : ℕ). may_of was v d n) (sym count)
+      (found_may was.memory.rules was.journal.digest was.opened v (saved_of parts) j.changes one) in
+      opened_restart new w was.memory.rules a (may_of was v) (may_of new w) was.now kept d
+      here.clock may seen in
+      subst P is at tells here
+
+  pub restart_refused : (power : Power) (disk : D) (why : OpenFault)
+      → power ≡ power_of why
+      → ((told was.disk).tells ≡ true → Stores → IsExcused why)
+      → ((told was.disk).tells ≡ true → Stores → (file : List ℕ) → (told disk).may_leave file
+      → (told was.disk).may_leave file)
+      → (told old.disk).tells ≡ true → (a : AgentSeen) → IsSeen old (told old.disk) a
+      → (let new : AgentView D = record was { power = power; disk = disk } in
+      (b : AgentSeen) × IsSeen new (told disk) b
+      × RestartMeans old.memory.rules a (may_of old (told old.disk)) b (may_of new (told disk))
+      (Err why))
+  restart_refused power disk why down excused fewer tells a here =
+      let new : AgentView D = record was { power = power; disk = disk } in
+      let w = told disk in
+      let P : AgentView D → Type 0 =
+      λ o. (told o.disk).tells ≡ true → IsSeen o (told o.disk) a
+      → (b : AgentSeen) × IsSeen new w b
+      × RestartMeans o.memory.rules a (may_of o (told o.disk)) b (may_of new w) (Err why) in
+      let at : P was =
+      λ tells here.
+      let v = told was.disk in
+      let stores = stores_here a here in
+      refused_restart new w was.memory.rules a (may_of was v) (may_of new w) why here.clock down
+      (excused tells stores)
+      (λ _ file left. here.stores tells file (fewer tells stores file left))
+      (fewer_may was.memory.rules was.journal.digest was.opened v w (fewer tells stores)) in
+      subst P is at tells here

@@ -1,0 +1,95 @@
+-- A commit leads to the state that the open batch leads to, or fails and leaves one or the other.
+use Rattle.std.proofs.Common.{arith, refl}
+use Rattle.agent_core.proofs.FinishLemmas.{commits_same, finish_failed, finish_gave, finish_moments, leaves_same}
+use Rattle.agent_core.proofs.LineLemmas.{after_commit_standing, after_fault_standing, power_is, room_is}
+use Rattle.agent_core.proofs.OutcomeLemmas.{device_failed, device_gave}
+use Rattle.agent_core.proofs.agent.Agent.finish.Goals as goal
+
+pub commit-requires-clause-ready : goal.commit-requires-clause-ready
+commit-requires-clause-ready g c =
+    c.self.invariant.ready (power_is _ _ c.self.view_is c.requires.up)
+
+pub commit-requires-clause-room : goal.commit-requires-clause-room
+commit-requires-clause-room g c =
+    rw c.bytes.ensures.bytes (room_is g.D.Disk.view _ _ c.self.view_is c.requires.room)
+
+pub invariant_of-self : goal.invariant_of-self
+invariant_of-self g c =
+    after_fault_standing c.self.inside.list.now c.self.inside.memory c.self.inside.now
+    c.self.inside.batch c.self.inside.power c.self.inside.store.journal
+    c.commit.new.self.journal (g.D.Disk.view c.self.inside.store.disk)
+    (g.D.Disk.view c.commit.new.self.disk) c.in-Err.ensures.digest c.self.invariant
+
+pub returns-in-Err-clause-finishes : goal.returns-in-Err-clause-finishes
+returns-in-Err-clause-finishes g c = rw (← c.self.view_is) (λ ran up.
+    finish_failed c.self.inside.memory c.self.inside.now c.self.inside.batch
+    c.self.inside.store.journal c.commit.new.self.journal c.self.inside.opened
+    c.self.inside.power c.self.inside.store.disk c.commit.new.self.disk
+    (g.D.Disk.view c.self.inside.store.disk) (g.D.Disk.view c.commit.new.self.disk) ran
+    c.written.ensures.bodies up
+    (leaves_same c.self.inside.store.journal (g.D.Disk.view c.self.inside.store.disk)
+    (g.D.Disk.view c.commit.new.self.disk) c.self.inside.batch.body c.bytes.result.now
+    c.self.inside.batch.changes c.changes-changes.result c.bytes.ensures.bytes
+    c.changes-changes.ensures.changes c.in-Err.ensures.any_moment)
+    (g.met.D.Disk.lawful c.self.inside.store.disk)
+    (g.met.D.Disk.lawful c.commit.new.self.disk)
+    c.in-Err.ensures.device.tells c.in-Err.ensures.digest)
+
+pub returns-in-Err-clause-any_moment : goal.returns-in-Err-clause-any_moment
+returns-in-Err-clause-any_moment g c = rw (← c.self.view_is) (λ ran held tells.
+    finish_moments _ (g.D.Disk.view c.self.inside.store.disk)
+    (g.D.Disk.view c.commit.new.self.disk) ran c.written.ensures.bodies held
+    (leaves_same c.self.inside.store.journal (g.D.Disk.view c.self.inside.store.disk)
+    (g.D.Disk.view c.commit.new.self.disk) c.self.inside.batch.body c.bytes.result.now
+    c.self.inside.batch.changes c.changes-changes.result c.bytes.ensures.bytes
+    c.changes-changes.ensures.changes c.in-Err.ensures.any_moment) tells)
+
+pub returns-in-Err-clause-rules : goal.returns-in-Err-clause-rules
+returns-in-Err-clause-rules g c = rw (← c.self.view_is) (refl, c.in-Err.ensures.digest, refl)
+
+pub returns-in-Err-clause-device : goal.returns-in-Err-clause-device
+returns-in-Err-clause-device g c = rw (← c.self.view_is)
+    (device_failed _ _ _ c.in-Err.ensures.device.failed c.in-Err.ensures.device)
+
+pub invariant_of-self-in-Ok : goal.invariant_of-self-in-Ok
+invariant_of-self-in-Ok g c =
+    after_commit_standing c.self.inside.list.now c.self.inside.memory c.self.inside.now
+    c.now-self-inside.result c.self.inside.batch c.give.new.self c.self.inside.power
+    c.self.inside.store.journal c.commit.new.self.journal
+    (g.D.Disk.view c.self.inside.store.disk) (g.D.Disk.view c.commit.new.self.disk)
+    c.in-Ok.ensures.digest c.give.ensures.size c.now-self-inside.ensures.in_time c.in-Ok.ensures.ready
+    c.self.invariant
+
+pub returns-in-Ok-clause-finishes : goal.returns-in-Ok-clause-finishes
+returns-in-Ok-clause-finishes g c = rw (← c.self.view_is, c.now-self-inside.ensures.now) (λ ran up.
+    finish_gave c.self.inside.memory c.self.inside.now c.self.inside.batch
+    c.self.inside.store.journal c.commit.new.self.journal c.self.inside.opened
+    c.self.inside.power c.self.inside.store.disk c.commit.new.self.disk
+    (g.D.Disk.view c.self.inside.store.disk) (g.D.Disk.view c.commit.new.self.disk) ran
+    c.written.ensures.bodies up c.give.new.self c.give.result c.durable_states.ensures.valid
+    (power_is _ _ c.self.view_is c.requires.up)
+    c.give.ensures.body c.give.ensures.changes c.give.ensures.held
+    (omega (arith, c.give.ensures.size, c.self.invariant.least))
+    (commits_same c.self.inside.store.journal c.commit.new.self.journal
+    (g.D.Disk.view c.self.inside.store.disk) (g.D.Disk.view c.commit.new.self.disk)
+    c.self.inside.batch.body c.bytes.result.now c.self.inside.batch.changes
+    c.changes-changes.result c.bytes.ensures.bytes c.changes-changes.ensures.changes
+    c.in-Ok.ensures.done)
+    c.give.ensures.replies)
+
+pub returns-in-Ok-clause-any_moment : goal.returns-in-Ok-clause-any_moment
+returns-in-Ok-clause-any_moment g c = rw (← c.self.view_is) (λ ran held tells.
+    finish_moments _ (g.D.Disk.view c.self.inside.store.disk)
+    (g.D.Disk.view c.commit.new.self.disk) ran c.written.ensures.bodies held
+    (leaves_same c.self.inside.store.journal (g.D.Disk.view c.self.inside.store.disk)
+    (g.D.Disk.view c.commit.new.self.disk) c.self.inside.batch.body c.bytes.result.now
+    c.self.inside.batch.changes c.changes-changes.result c.bytes.ensures.bytes
+    c.changes-changes.ensures.changes c.in-Ok.ensures.any_moment) tells)
+
+pub returns-in-Ok-clause-rules : goal.returns-in-Ok-clause-rules
+returns-in-Ok-clause-rules g c = rw (← c.self.view_is)
+    (refl, c.in-Ok.ensures.digest, c.give.ensures.size)
+
+pub returns-in-Ok-clause-device : goal.returns-in-Ok-clause-device
+returns-in-Ok-clause-device g c = rw (← c.self.view_is)
+    (device_gave _ _ _ c.give.result c.in-Ok.ensures.device.fine c.in-Ok.ensures.device)

@@ -1,0 +1,41 @@
+-- What the frames of the journal led to is what the store stands for.
+use Rattle.std.proofs.Common.{List, length, refl, ap, subst, ◌∙◌}
+use Rattle.journal.specs.declared.open_fault.OpenFault.TheVariants as fault
+use Rattle.suffix_list.specs.Suffix.{Rule}
+use Rattle.row_store.specs.Stored.{saved_of}
+use Rattle.agent_core.specs.Seen.{IsAtBase}
+use Rattle.agent_core.proofs.OpeningLemmas.{at_base, is_opened, is_within, means_under}
+use Rattle.agent_core.proofs.opening.open.Goals as goal
+
+pub returns-in-Ok-clause-opened : goal.returns-in-Ok-clause-opened
+returns-in-Ok-clause-opened g c =
+    let by = c.new-rows.ensures.rules in
+    let rows = c.open.new.into in
+    let view = g.D.Disk.view c.open.new.disk in
+    let at =
+    at_base c.new-rows.result.rules c.in-Ok.journal view (saved_of rows.parts)
+    c.in-Ok.ensures.opened c.in-Ok.ensures.usable.0 c.in-Ok.ensures.settled in
+    is_opened c.args.list.now c.in-Ok.journal view rows c.into_parts.result
+    c.into_parts.ensures.parts (c.open.ensures.rules ∙ by)
+    (subst (λ (r : List Rule). IsAtBase r c.in-Ok.journal view (saved_of rows.parts)) by at)
+    (c.in-Ok.ensures.usable.1 ∙ c.digest.ensures.value) c.into_parts.ensures.valid
+    c.into_parts.ensures.read c.into_parts.ensures.sessions
+
+pub returns-in-Ok-clause-means : goal.returns-in-Ok-clause-means
+returns-in-Ok-clause-means g c file d n is within means =
+    let given =
+    c.in-Ok.ensures.means file d n is within
+    (means_under c.new-rows.result.rules c.args.list.now.rules c.digest.result
+    c.args.list.now.digest c.new-rows.ensures.rules c.digest.ensures.value file d n means) in
+    (ap saved_of c.into_parts.ensures.parts ∙ given.0, given.1)
+
+pub returns-in-Ok-clause-within : goal.returns-in-Ok-clause-within
+returns-in-Ok-clause-within g c file is =
+    is_within file
+    (λ over. c.in-Ok.ensures.exactly (fault.TooLarge (length file)) file is tt (refl, refl, over))
+
+pub returns-in-Err-clause-means : goal.returns-in-Err-clause-means
+returns-in-Err-clause-means g c file d n is within means =
+    c.in-Err.ensures.means file d n is within
+    (means_under c.new-rows.result.rules c.args.list.now.rules c.digest.result
+    c.args.list.now.digest c.new-rows.ensures.rules c.digest.ensures.value file d n means)

@@ -1,0 +1,54 @@
+-- An agent over a disk, as contracts see it, and what a restart of it may find.
+-- Source: none.
+-- Our own choice: the agent keeps no durable state beside what it has in memory. What its store
+-- stands for is what memory had before the lines of the open batch.
+use Rattle.std.specs.Prelude.{◌≡◌, ℕ, ◌+◌, ◌-◌, ◌%◌, ◌^◌, Bool, true, false, List}
+use Rattle.disk_model.specs.Disk.{View}
+use Rattle.journal.specs.Journal.{JournalView}
+use Rattle.journal.specs.Region.{StandsFor}
+use Rattle.suffix_list.specs.Suffix.{Rule}
+use Rattle.reply_lines.specs.Reply.{PlainReply}
+use Rattle.durable_model.specs.Keeping.{AgentDurable, durable_of}
+use Rattle.durable_model.specs.Saved.{Saved, nothing_saved}
+use Rattle.row_store.specs.Bodies.{Takes}
+use Rattle.agent_memory.specs.AgentState.{AgentState}
+use Rattle.agent_core.specs.declared.agent.Power.{Power}
+use Rattle.agent_core.specs.declared.agent.Power.TheVariants.{Up, Down, Spoilt}
+
+-- an agent: what it has in memory, the clock that it last told, how many lines a batch has, the
+-- bytes, the number and the replies of the open batch, its store, the number of the store's
+-- changes when it was opened, whether it is up, and its disk
+pub record AgentView (D : Type 0) : Type 0 where
+  pub memory : AgentState
+  pub now : ℕ
+  pub batch : ℕ
+  pub body : List ℕ
+  pub changes : ℕ
+  pub held : List PlainReply
+  pub journal : JournalView
+  pub opened : ℕ
+  pub power : Power
+  pub disk : D
+
+-- how many durable changes were made since an opening, by the numbers of changes of the store
+abbrev pub since_opening : (last opened : ℕ) → ℕ
+since_opening last opened = (last + (2 ^ 64 - opened)) % 2 ^ 64
+
+-- which durable state a restart may find, after how many changes since the last opening: a cut may
+-- leave a store that stands for it
+unfoldable pub may_find : List Rule → (digest : List ℕ) → (opened : ℕ) → View → AgentDurable → ℕ
+    → Type 0
+may_find rules digest opened view d n =
+    (file : List ℕ) × view.may_leave file × (base : Saved) × (last : ℕ)
+    × StandsFor (Takes rules) nothing_saved digest file base last
+    × (d ≡ durable_of base) × (n ≡ since_opening last opened)
+
+-- the same of an agent whose disk tells this
+abbrev pub may_of : {D : Type 0} → AgentView D → View → AgentDurable → ℕ → Type 0
+may_of v view = may_find v.memory.rules v.journal.digest v.opened view
+
+-- a call of the disk failed since the last good opening
+abbrev pub is_down : Power → Bool
+is_down Up = false
+is_down Down = true
+is_down Spoilt = false

@@ -1,0 +1,8 @@
+-- What contracts cite.
+pub mod AgentView
+pub mod Seen
+pub mod Means
+-- What private functions compute.
+pub mod Batch
+pub mod Openings
+pub mod Standing

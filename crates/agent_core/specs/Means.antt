@@ -1,0 +1,123 @@
+-- What each call of an agent makes of what it stands for, in the words of the general law.
+-- Source: none.
+-- Our own choice: a batch is committed whole when its last line has run, or at a flush, and its
+-- replies are given out after that. A line whose commit meets a device fault is answered `Down`.
+use Rattle.std.specs.Prelude.{◌≡◌, ◌⊎◌, ℕ, ◌+◌, ◌<◌, ◌≤◌, ◌^◌, true, List, map, length, Result}
+use Rattle.std.specs.Prelude.{Ok, Err, IsErrOf, OnOk, false}
+use Rattle.unwinding.specs.Course.{AtBase, IsAt}
+use Rattle.unwinding.specs.CourseSteps.{GoesDown, committed, holding, reopened}
+use Rattle.agent_base.specs.Counts.{Rose}
+use Rattle.disk_model.specs.Disk.{View, HasFailed, IsNextCut, WasOff}
+use Rattle.journal.specs.Opening.{HasNoFault}
+use Rattle.journal.specs.Region.{StandsFor}
+use Rattle.journal.specs.declared.open_fault.OpenFault.{OpenFault}
+use Rattle.journal.specs.declared.open_fault.OpenFault.TheVariants as fault
+use Rattle.suffix_list.specs.Suffix.{Rule}
+use Rattle.script_lines.specs.Script.{PlainAction}
+use Rattle.reply_lines.specs.Plain.{reply_of}
+use Rattle.agent_model.specs.Isolation.{printed}
+use Rattle.agent_model.specs.TheMachine.{machine}
+use Rattle.durable_model.specs.Keeping.{AgentDurable, durable_of, keeping}
+use Rattle.durable_model.specs.Saved.{Saved, nothing_saved}
+use Rattle.row_store.specs.Bodies.{Takes}
+use Rattle.agent_core.specs.Seen.{AgentSeen}
+use Rattle.agent_core.specs.declared.outcome.Outcome.{Outcome}
+use Rattle.agent_core.specs.declared.outcome.Outcome.TheVariants.{Replies, Held, Down, NoMemory}
+
+-- which durable states a restart may find, after how many changes
+abbrev pub AgentMay : Type 1
+AgentMay = AgentDurable → ℕ → Type 0
+
+-- the number of changes since the opening does not wrap; a run has fewer than 2^32 lines
+abbrev pub Fits : AgentSeen → Type 0
+Fits a = a.up ≡ true → a.base.count + length a.pending + 1 < 2 ^ 64
+
+-- want of memory leaves all as it was
+abbrev pub Same : AgentSeen → AgentMay → AgentSeen → AgentMay → Type 0
+Same a may b may' = (b ≡ a) × ((d : AgentDurable) (n : ℕ) → may' d n → may d n)
+
+-- what follows a line that ran, and what follows its commit
+abbrev pub after_line : List Rule → AgentSeen → PlainAction → AgentSeen
+after_line rules a line = holding (machine rules) keeping a line
+
+abbrev pub after_commit : List Rule → AgentSeen → AgentSeen
+after_commit rules a = committed (machine rules) keeping a
+
+-- these replies are given out, and the store has what they tell
+abbrev pub GivesOut : List Rule → AgentSeen → AgentSeen → AgentMay → Outcome → Type 0
+GivesOut rules ran b may' (Replies given) =
+    (map reply_of given.items ≡ map printed ran.held) × (b ≡ after_commit rules ran)
+    × AtBase b.base may'
+GivesOut rules ran b may' other = ⊥
+
+-- the device fails, and the store has the batch whole or not at all
+abbrev pub Fails : List Rule → (a ran b : AgentSeen) → (may may' : AgentMay) → Type 0 → Type 0
+Fails rules a ran b may may' tried =
+    GoesDown (machine rules) keeping a b may may'
+    (λ d n. tried × IsAt (after_commit rules ran).base d n)
+
+-- a line, in batches of so many
+abbrev pub LineMeans : List Rule → ℕ → PlainAction → AgentSeen → AgentMay → AgentSeen → AgentMay
+    → Outcome → Type 0
+LineMeans rules batch line a may b may' (Replies given) =
+    (a.up ≡ true) × (length a.held + 1 ≡ batch)
+    × GivesOut rules (after_line rules a line) b may' (Replies given)
+LineMeans rules batch line a may b may' Held =
+    (a.up ≡ true) × (length a.held + 1 < batch) × (b ≡ after_line rules a line) × AtBase b.base may'
+LineMeans rules batch line a may b may' Down =
+    Fails rules a (after_line rules a line) b may may'
+    ((a.up ≡ true) × (length a.held + 1 ≡ batch))
+LineMeans rules batch line a may b may' NoMemory = Same a may b may'
+
+-- a flush commits what is held
+abbrev pub FlushMeans : List Rule → AgentSeen → AgentMay → AgentSeen → AgentMay → Outcome → Type 0
+FlushMeans rules a may b may' (Replies given) =
+    (a.up ≡ true) × GivesOut rules a b may' (Replies given)
+FlushMeans rules a may b may' Held = ⊥
+FlushMeans rules a may b may' Down = Fails rules a a b may may' (a.up ≡ true)
+FlushMeans rules a may b may' NoMemory = Same a may b may'
+
+-- a restart opens one of the states that it may find; where a call of the disk fails, or memory is
+-- wanting, the agent is not up. What an agent opened once is never refused as a store.
+abbrev pub RestartMeans : List Rule → AgentSeen → AgentMay → AgentSeen → AgentMay
+    → Result ℕ OpenFault → Type 0
+RestartMeans rules a may b may' (Ok kept) =
+    (d : AgentDurable) × may d kept × (b ≡ reopened (machine rules) keeping a.world.rest d)
+    × AtBase b.base may'
+RestartMeans rules a may b may' (Err fault.DeviceFault) =
+    GoesDown (machine rules) keeping a b may may' (λ d n. ⊥)
+RestartMeans rules a may b may' (Err fault.NoMemory) =
+    GoesDown (machine rules) keeping a b may may' (λ d n. ⊥)
+RestartMeans rules a may b may' (Err (fault.NotAStore offset)) = ⊥
+RestartMeans rules a may b may' (Err (fault.OtherList kept given)) = ⊥
+RestartMeans rules a may b may' (Err (fault.TooLarge len)) = ⊥
+
+-- ---- moments within a call
+
+-- a file stands for what the store stood for when the batch began, or for what follows the batch
+abbrev pub IsBeforeOrAfter : List Rule → (digest : List ℕ) → (a ran : AgentSeen) → List ℕ → Type 0
+IsBeforeOrAfter rules digest a ran file =
+    (base : Saved) × (last : ℕ) × StandsFor (Takes rules) nothing_saved digest file base last
+    × ((durable_of base ≡ a.base.state) ⊎ (durable_of base ≡ (after_commit rules ran).base.state))
+
+-- ---- the device
+
+-- a line or a flush of an agent that is up answers `Down` exactly where a call of the disk failed;
+-- so many changing calls are made at most
+pub record OutcomeDevice (most : ℕ) (result : Outcome) (old new : View) : Type 0 where
+  pub tells : new.tells ≡ old.tells
+  pub later : old.changing ≤ new.changing
+  pub calls : new.changing ≤ old.changing + most
+  pub down : result ≡ Down → Rose old.faults new.faults × HasFailed old new
+  pub others : (result ≡ Down → ⊥) → HasNoFault old new
+
+-- a restart answers a device fault exactly where a call of the disk failed
+pub record RestartDevice (result : Result ℕ OpenFault) (old new : View) : Type 0 where
+  pub tells : new.tells ≡ old.tells
+  pub counted : IsErrOf result fault.DeviceFault → Rose old.faults new.faults
+  -- the disk's own restart found the power off still, or the call that failed was a cut
+  pub failed : IsErrOf result fault.DeviceFault
+      → WasOff old new ⊎ IsNextCut old.cuts new.cuts new.changing
+  pub others : IsErrOf result fault.DeviceFault
+      ⊎ ((new.faults ≡ old.faults) × (new.failures ≡ old.failures) × (new.cuts ≡ old.cuts))
+  pub on : OnOk result (new.off ≡ false)

@@ -1,0 +1,66 @@
+-- What each agent keeps, whatever it stands for, and what the commit of its open batch makes of it.
+-- Source: none.
+use Rattle.std.specs.Prelude.{◌≡◌, ◌⊎◌, ℕ, ◌≤◌, List, map, length}
+use Rattle.unwinding.specs.Course.{AtBase, IsAt}
+use Rattle.disk_model.specs.Disk.{View}
+use Rattle.journal.specs.Journal.{JournalView}
+use Rattle.journal.specs.declared.open_fault.OpenFault.{OpenFault}
+use Rattle.journal.specs.declared.open_fault.OpenFault.TheVariants as fault
+use Rattle.suffix_list.specs.ListText.{RuleList}
+use Rattle.suffix_list.specs.Suffix.{Rule}
+use Rattle.reply_lines.specs.Plain.{reply_of}
+use Rattle.agent_model.specs.Isolation.{printed}
+use Rattle.agent_model.specs.Rest.{last_moment}
+use Rattle.durable_model.specs.Keeping.{AgentDurable, durable_of}
+use Rattle.durable_model.specs.Saved.{Saved}
+use Rattle.agent_memory.specs.AgentState.{AgentState}
+use Rattle.agent_core.specs.AgentView.{AgentView}
+use Rattle.agent_core.specs.Batch.{PlainBatch}
+use Rattle.open_store.specs.Standing.{IsReady}
+use Rattle.agent_core.specs.Means.{AgentMay, after_commit}
+use Rattle.agent_core.specs.Seen.{AgentSeen, IsAtBase, IsBatch, IsSeen, LeavesStores}
+use Rattle.agent_core.specs.declared.agent.Power.{Power}
+use Rattle.agent_core.specs.declared.agent.Power.TheVariants.{Down, Spoilt, Up}
+use Rattle.agent_core.specs.declared.outcome.Outcome.{Outcome}
+use Rattle.agent_core.specs.declared.outcome.Outcome.TheVariants as outcome
+
+-- its memory and its store are under its list, its clock is in time, and its batches have from 1 to
+-- 256 lines; where it is up a call of its store may follow
+pub record IsStanding (list : RuleList) (memory : AgentState) (now : ℕ) (batch : PlainBatch)
+    (power : Power) (journal : JournalView) (view : View) : Type 0 where
+  pub rules : memory.rules ≡ list.rules
+  pub digest : journal.digest ≡ list.digest
+  pub in_time : now ≤ last_moment
+  pub least : 1 ≤ batch.size
+  pub most : batch.size ≤ 256
+  pub ready : power ≡ Up → IsReady journal view
+
+-- the open batch leads on from what the store stands for
+pub record IsHeld {D : Type 0} (v : AgentView D) (view : View) (a : AgentSeen) : Type 0 where
+  pub changes : v.changes ≡ length a.pending
+  pub base : Saved
+  pub state : a.base.state ≡ durable_of base
+  pub batch : IsBatch v.memory.rules base a.pending v.body a.world
+  pub store : IsAtBase v.memory.rules v.journal view base
+
+-- the commit of an open batch, from what the agent stands for when its last line has run, and from
+-- the clock that it told before
+abbrev pub Finishes : {D : Type 0} → List Rule → ℕ → AgentSeen → AgentMay → AgentView D → View
+    → AgentMay → Outcome → Type 0
+Finishes rules now ran may new after may' (outcome.Replies given) =
+    (map reply_of given.items ≡ map printed ran.held)
+    × IsSeen new after (after_commit rules ran) × AtBase (after_commit rules ran).base may'
+Finishes rules now ran may new after may' outcome.Down =
+    (new.power ≡ Down) × (new.now ≡ now)
+    × LeavesStores new.memory.rules new.journal.digest after
+    × ((d : AgentDurable) (n : ℕ) → may' d n → may d n ⊎ IsAt (after_commit rules ran).base d n)
+Finishes rules now ran may new after may' outcome.Held = ⊥
+Finishes rules now ran may new after may' outcome.NoMemory = ⊥
+
+-- whether an agent is up after an opening that was refused so: it never is
+abbrev pub power_of : OpenFault → Power
+power_of fault.DeviceFault = Down
+power_of (fault.NotAStore offset) = Spoilt
+power_of (fault.OtherList kept given) = Spoilt
+power_of (fault.TooLarge len) = Spoilt
+power_of fault.NoMemory = Spoilt

@@ -1,0 +1,441 @@
+//! The agent over a disk.
+ghost use Rattle.std.specs.Prelude.{◌≡◌, ◌⊎◌, ◌↔◌, ◌≤◌, ◌+◌, ℕ, List, Some, Ok, Err, IfOk, IfErr};
+ghost use Rattle.std.specs.Prelude.{IsErrOf, MatchResult, OnErr, OnOk, length, true};
+ghost use Rattle.unwinding.specs.Course.{AtBase};
+ghost use Rattle.unwinding.specs.CourseSteps.{reopened};
+ghost use Rattle.agent_base.specs.Counts.{Rose};
+ghost use Rattle.disk_model.specs.Disk.{HasFailed, IsPowered, IsSettled, LeavesOnly, View};
+ghost use Rattle.journal.specs.Opening.{FileMeans, IsExcused, IsOfFile, IsOpening, IsRefusal};
+ghost use Rattle.journal.specs.declared.open_fault.OpenFault.{OpenFault};
+ghost use Rattle.script_lines.specs.Plain.{action_of};
+ghost use Rattle.agent_model.specs.Lines.{Rest, no_places};
+ghost use Rattle.agent_model.specs.Rest.{last_moment};
+ghost use Rattle.agent_model.specs.TheMachine.{machine};
+ghost use Rattle.durable_model.specs.Keeping.{durable_of, keeping};
+ghost use Rattle.durable_model.specs.Saved.{Saved, nothing_saved};
+ghost use Rattle.row_store.specs.Bodies.{Refuses, Takes};
+ghost use Rattle.suffix_list.specs.ListText.{RuleList};
+ghost use Rattle.row_store.specs.Stored.{HasNoSession, saved_of};
+ghost use Rattle.agent_core.specs.AgentView.{is_down, may_of, since_opening};
+ghost use Rattle.open_store.specs.Commits.{HasRoomFor};
+ghost use Rattle.agent_core.specs.Means.{Fits, FlushMeans, IsBeforeOrAfter, LineMeans};
+ghost use Rattle.agent_core.specs.Means.{OutcomeDevice, RestartDevice, RestartMeans, after_line};
+ghost use Rattle.agent_core.specs.Seen.{AgentSeen, IsSeen, IsUp};
+ghost use Rattle.agent_core.specs.Openings.{IsOpened, resumed};
+ghost use Rattle.agent_core.specs.Standing.{Finishes, IsHeld, power_of};
+
+use crate::open_batch::OpenBatch;
+use crate::opening::{Opened, open, reopen};
+use crate::outcome::Outcome;
+use crate::running::run_line;
+use agent_base::NoMemory;
+use agent_memory::Memory;
+use disk_model::Disk;
+use durable_model::durable_states;
+use journal::{DeviceFault, OpenFault};
+use open_store::Store;
+use row_store::{Parts, Rows, written};
+use script_lines::Action;
+use spelled_model::spelled_lines;
+use std::alloc::Global;
+use std::marker::Model;
+use suffix_list::SuffixList;
+
+/// Whether an agent is up.
+#[derive(Clone, Copy, Debug, PartialEq, Eq)]
+pub enum Power {
+    Up,
+    /// A call of the disk failed.
+    Down,
+    /// Memory was wanting at a restart, or what was found there is no store.
+    Spoilt,
+}
+
+/// How an agent begins.
+#[derive(Clone, Copy, Debug)]
+pub struct Options {
+    /// The clock at the first line, in seconds since 1970.
+    pub start: u64,
+    /// How many lines are committed together, from 1 to 256.
+    pub batch: u16,
+}
+
+/// Why no agent was opened, and its disk.
+#[derive(Debug, Drop)]
+pub struct Refused<D: Disk + Drop> {
+    pub why: OpenFault,
+    pub disk: D,
+}
+
+/// The storage of a browser over a disk, under a suffix list.
+#[derive(Debug, Drop)]
+pub struct Agent<'l, D: Disk + Drop> {
+    alloc: Global,
+    list: &'l SuffixList,
+    now: u64,
+    memory: Memory<'l>,
+    batch: OpenBatch,
+    opened: u64,
+    power: Power,
+    store: Store<D>,
+}
+
+impl<'l, D: Disk + Drop> Model for Agent<'l, D> {
+    ghost use Rattle.agent_core.specs.AgentView.{AgentView};
+    ghost use Rattle.agent_core.specs.Standing.{IsStanding};
+
+    ghost Value = { AgentView D };
+
+    ghost view = { λ a. record {
+      memory = a.memory;
+      now = a.now;
+      batch = a.batch.size;
+      body = a.batch.body;
+      changes = a.batch.changes;
+      held = a.batch.held;
+      journal = a.store.journal;
+      opened = a.opened;
+      power = a.power;
+      disk = a.store.disk;
+    } };
+
+    ghost invariant = { λ a. IsStanding a.list.now a.memory a.now a.batch a.power
+        a.store.journal (D.view a.store.disk) };
+}
+
+// Memory that goes on with what is durable.
+fn resume<'l>(alloc: Global, list: &'l SuffixList, now: u64, parts: Parts) -> Memory<'l>
+    requires now { now ≤ last_moment }
+    requires sessions { HasNoSession parts.storage }
+    ensures state { result ≡ resumed list.now.rules now parts.storage parts.cookies parts.grants }
+{
+    Memory::resume(alloc, list, now, parts.storage, parts.cookies, parts.grants)
+}
+
+// Whether an agent is up after such a refusal: it never is.
+fn power_after(why: &OpenFault) -> Power
+    ensures { result ≡ power_of why.now }
+{
+    match why {
+        OpenFault::DeviceFault => Power::Down,
+        OpenFault::NotAStore(_)
+        | OpenFault::OtherList { .. }
+        | OpenFault::TooLarge(_)
+        | OpenFault::NoMemory => Power::Spoilt,
+    }
+}
+
+// An agent over a store that was just opened.
+fn begin<'l, D: Disk + Drop>(
+    alloc: Global,
+    disk: D,
+    list: &'l SuffixList,
+    options: Options,
+    opened: Opened,
+) -> Agent<'l, D>
+    requires start { options.start ≤ last_moment }
+    requires batch { (1 ≤ options.batch) × (options.batch ≤ 256) }
+    requires opened { IsOpened list.now opened.journal (D.view disk) opened.parts }
+    ensures seen { let at : Rest = record { now = options.start; places = no_places } in
+        let s = reopened (machine list.now.rules) keeping at (durable_of (saved_of opened.parts)) in
+        IsSeen result (D.view result.disk) s × AtBase s.base (may_of result (D.view result.disk)) }
+    ensures disk { result.disk ≡ disk }
+    ensures rules { (result.memory.rules ≡ list.now.rules)
+        × (result.journal.digest ≡ list.now.digest) × (result.batch ≡ options.batch) }
+{
+    durable_states();
+    spelled_lines();
+    let changes = opened.journal.changes();
+    Agent {
+        alloc,
+        list,
+        now: options.start,
+        memory: resume(alloc, list, options.start, opened.parts),
+        batch: OpenBatch::new(alloc, options.batch),
+        opened: changes,
+        power: Power::Up,
+        store: Store {
+            journal: opened.journal,
+            disk,
+        },
+    }
+}
+
+impl<'l, D: Disk + Drop> Agent<'l, D> {
+    /// An agent over the store on a disk, or over a new one where the file is no store yet. A store
+    /// over 1,073,741,824 bytes is refused, and one that was made under another suffix list.
+    pub fn open(
+        alloc: Global,
+        disk: D,
+        list: &'l SuffixList,
+        options: Options,
+    ) -> Result<Agent<'l, D>, Refused<D>>
+        requires start { options.start ≤ last_moment }
+        requires batch { (1 ≤ options.batch) × (options.batch ≤ 256) }
+
+        // It stands for the world that a restart opens with what the store stands for.
+        ensures seen { IfOk result (λ a. (base : Saved)
+            × (let at : Rest = record { now = options.start; places = no_places } in
+            let s = reopened (machine list.now.rules) keeping at (durable_of base) in
+            IsSeen a (D.view a.disk) s × AtBase s.base (may_of a (D.view a.disk))
+            × ((c : List ℕ) (d : Saved) (n : ℕ) → (D.view disk).contents ≡ Some c
+            → FileMeans (Takes list.now.rules) nothing_saved list.now.digest c d n → base ≡ d))) }
+        ensures rules { IfOk result (λ a. (a.memory.rules ≡ list.now.rules)
+            × (a.journal.digest ≡ list.now.digest) × (a.batch ≡ options.batch)) }
+        ensures refused { IfErr result (λ r. (c : List ℕ)
+            → (D.view disk).contents ≡ Some c
+            → IsRefusal (Takes list.now.rules) (Refuses list.now.rules) nothing_saved true
+            list.now.digest c r.why) }
+        ensures exactly { (why : OpenFault) (c : List ℕ)
+            → (D.view disk).contents ≡ Some c → IsOfFile why
+            → IsRefusal (Takes list.now.rules) (Refuses list.now.rules) nothing_saved true
+            list.now.digest c why
+            → MatchResult result (λ _. ⊥) (λ r. (r.why ≡ why) ⊎ IsExcused r.why) }
+        ensures unchanged { IfErr result (λ r. IsOfFile r.why
+            → (D.view r.disk).contents ≡ (D.view disk).contents) }
+        ensures tells { MatchResult result
+            (λ a. (D.view a.disk).tells ≡ (D.view disk).tells)
+            (λ r. (D.view r.disk).tells ≡ (D.view disk).tells) }
+        ensures powered { IfOk result (λ a. IsPowered (D.view disk) (D.view a.disk)) }
+        ensures device { IfErr result (λ r. r.why ≡ OpenFault.DeviceFault
+            → Rose (D.view disk).faults (D.view r.disk).faults
+            × HasFailed (D.view disk) (D.view r.disk)) }
+
+        // A cut at any moment leaves the file as it was, or of an unborn file an unborn one or a
+        // store without frames.
+        ensures any_moment { IsSettled (D.view disk) → (c : List ℕ)
+            → (D.view disk).contents ≡ Some c
+            → MatchResult result
+            (λ a. LeavesOnly (D.view disk) (D.view a.disk) (IsOpening list.now.digest c))
+            (λ r. LeavesOnly (D.view disk) (D.view r.disk) (IsOpening list.now.digest c)) }
+    {
+        let mut disk = disk;
+        match open(alloc, &mut disk, list) {
+            Ok(opened) => Ok(begin(alloc, disk, list, options, opened)),
+            Err(why) => Err(Refused { why, disk }),
+        }
+    }
+
+    /// Runs one line. The last line of a batch commits the batch.
+    ///
+    /// All memory of a line is taken before anything changes. At most four changing calls of the
+    /// disk are made, and none where no line of the batch has a durable change.
+    pub fn line(&mut self, action: &Action) -> Outcome
+        ensures means { (a : AgentSeen) → IsSeen self.old (D.view self.old.disk) a → Fits a
+            → (b : AgentSeen) × IsSeen self.new (D.view self.new.disk) b
+            × LineMeans self.old.memory.rules self.old.batch (action_of action.now)
+            a (may_of self.old (D.view self.old.disk)) b (may_of self.new (D.view self.new.disk))
+            result }
+        ensures any_moment { (a : AgentSeen) → IsSeen self.old (D.view self.old.disk) a
+            → a.up ≡ true → (D.view self.old.disk).tells ≡ true
+            → LeavesOnly (D.view self.old.disk) (D.view self.new.disk)
+            (IsBeforeOrAfter self.old.memory.rules self.old.journal.digest a
+            (after_line self.old.memory.rules a (action_of action.now))) }
+        ensures rules { (self.new.memory.rules ≡ self.old.memory.rules)
+            × (self.new.journal.digest ≡ self.old.journal.digest)
+            × (self.new.batch ≡ self.old.batch) }
+        ensures device { self.old.power ≡ Power.Up
+            → OutcomeDevice 4 result (D.view self.old.disk) (D.view self.new.disk) }
+        ensures off { (self.old.power ≡ Power.Up → ⊥) → self.new ≡ self.old }
+        ensures answer { (self.old.power ≡ Power.Down → result ≡ Outcome.Down)
+            × (self.old.power ≡ Power.Spoilt → result ≡ Outcome.NoMemory) }
+    {
+        match self.power {
+            Power::Down => Outcome::Down,
+            Power::Spoilt => Outcome::NoMemory,
+            Power::Up => self.run(action),
+        }
+    }
+
+    /// Commits what is held, and gives out its replies. At most four changing calls of the disk.
+    pub fn flush(&mut self) -> Outcome
+        ensures means { (a : AgentSeen) → IsSeen self.old (D.view self.old.disk) a
+            → (b : AgentSeen) × IsSeen self.new (D.view self.new.disk) b
+            × FlushMeans self.old.memory.rules
+            a (may_of self.old (D.view self.old.disk)) b (may_of self.new (D.view self.new.disk))
+            result }
+        ensures any_moment { (a : AgentSeen) → IsSeen self.old (D.view self.old.disk) a
+            → a.up ≡ true → (D.view self.old.disk).tells ≡ true
+            → LeavesOnly (D.view self.old.disk) (D.view self.new.disk)
+            (IsBeforeOrAfter self.old.memory.rules self.old.journal.digest a a) }
+        ensures rules { (self.new.memory.rules ≡ self.old.memory.rules)
+            × (self.new.journal.digest ≡ self.old.journal.digest)
+            × (self.new.batch ≡ self.old.batch) }
+        ensures device { self.old.power ≡ Power.Up
+            → OutcomeDevice 4 result (D.view self.old.disk) (D.view self.new.disk) }
+        ensures off { (self.old.power ≡ Power.Up → ⊥) → self.new ≡ self.old }
+        ensures answer { (self.old.power ≡ Power.Down → result ≡ Outcome.Down)
+            × (self.old.power ≡ Power.Spoilt → result ≡ Outcome.NoMemory) }
+    {
+        match self.power {
+            Power::Down => Outcome::Down,
+            Power::Spoilt => Outcome::NoMemory,
+            Power::Up => self.settle(),
+        }
+    }
+
+    /// The power is cut and comes back, and the store is opened again: the tabs, all that a restart
+    /// loses, and the open batch are gone. Answers how many durable changes since the last opening
+    /// are there, modulo 2^64. The clock goes on.
+    pub fn restart(&mut self) -> Result<u64, OpenFault>
+        ensures means { (D.view self.old.disk).tells ≡ true → (a : AgentSeen)
+            → IsSeen self.old (D.view self.old.disk) a
+            → (b : AgentSeen) × IsSeen self.new (D.view self.new.disk) b
+            × RestartMeans self.old.memory.rules
+            a (may_of self.old (D.view self.old.disk)) b (may_of self.new (D.view self.new.disk))
+            result }
+        ensures rules { (self.new.memory.rules ≡ self.old.memory.rules)
+            × (self.new.journal.digest ≡ self.old.journal.digest)
+            × (self.new.batch ≡ self.old.batch) }
+        ensures device { RestartDevice result (D.view self.old.disk) (D.view self.new.disk) }
+        ensures power { MatchResult result (λ _. self.new.power ≡ Power.Up)
+            (λ why. self.new.power ≡ power_of why) }
+    {
+        self.power = Power::Down;
+        match reopen(self.alloc, &mut self.store.disk, self.list) {
+            Ok(opened) => Ok(self.go_on(opened)),
+            Err(why) => {
+                self.power = power_after(&why);
+                Err(why)
+            }
+        }
+    }
+
+    // Goes on with the store that a restart opened, and answers how many changes were kept.
+    fn go_on(&mut self, opened: Opened) -> u64
+        requires opened { let list : RuleList =
+            record { rules = self.old.memory.rules; digest = self.old.journal.digest } in
+            IsOpened list opened.journal (D.view self.old.disk) opened.parts }
+        ensures seen { let at : Rest = record { now = self.old.now; places = no_places } in
+            let d = durable_of (saved_of opened.parts) in
+            let s = reopened (machine self.old.memory.rules) keeping at d in
+            IsSeen self.new (D.view self.new.disk) s
+            × AtBase s.base (may_of self.new (D.view self.new.disk)) }
+        ensures kept { result ≡ since_opening opened.journal.changes self.old.opened }
+        ensures up { self.new.power ≡ Power.Up }
+        ensures disk { self.new.disk ≡ self.old.disk }
+        ensures rules { (self.new.memory.rules ≡ self.old.memory.rules)
+            × (self.new.journal.digest ≡ self.old.journal.digest)
+            × (self.new.batch ≡ self.old.batch) }
+    {
+        durable_states();
+        spelled_lines();
+        let changes = opened.journal.changes();
+        let kept = changes.wrapping_sub(self.opened);
+        self.memory = resume(self.alloc, self.list, self.now, opened.parts);
+        self.batch.clear();
+        self.opened = changes;
+        self.store.journal = opened.journal;
+        self.power = Power::Up;
+        kept
+    }
+
+    // Runs one line of an agent that is up.
+    fn run(&mut self, action: &Action) -> Outcome
+        requires up { self.old.power ≡ Power.Up }
+        ensures means { (a : AgentSeen) → IsSeen self.old (D.view self.old.disk) a → Fits a
+            → (b : AgentSeen) × IsSeen self.new (D.view self.new.disk) b
+            × LineMeans self.old.memory.rules self.old.batch (action_of action.now)
+            a (may_of self.old (D.view self.old.disk)) b (may_of self.new (D.view self.new.disk))
+            result }
+        ensures any_moment { (a : AgentSeen) → IsSeen self.old (D.view self.old.disk) a
+            → a.up ≡ true → (D.view self.old.disk).tells ≡ true
+            → LeavesOnly (D.view self.old.disk) (D.view self.new.disk)
+            (IsBeforeOrAfter self.old.memory.rules self.old.journal.digest a
+            (after_line self.old.memory.rules a (action_of action.now))) }
+        ensures rules { (self.new.memory.rules ≡ self.old.memory.rules)
+            × (self.new.journal.digest ≡ self.old.journal.digest)
+            × (self.new.batch ≡ self.old.batch) }
+        ensures device { OutcomeDevice 4 result (D.view self.old.disk) (D.view self.new.disk) }
+    {
+        durable_states();
+        spelled_lines();
+        match run_line(&mut self.memory, &mut self.batch, &mut self.store, action) {
+            Err(NoMemory) => Outcome::NoMemory,
+            Ok(()) => {
+                if self.batch.is_full() {
+                    return self.finish();
+                }
+                self.now = self.memory.now();
+                Outcome::Held
+            }
+        }
+    }
+
+    // Makes room for the commit of an agent that is up, and commits.
+    fn settle(&mut self) -> Outcome
+        requires up { self.old.power ≡ Power.Up }
+        ensures means { (a : AgentSeen) → IsSeen self.old (D.view self.old.disk) a
+            → (b : AgentSeen) × IsSeen self.new (D.view self.new.disk) b
+            × FlushMeans self.old.memory.rules
+            a (may_of self.old (D.view self.old.disk)) b (may_of self.new (D.view self.new.disk))
+            result }
+        ensures any_moment { (a : AgentSeen) → IsSeen self.old (D.view self.old.disk) a
+            → a.up ≡ true → (D.view self.old.disk).tells ≡ true
+            → LeavesOnly (D.view self.old.disk) (D.view self.new.disk)
+            (IsBeforeOrAfter self.old.memory.rules self.old.journal.digest a a) }
+        ensures rules { (self.new.memory.rules ≡ self.old.memory.rules)
+            × (self.new.journal.digest ≡ self.old.journal.digest)
+            × (self.new.batch ≡ self.old.batch) }
+        ensures device { OutcomeDevice 4 result (D.view self.old.disk) (D.view self.new.disk) }
+    {
+        match self.store.reserve(self.batch.bytes().len()) {
+            Err(NoMemory) => Outcome::NoMemory,
+            Ok(()) => self.finish(),
+        }
+    }
+
+    // Commits the open batch, and gives out its replies.
+    fn finish(&mut self) -> Outcome
+        requires up { self.old.power ≡ Power.Up }
+        requires room { HasRoomFor self.old.journal (D.view self.old.disk) (length self.old.body) }
+        ensures finishes { (ran : AgentSeen) → IsUp self.old (D.view self.old.disk) ran
+            → Finishes self.old.memory.rules self.old.now ran
+            (may_of self.old (D.view self.old.disk))
+            self.new (D.view self.new.disk) (may_of self.new (D.view self.new.disk)) result }
+        ensures any_moment { (ran : AgentSeen) → IsHeld self.old (D.view self.old.disk) ran
+            → (D.view self.old.disk).tells ≡ true
+            → LeavesOnly (D.view self.old.disk) (D.view self.new.disk)
+            (IsBeforeOrAfter self.old.memory.rules self.old.journal.digest ran ran) }
+        ensures rules { (self.new.memory.rules ≡ self.old.memory.rules)
+            × (self.new.journal.digest ≡ self.old.journal.digest)
+            × (self.new.batch ≡ self.old.batch) }
+        ensures device { OutcomeDevice 4 result (D.view self.old.disk) (D.view self.new.disk) }
+    {
+        durable_states();
+        written();
+        let changes = self.batch.changes();
+        match self.store.commit::<Rows>(self.batch.bytes(), changes) {
+            Err(DeviceFault) => {
+                self.power = Power::Down;
+                Outcome::Down
+            }
+            Ok(()) => {
+                self.now = self.memory.now();
+                Outcome::Replies(self.batch.give())
+            }
+        }
+    }
+
+    /// Whether a call of the disk failed since the last good opening.
+    pub fn is_down(&self) -> bool
+        ensures { result ≡ is_down self.entry.now.power }
+    {
+        self.power == Power::Down
+    }
+
+    /// The clock, in seconds since 1970.
+    pub fn now(&self) -> u64
+        ensures { result ≡ self.entry.now.now }
+    {
+        self.now
+    }
+
+    /// Hands the disk back.
+    pub fn into_disk(self) -> D
+        ensures { result ≡ self.entry.disk }
+    {
+        let store = self.store;
+        store.disk
+    }
+}

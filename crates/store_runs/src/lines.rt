@@ -1,0 +1,134 @@
+//! Lines, run one by one over an agent. Their replies wait in memory, and are written together.
+ghost use Rattle.std.specs.Prelude.{◌≡◌, ◌<◌, ◌+◌, ◌^◌, length, OnErr, OnOk};
+ghost use Rattle.unwinding.specs.Admissible.{Acts, Reopens};
+ghost use Rattle.durable_model.specs.Histories.{AgentOpening};
+ghost use Rattle.script_lines.specs.Plain.{action_of};
+ghost use Rattle.agent_core.specs.Seen.{AgentSeen, IsSeen};
+ghost use Rattle.store_runs.specs.Courses.{EndsWith, GoesOn, IsEnd, Stepped};
+ghost use Rattle.store_runs.specs.Runs.{HasNoCuts, IsOpenedAt, WriteCounts, WritesLines};
+ghost use Rattle.store_runs.specs.Steps.{step_of, steps_of};
+
+use crate::replies::{down, restarted};
+use crate::waiting::{end, hold, hold_all, write_many};
+use crate::{Ending, Step};
+use agent_base::{NoMemory, Sink};
+use agent_core::{Agent, Outcome};
+use disk_model::Disk;
+use journal::OpenFault;
+use script_lines::Action;
+use std::alloc::Global;
+
+/// Runs the lines over an agent, and writes the replies to `out`.
+///
+/// The replies wait in memory, and are written together. Where the run ends or stops, what waits
+/// is written. After the last line the agent commits the lines that wait for their batch.
+pub fn run_lines<D: Disk + Drop, O: Sink>(
+    alloc: Global,
+    agent: &mut Agent<'_, D>,
+    lines: &[Step],
+    out: &mut O,
+) -> Ending
+    requires fits { length lines.now + 2 < 2 ^ 64 }
+    // It is told of an agent that was just opened, and of a disk that tells its contents.
+    ensures written { (opening : AgentOpening)
+        → IsOpenedAt agent.old (D.view agent.old.disk) opening
+        → WritesLines result agent.old.memory.rules agent.old.batch opening
+        (HasNoCuts (D.view agent.old.disk)) (steps_of lines.now)
+        (O.taken out.old) (O.taken out.new) }
+    ensures write { WriteCounts result (O.faults out.old) (O.faults out.new) }
+{
+    let mut text = Vec::new(alloc);
+    let mut waiting = Vec::new(alloc);
+    for line in lines {
+        let Ok(()) = step(agent, line, &mut text, &mut waiting) else {
+            return end(out, &waiting, Ending::Memory);
+        };
+        let Ok(()) = write_many(out, &mut waiting) else {
+            return Ending::Write;
+        };
+    }
+    let ending = last_commit(agent, &mut text, &mut waiting);
+    end(out, &waiting, ending)
+}
+
+// Runs one line. The text of what it answers waits behind what waits already.
+fn step<D: Disk + Drop>(
+    agent: &mut Agent<'_, D>,
+    step: &Step,
+    text: &mut Vec<u8>,
+    waiting: &mut Vec<u8>,
+) -> Result<(), NoMemory>
+    ensures stepped { OnOk result (Stepped D.view agent.old agent.new (step_of step.now)
+        waiting.old.items waiting.new.items) }
+    ensures goes_on { GoesOn D.view agent.old agent.new }
+    ensures unchanged { OnErr result (waiting.new.items ≡ waiting.old.items) }
+{
+    match step {
+        Step::Act(action) => act(agent, step, action, text, waiting),
+        Step::Restart => reopen(agent, step, text, waiting),
+    }
+}
+
+// Runs a line that acts.
+fn act<D: Disk + Drop>(
+    agent: &mut Agent<'_, D>,
+    step: &Step,
+    action: &Action,
+    text: &mut Vec<u8>,
+    waiting: &mut Vec<u8>,
+) -> Result<(), NoMemory>
+    requires { step_of step.now ≡ Acts (action_of action.now) }
+    ensures stepped { OnOk result (Stepped D.view agent.old agent.new (step_of step.now)
+        waiting.old.items waiting.new.items) }
+    ensures goes_on { GoesOn D.view agent.old agent.new }
+    ensures unchanged { OnErr result (waiting.new.items ≡ waiting.old.items) }
+{
+    match agent.line(action) {
+        Outcome::Replies(replies) => hold_all(&replies, text, waiting),
+        Outcome::Held => Ok(()),
+        Outcome::Down => hold(&down(step), text, waiting),
+        Outcome::NoMemory => Err(NoMemory),
+    }
+}
+
+// Runs a line that opens the store again. Over a disk that tells its contents, the store of an
+// agent is never refused.
+fn reopen<D: Disk + Drop>(
+    agent: &mut Agent<'_, D>,
+    step: &Step,
+    text: &mut Vec<u8>,
+    waiting: &mut Vec<u8>,
+) -> Result<(), NoMemory>
+    requires { step_of step.now ≡ Reopens }
+    ensures stepped { OnOk result (Stepped D.view agent.old agent.new (step_of step.now)
+        waiting.old.items waiting.new.items) }
+    ensures goes_on { GoesOn D.view agent.old agent.new }
+    ensures unchanged { OnErr result (waiting.new.items ≡ waiting.old.items) }
+{
+    match agent.restart() {
+        Ok(kept) => hold(&restarted(kept), text, waiting),
+        Err(OpenFault::DeviceFault) => hold(&down(step), text, waiting),
+        Err(_) => Err(NoMemory),
+    }
+}
+
+// After the last line: the lines that wait for their batch are committed, and their replies
+// wait to be written.
+fn last_commit<D: Disk + Drop>(
+    agent: &mut Agent<'_, D>,
+    text: &mut Vec<u8>,
+    waiting: &mut Vec<u8>,
+) -> Ending
+    ensures ends { (a : AgentSeen) → IsSeen agent.old (D.view agent.old.disk) a
+        → EndsWith a (D.view agent.old.disk) result waiting.old.items waiting.new.items }
+    ensures ending { IsEnd result }
+{
+    match agent.flush() {
+        Outcome::Replies(replies) => match hold_all(&replies, text, waiting) {
+            Ok(()) => Ending::Done,
+            Err(NoMemory) => Ending::Memory,
+        },
+        Outcome::Down => Ending::Device,
+        Outcome::Held | Outcome::NoMemory => Ending::Memory,
+    }
+}

@@ -11,7 +11,7 @@ use Rattle.frame_tree.specs.Document.{PlainDocument}
 use Rattle.frame_tree.specs.Tree.{document_of, top_site}
 use Rattle.live_state.specs.FramesInPlace.{IsPutIn, frames_at, requested}
 use Rattle.live_state.specs.Tabs.{PlainLive, PlainTab, tab_at}
-use Rattle.script_lines.specs.declared.words.Prompt.{Prompt}
+use Rattle.script_actions.specs.declared.words.Prompt.{Prompt}
 use Rattle.reply_lines.specs.Reply.{PlainBody, Plain}
 use Rattle.agent_model.specs.Done.{Effect}
 use Rattle.agent_model.specs.Documents.{by_document, with_document}

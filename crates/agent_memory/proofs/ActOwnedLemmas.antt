@@ -16,9 +16,9 @@ use Rattle.access_grants.specs.declared.outcome.Outcome.{Outcome}
 use Rattle.access_grants.specs.Request.{has_access}
 use Rattle.live_state.specs.FramesInPlace.{requested}
 use Rattle.reply_lines.specs.Reply.{Plain, Truth}
-use Rattle.script_lines.specs.declared.words.Prompt.{Prompt}
-use Rattle.script_lines.specs.Script as script
-use Rattle.script_lines.specs.Script.{DocumentAction, HeadField, Frame, Nav, Drop, Click, Fetch, Set, Get, Del, Clear, Len, Key, Cookie, SetCookie, Has, Request, Persisted, Estimate, Persist}
+use Rattle.script_actions.specs.declared.words.Prompt.{Prompt}
+use Rattle.script_actions.specs.Action as script
+use Rattle.script_actions.specs.Action.{DocumentAction, HeadField, Frame, Nav, Drop, Click, Fetch, Set, Get, Del, Clear, Len, Key, Cookie, SetCookie, Has, Request, Persisted, Estimate, Persist}
 use Rattle.agent_model.specs.Partition.{Holdings, SessionAreas, tab_named, with_tab}
 use Rattle.agent_model.specs.CookieUse.{CookieUse}
 use Rattle.agent_model.specs.CookieUses.{fetch_use, frame_use, nav_use}

@@ -18,7 +18,7 @@ use Rattle.local_area.specs.Area.{Pair, quota, area_remove, area_weight}
 use Rattle.local_area.specs.Put.{PlainPut, same, added, changed}
 use Rattle.frame_tree.specs.Keys.{key_of_document}
 use Rattle.live_state.specs.Tabs.{PlainTab}
-use Rattle.script_lines.specs.declared.words.Prompt.{Prompt}
+use Rattle.script_actions.specs.declared.words.Prompt.{Prompt}
 use Rattle.reply_lines.specs.Reply.{Plain}
 use Rattle.agent_model.specs.Partition.{SessionKey, session_order, Holdings, with_area}
 use Rattle.agent_model.specs.Done.{Done, Effect, SharedCells, answers}

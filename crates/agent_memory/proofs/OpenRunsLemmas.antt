@@ -11,11 +11,11 @@ use Rattle.live_state.specs.Tabs.{PlainTab, is_open, tab_at}
 use Rattle.web_storage.specs.Stored.{Entries}
 use Rattle.web_cookies.specs.Stored.{Entries as CookieEntries}
 use Rattle.reply_lines.specs.declared.reply.Reply.{Reply}
-use Rattle.script_lines.specs.declared.words.Method.{Method}
+use Rattle.script_actions.specs.declared.words.Method.{Method}
 use Rattle.reply_lines.specs.Plain.{reply_of}
 use Rattle.reply_lines.specs.Reply.{Plain}
-use Rattle.script_lines.specs.Script.{HeadField, PlainAction, Open}
-use Rattle.agent_model.specs.ActionNames.{action_name}
+use Rattle.script_actions.specs.Action.{HeadField, PlainAction, Open}
+use Rattle.script_actions.specs.ActionNames.{action_name}
 use Rattle.agent_model.specs.Done.{Done}
 use Rattle.agent_model.specs.Partition.{Holdings}
 use Rattle.agent_model.specs.Sessions.{arrive, has_session}

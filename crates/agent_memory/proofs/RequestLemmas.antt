@@ -24,7 +24,7 @@ use Rattle.live_state.specs.Tabs.{PlainTab, tab_at}
 use Rattle.reply_lines.specs.declared.reply.ReplyBody.{ReplyBody}
 use Rattle.reply_lines.specs.Plain.{body_of}
 use Rattle.reply_lines.specs.Reply.{PlainBody, Plain}
-use Rattle.script_lines.specs.Script.{HeadField}
+use Rattle.script_actions.specs.Action.{HeadField}
 use Rattle.web_cookies.specs.Prepared.{Prepares}
 use Rattle.web_cookies.specs.Stored.{Entries, IsDoneBy, partitioned_in, shared_in}
 use Rattle.web_cookies.specs.declared.prepared.Prepared.{Prepared}

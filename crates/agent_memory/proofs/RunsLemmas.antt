@@ -15,10 +15,10 @@ use Rattle.live_state.specs.Tabs.{PlainTab, tab_at}
 use Rattle.web_storage.specs.Stored.{Entries}
 use Rattle.web_cookies.specs.Stored.{Entries as CookieEntries}
 use Rattle.reply_lines.specs.declared.reply.Reply.{Reply}
-use Rattle.script_lines.specs.declared.words.Method.{Method}
+use Rattle.script_actions.specs.declared.words.Method.{Method}
 use Rattle.reply_lines.specs.Plain.{reply_of}
 use Rattle.reply_lines.specs.Reply.{PlainBody, Now}
-use Rattle.script_lines.specs.Script.{HeadField, PlainAction, DocumentAction, Tick, Close, Go, Evict, Act}
+use Rattle.script_actions.specs.Action.{HeadField, PlainAction, DocumentAction, Tick, Close, Go, Evict, Act}
 use Rattle.agent_model.specs.Partition.{Holdings, tab_named}
 use Rattle.agent_model.specs.Done.{Done, answers, ok}
 use Rattle.agent_model.specs.Buckets.{evict, without_evicted}

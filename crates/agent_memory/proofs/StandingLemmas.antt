@@ -11,14 +11,14 @@ use Rattle.web_storage.specs.Stored.{held_with}
 use Rattle.reply_lines.specs.declared.reply.Reply.{Reply}
 use Rattle.reply_lines.specs.Plain.{reply_of}
 use Rattle.reply_lines.specs.Reply.{PlainBody, Plain}
-use Rattle.script_lines.specs.Script.{HeadField, PlainAction, Tick, Open, Close, Go, Evict, Act}
+use Rattle.script_actions.specs.Action.{HeadField, PlainAction, Tick, Open, Close, Go, Evict, Act}
 use Rattle.agent_model.specs.Partition.{Holdings, session_order, tab_named}
 use Rattle.agent_model.specs.Done.{SharedCells}
-use Rattle.agent_model.specs.ActionNames.{action_name}
+use Rattle.script_actions.specs.ActionNames.{action_name}
 use Rattle.agent_model.specs.Isolation.{printed}
 use Rattle.suffix_list.specs.Suffix.{Rule}
 use Rattle.origin_site.specs.Address.{PlainAddress}
-use Rattle.script_lines.specs.declared.words.Method.{Method}
+use Rattle.script_actions.specs.declared.words.Method.{Method}
 use Rattle.agent_model.specs.SiteEvent.{SiteEvent, Acts, Closes}
 use Rattle.agent_model.specs.Lines.{AgentWorld, Places, Starter, going, main_event, occurs, opener_of, opening, site_at}
 use Rattle.agent_model.specs.Rest.{last_moment}

@@ -21,8 +21,8 @@ use Rattle.live_state.specs.Tabs.{PlainTab, queue_of}
 use Rattle.local_area.specs.Area.{Pair}
 use Rattle.storage_events.specs.declared.event.AreaKind.{AreaKind}
 use Rattle.storage_events.specs.declared.event.AreaKind.TheVariants.{Local, Session}
-use Rattle.script_lines.specs.Script.{PlainAction, Tick, Open, Close, Go, Evict, Act, DocumentAction}
-use Rattle.script_lines.specs.Script.{Frame, Nav, Drop, Click, Fetch, Set, Get, Del, Clear, Len, Key, Events, Cookie, SetCookie, Has, Request, Persisted, Estimate, Persist}
+use Rattle.script_actions.specs.Action.{PlainAction, Tick, Open, Close, Go, Evict, Act, DocumentAction}
+use Rattle.script_actions.specs.Action.{Frame, Nav, Drop, Click, Fetch, Set, Get, Del, Clear, Len, Key, Events, Cookie, SetCookie, Has, Request, Persisted, Estimate, Persist}
 use Rattle.reply_lines.specs.Reply.{PlainBody, Plain}
 use Rattle.row_changes.specs.Change.{PlainChange, AreaClear}
 use Rattle.row_changes.specs.Appended.{Appends, HasTexts, IsAppended, IsFront}

@@ -10,7 +10,7 @@ use Rattle.live_state.specs.Queues.{frames_by}
 use Rattle.live_state.specs.Tabs.{PlainTab, is_open, tab_at}
 use Rattle.reply_lines.specs.declared.reply.Reply.{Reply}
 use Rattle.reply_lines.specs.Plain.{reply_of}
-use Rattle.script_lines.specs.Script.{PlainAction}
+use Rattle.script_actions.specs.Action.{PlainAction}
 use Rattle.agent_model.specs.Lines.{main_event}
 use Rattle.agent_model.specs.Partition.{Holdings}
 use Rattle.agent_model.specs.Sessions.{copy_sessions}

@@ -8,7 +8,7 @@ use Rattle.frame_tree.specs.declared.tab.TreeFault.{TreeFault}
 use Rattle.frame_tree.specs.Tree.{top_site}
 use Rattle.live_state.specs.FramesInPlace.{frames_at}
 use Rattle.live_state.specs.Tabs.{PlainTab}
-use Rattle.script_lines.specs.Script.{HeadField}
+use Rattle.script_actions.specs.Action.{HeadField}
 use Rattle.reply_lines.specs.declared.reply.ReplyBody.{ReplyBody}
 use Rattle.reply_lines.specs.Plain.{body_of}
 use Rattle.reply_lines.specs.Reply.{PlainBody}

@@ -13,7 +13,7 @@ use Rattle.frame_tree.specs.Document.{PlainDocument}
 use Rattle.frame_tree.specs.Tree.{top_site}
 use Rattle.live_state.specs.Tabs.{PlainTab, tab_at}
 use Rattle.row_changes.specs.Appended.{Appends, IsAppended, IsFront}
-use Rattle.script_lines.specs.Script.{PlainAction}
+use Rattle.script_actions.specs.Action.{PlainAction}
 use Rattle.web_cookies.specs.declared.prepared.Prepared.{Prepared}
 use Rattle.web_cookies.specs.Prepared.{Prepares}
 use Rattle.web_cookies.specs.Stored.{Entries, held_with, shared_in}

@@ -4,9 +4,9 @@ ghost use Rattle.std.specs.FinMap as finite;
 ghost use Rattle.unwinding.specs.Durable.{line_changes};
 ghost use Rattle.unwinding.specs.World.{line_reply, world_step};
 ghost use Rattle.origin_site.specs.Plain.{plain_address, plain_site};
-ghost use Rattle.script_lines.specs.Plain.{action_of, head_field_of};
+ghost use Rattle.script_actions.specs.Plain.{action_of, head_field_of};
 ghost use Rattle.reply_lines.specs.Plain.{reply_of};
-ghost use Rattle.script_lines.specs.Script as plain;
+ghost use Rattle.script_actions.specs.Action as plain;
 ghost use Rattle.agent_model.specs.Isolation.{printed};
 ghost use Rattle.agent_model.specs.Lines.{main_event};
 ghost use Rattle.agent_model.specs.Partition as model;
@@ -22,12 +22,12 @@ ghost use Rattle.agent_memory.specs.ActionKinds.{label_of};
 use crate::body::Body;
 use crate::clock::clock_after;
 use crate::holdings::Holdings;
-use crate::replies::{answer, name_of, refused, replied, ticked};
+use crate::replies::{answer, refused, replied, ticked};
 use access_grants::Grants;
 use agent_base::{Label, NoMemory};
 use origin_site::{Address, Site};
 use reply_lines::{Reply, ReplyBody};
-use script_lines::{Action, HeadField, Method};
+use script_actions::{Action, HeadField, Method};
 use std::alloc::Global;
 use std::marker::Model;
 use suffix_list::SuffixList;
@@ -297,7 +297,7 @@ impl<'l> Memory<'l> {
             body.old.bytes body.new.bytes result }
         ensures limit { body.new.limit ≡ body.old.limit }
     {
-        let name = name_of(action);
+        let name = action.name();
         let Some(site) = self.held.site(self.alloc, at.tab)? else {
             return Ok(refused(name, "no-tab"));
         };

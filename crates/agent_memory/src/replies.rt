@@ -3,45 +3,10 @@ ghost use Rattle.std.specs.Prelude.{◌≡◌, ◌≤◌, Some, None, codes, pos
 ghost use Rattle.origin_site.specs.Plain.{plain_site};
 ghost use Rattle.reply_lines.specs.Plain.{body_of, reply_of};
 ghost use Rattle.reply_lines.specs.Reply as reply_text;
-ghost use Rattle.script_lines.specs.Plain.{action_of};
-ghost use Rattle.agent_model.specs.ActionNames.{action_name};
 ghost use Rattle.agent_model.specs.Rest.{last_moment};
 
 use origin_site::Site;
 use reply_lines::{Reply, ReplyBody};
-use script_lines::Action;
-
-/// The name of an action.
-pub fn name_of(action: &Action) -> &'static str
-    ensures { result.now ≡ action_name (action_of action.now) }
-{
-    match action {
-        Action::Tick { .. } => "tick",
-        Action::Open { .. } => "open",
-        Action::Close { .. } => "close",
-        Action::Go { .. } => "go",
-        Action::Frame { .. } => "frame",
-        Action::Nav { .. } => "nav",
-        Action::Drop { .. } => "drop",
-        Action::Click { .. } => "click",
-        Action::Fetch { .. } => "fetch",
-        Action::Set { .. } => "set",
-        Action::Get { .. } => "get",
-        Action::Del { .. } => "del",
-        Action::Clear { .. } => "clear",
-        Action::Len { .. } => "len",
-        Action::Key { .. } => "key",
-        Action::Events { .. } => "events",
-        Action::Cookie { .. } => "cookie",
-        Action::SetCookie { .. } => "setcookie",
-        Action::Has { .. } => "has",
-        Action::Request { .. } => "request",
-        Action::Persisted { .. } => "persisted",
-        Action::Estimate { .. } => "estimate",
-        Action::Persist { .. } => "persist",
-        Action::Evict { .. } => "evict",
-    }
-}
 
 /// The reply to a line that moved the clock here.
 pub fn ticked(now: u64) -> Reply

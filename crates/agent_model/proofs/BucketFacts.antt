@@ -15,7 +15,7 @@ use Rattle.frame_tree.specs.Calls.{opened}
 use Rattle.local_area.specs.Area.{Pair}
 use Rattle.storage_events.specs.declared.event.AreaKind.TheVariants.{Local}
 use Rattle.live_state.specs.Tabs.{made_tab}
-use Rattle.script_lines.specs.declared.words.Prompt.TheVariants.{Grant, Deny, Dismiss}
+use Rattle.script_actions.specs.declared.words.Prompt.TheVariants.{Grant, Deny, Dismiss}
 use Rattle.reply_lines.specs.Reply.{Plain, Truth, Cleared}
 use Rattle.agent_model.specs.Partition.{Areas, Holdings, no_holdings, area_of}
 use Rattle.row_changes.specs.Change.{AreaClear, SetMode}

@@ -7,7 +7,7 @@ use Rattle.cookie_jar.specs.Key.{OwnCell, PartitionCell}
 use Rattle.cookie_jar.specs.Sending.{joined}
 use Rattle.row_changes.specs.Change.{PlainChange, CookieInsert, CookieReplace, CookieRemove}
 use Rattle.reply_lines.specs.Reply.{PlainBody, Load}
-use Rattle.script_lines.specs.declared.words.Method.TheVariants as method
+use Rattle.script_actions.specs.declared.words.Method.TheVariants as method
 use Rattle.agent_model.specs.CookieUse.{CookieUse, consulted_by, key_of}
 use Rattle.agent_model.specs.CookieUses.{fetch_use, frame_use, nav_use, script_use, top_use}
 use Rattle.agent_model.specs.CookieStore.{BothCells, both_marked, cookie_texts, header_text, sent, store_text, store_texts}

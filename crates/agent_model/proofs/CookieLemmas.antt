@@ -7,7 +7,7 @@ use Rattle.unwinding.specs.World.{is_in}
 use Rattle.suffix_list.specs.Suffix.{Rule}
 use Rattle.cookie_jar.specs.Sending.{joined}
 use Rattle.reply_lines.specs.Reply.{Cookie, Load, SetOne}
-use Rattle.script_lines.specs.Script.{HeadField}
+use Rattle.script_actions.specs.Action.{HeadField}
 use Rattle.origin_site.specs.Site.{PlainSite}
 use Rattle.agent_model.specs.CookieCells.{Domain, Cookies, domain_order}
 use Rattle.agent_model.specs.PartitionedCells.{partitioned_order}

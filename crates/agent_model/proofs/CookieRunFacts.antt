@@ -18,7 +18,7 @@ use Rattle.frame_tree.specs.Sandbox.{unrestricted}
 use Rattle.live_state.specs.Tabs.{PlainTab, made_tab}
 use Rattle.setcookie_parse.specs.declared.cookie.SameSite.TheVariants as when
 use Rattle.stored_cookie.specs.StoredCookie.{PlainCookie}
-use Rattle.script_lines.specs.Script.{PlainAction, Act, Cookie}
+use Rattle.script_actions.specs.Action.{PlainAction, Act, Cookie}
 use Rattle.agent_model.specs.CookieCells.{Domain, Cookies, domain_order, equal_cookies}
 use Rattle.agent_model.specs.Partition.{empty_partition, no_holdings}
 use Rattle.agent_model.specs.Documents.{Keyed}

@@ -25,10 +25,10 @@ use Rattle.local_area.specs.Put as put
 use Rattle.local_area.specs.Put.{PlainPut, put_answer}
 use Rattle.live_state.specs.FramesInPlace.{requested}
 use Rattle.live_state.specs.Tabs.{PlainTab, made_tab, queue_of}
-use Rattle.script_lines.specs.declared.words.Prompt.{Prompt}
+use Rattle.script_actions.specs.declared.words.Prompt.{Prompt}
 use Rattle.reply_lines.specs.Reply.{Plain}
-use Rattle.script_lines.specs.Script as script
-use Rattle.script_lines.specs.Script.{DocumentAction, Frame, Nav, Drop, Click, Fetch, SetCookie, Set, Get, Del, Clear, Len, Key, Has, Request, Persisted, Estimate, Persist}
+use Rattle.script_actions.specs.Action as script
+use Rattle.script_actions.specs.Action.{DocumentAction, Frame, Nav, Drop, Click, Fetch, SetCookie, Set, Get, Del, Clear, Len, Key, Has, Request, Persisted, Estimate, Persist}
 use Rattle.agent_model.specs.Partition.{Holdings, tab_named, with_area}
 use Rattle.agent_model.specs.Done.{SharedCells, Done, Effect, answers, ok}
 use Rattle.agent_model.specs.CookieUses.{fetch_use, frame_use, nav_use}

@@ -9,8 +9,8 @@ use Rattle.unwinding.specs.LocalEntries.{line_touched, local_entries}
 use Rattle.unwinding.specs.LeftOut.{lines_without}
 use Rattle.origin_site.specs.Site.{PlainSite}
 use Rattle.storage_key.specs.Context.{is_of}
-use Rattle.script_lines.specs.declared.words.Method.TheVariants as method
-use Rattle.script_lines.specs.Script.{PlainAction, Tick, Evict, Act, Click}
+use Rattle.script_actions.specs.declared.words.Method.TheVariants as method
+use Rattle.script_actions.specs.Action.{PlainAction, Tick, Evict, Act, Click}
 use Rattle.agent_model.specs.CookieCells.{Domain}
 use Rattle.agent_model.specs.Partition.{empty_partition}
 use Rattle.agent_model.specs.Done.{no_shared_cells}

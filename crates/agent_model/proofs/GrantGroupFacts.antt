@@ -7,7 +7,7 @@ use Rattle.std.specs.Prelude.{bytes_eq}
 use Rattle.unwinding.specs.World.{is_in, world_step}
 use Rattle.unwinding.specs.LeftOut.{ConsultsWithin, IsGroup}
 use Rattle.live_state.specs.Tabs.{PlainTab}
-use Rattle.script_lines.specs.Script.{Click, DocumentAction, PlainAction}
+use Rattle.script_actions.specs.Action.{Click, DocumentAction, PlainAction}
 use Rattle.agent_model.specs.CookieCells.{Domain}
 use Rattle.agent_model.specs.Partition.{Holdings, tab_named}
 use Rattle.agent_model.specs.Done.{SharedCells}

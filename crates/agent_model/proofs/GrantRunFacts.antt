@@ -21,9 +21,9 @@ use Rattle.setcookie_parse.specs.declared.cookie.SameSite.TheVariants as when
 use Rattle.stored_cookie.specs.StoredCookie.{PlainCookie}
 use Rattle.row_changes.specs.Change.{Grant}
 use Rattle.reply_lines.specs.Reply.{Plain}
-use Rattle.script_lines.specs.declared.words.Method.TheVariants as method
-use Rattle.script_lines.specs.Script.{DocumentAction, Click, Fetch, Frame, Request, HeadField, PlainAction, Go}
-use Rattle.script_lines.specs.declared.words.Prompt.TheVariants as prompt
+use Rattle.script_actions.specs.declared.words.Method.TheVariants as method
+use Rattle.script_actions.specs.Action.{DocumentAction, Click, Fetch, Frame, Request, HeadField, PlainAction, Go}
+use Rattle.script_actions.specs.declared.words.Prompt.TheVariants as prompt
 use Rattle.agent_model.specs.CookieCells.{Domain, Cookies, domain_order, equal_cookies}
 use Rattle.agent_model.specs.PartitionedCells.{PartitionedKey, partitioned_order}
 use Rattle.agent_model.specs.Partition.{Holdings, Partition, empty_partition, no_holdings, tab_named, with_tab}

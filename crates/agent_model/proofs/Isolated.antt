@@ -14,7 +14,7 @@ use Rattle.storage_key.specs.Context.{is_of}
 use Rattle.live_state.specs.Tabs.{PlainTab}
 use Rattle.reply_lines.specs.Reply.{reply_text}
 use Rattle.agent_base.specs.declared.refusals.Label.{Label}
-use Rattle.script_lines.specs.Script.{DocumentAction, PlainAction, Tick, Open, Close, Go, Evict, Act}
+use Rattle.script_actions.specs.Action.{DocumentAction, PlainAction, Tick, Open, Close, Go, Evict, Act}
 use Rattle.agent_model.specs.CookieCells.{domain_order}
 use Rattle.agent_model.specs.Partition.{Partition, empty_partition, tab_named}
 use Rattle.agent_model.specs.Done.{SharedCells}

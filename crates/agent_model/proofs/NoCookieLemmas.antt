@@ -13,10 +13,10 @@ use Rattle.frame_tree.specs.Keys.{key_of_document}
 use Rattle.frame_tree.specs.Tree.{PlainFrame, document_of}
 use Rattle.live_state.specs.Tabs.{PlainTab, made_tab}
 use Rattle.cookie_jar.specs.Sending.{marked}
-use Rattle.script_lines.specs.declared.words.Method.{Method}
-use Rattle.script_lines.specs.Script.{DocumentAction, HeadField, Frame, Nav, Drop, Click, Fetch, Set, Get, Del, Clear, Len, Key}
-use Rattle.script_lines.specs.Script.{Events, Cookie, SetCookie, Has, Request, Persisted, Estimate, Persist}
-use Rattle.script_lines.specs.Script.{PlainAction, Tick, Open, Close, Go, Evict, Act}
+use Rattle.script_actions.specs.declared.words.Method.{Method}
+use Rattle.script_actions.specs.Action.{DocumentAction, HeadField, Frame, Nav, Drop, Click, Fetch, Set, Get, Del, Clear, Len, Key}
+use Rattle.script_actions.specs.Action.{Events, Cookie, SetCookie, Has, Request, Persisted, Estimate, Persist}
+use Rattle.script_actions.specs.Action.{PlainAction, Tick, Open, Close, Go, Evict, Act}
 use Rattle.agent_model.specs.CookieCells.{Cookies, Domain, domain_order}
 use Rattle.agent_model.specs.PartitionedCells.{partitioned_order}
 use Rattle.agent_model.specs.Partition.{Holdings, Partition, tab_named, with_tab}

@@ -8,8 +8,8 @@ use Rattle.unwinding.specs.World.{after_main, after_sides, consulted, outcome, w
 use Rattle.unwinding.specs.LocalEntries.{line_entries, line_touched, main_touched}
 use Rattle.origin_site.specs.Address.{PlainAddress}
 use Rattle.origin_site.specs.Site.{PlainSite, site_of_address}
-use Rattle.script_lines.specs.declared.words.Method.TheVariants as method
-use Rattle.script_lines.specs.Script.{HeadField, PlainAction, Open}
+use Rattle.script_actions.specs.declared.words.Method.TheVariants as method
+use Rattle.script_actions.specs.Action.{HeadField, PlainAction, Open}
 use Rattle.agent_model.specs.CookieCells.{Domain, Cookies, domain_order}
 use Rattle.agent_model.specs.PartitionedCells.{PartitionedKey, partitioned_order, no_partitioned_cells}
 use Rattle.agent_model.specs.Partition.{empty_partition, no_holdings}

@@ -7,9 +7,9 @@ use Rattle.std.specs.FinMap.{get-empty, get-insert}
 use Rattle.unwinding.specs.FiniteCells.{restrict_cells}
 use Rattle.unwinding.specs.World.{after_main, after_side, after_sides, consulted, world_step}
 use Rattle.storage_key.specs.Context.{is_of}
-use Rattle.script_lines.specs.declared.words.Method.TheVariants as method
+use Rattle.script_actions.specs.declared.words.Method.TheVariants as method
 use Rattle.reply_lines.specs.Reply.{PlainBody, Plain}
-use Rattle.script_lines.specs.Script.{PlainAction, Open}
+use Rattle.script_actions.specs.Action.{PlainAction, Open}
 use Rattle.agent_model.specs.Partition.{Holdings}
 use Rattle.agent_model.specs.CookieCells.{domain_order}
 use Rattle.agent_model.specs.Done.{SharedCells, no_shared_cells}

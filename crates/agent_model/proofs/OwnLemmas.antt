@@ -11,8 +11,8 @@ use Rattle.unwinding.proofs.OthersOut.{same_entries, step_alike}
 use Rattle.suffix_list.specs.Suffix.{Rule}
 use Rattle.origin_site.specs.Address.{PlainAddress}
 use Rattle.origin_site.specs.Site.{PlainSite, site_of_address}
-use Rattle.script_lines.specs.declared.words.Method.{Method}
-use Rattle.script_lines.specs.Script.{HeadField, PlainAction, Tick, Open, Close, Go, Evict, Act}
+use Rattle.script_actions.specs.declared.words.Method.{Method}
+use Rattle.script_actions.specs.Action.{HeadField, PlainAction, Tick, Open, Close, Go, Evict, Act}
 use Rattle.agent_model.specs.CookieCells.{Domain}
 use Rattle.agent_model.specs.Partition.{Partition}
 use Rattle.agent_model.specs.Done.{SharedCells, no_shared_cells}

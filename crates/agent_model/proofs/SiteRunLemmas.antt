@@ -9,7 +9,7 @@ use Rattle.suffix_list.specs.Suffix.{Rule}
 use Rattle.origin_site.specs.Site.{PlainSite, same_plain_site}
 use Rattle.origin_site.proofs.SameLemmas.{same_plain_site-Decides}
 use Rattle.storage_key.specs.Context.{is_of}
-use Rattle.script_lines.specs.Script.{PlainAction}
+use Rattle.script_actions.specs.Action.{PlainAction}
 use Rattle.agent_model.specs.CookieCells.{Domain, domain_order}
 use Rattle.agent_model.specs.Partition.{Partition}
 use Rattle.agent_model.specs.Done.{SharedCells, no_shared_cells}

@@ -14,8 +14,8 @@ use Rattle.frame_tree.specs.Calls.{opened}
 use Rattle.frame_tree.specs.Sandbox.{unrestricted}
 use Rattle.live_state.specs.Tabs.{PlainTab, made_tab}
 use Rattle.agent_base.specs.declared.refusals.Label.{Label}
-use Rattle.script_lines.specs.declared.words.Method.{Method}
-use Rattle.script_lines.specs.Script.{DocumentAction, HeadField, PlainAction, Tick, Open, Close, Go, Evict, Act}
+use Rattle.script_actions.specs.declared.words.Method.{Method}
+use Rattle.script_actions.specs.Action.{DocumentAction, HeadField, PlainAction, Tick, Open, Close, Go, Evict, Act}
 use Rattle.agent_model.specs.CookieCells.{Domain}
 use Rattle.agent_model.specs.Partition.{Partition, empty_partition, no_holdings, tab_named}
 use Rattle.agent_model.specs.Done.{SharedCells}

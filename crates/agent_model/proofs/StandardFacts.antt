@@ -13,8 +13,8 @@ use Rattle.frame_tree.specs.Document.{loaded}
 use Rattle.frame_tree.specs.Sandbox.{both, sandbox_of, unrestricted}
 use Rattle.frame_tree.specs.declared.tab.TreeFault.TheVariants.{NoFrame, FrameExists}
 use Rattle.frame_tree.specs.Keys.{key_of_frame}
-use Rattle.script_lines.specs.declared.words.Method.TheVariants as method
-use Rattle.script_lines.specs.Script.{HeadField}
+use Rattle.script_actions.specs.declared.words.Method.TheVariants as method
+use Rattle.script_actions.specs.Action.{HeadField}
 use Rattle.agent_model.specs.Partition.{Holdings, without_tab}
 use Rattle.agent_model.specs.SiteEvent.{SiteEvent, TimedEvent, Arrives, Leaves, Opens, Goes}
 use Rattle.agent_model.specs.Frames.{frames_added, frames_navigated, frames_removed}

@@ -10,9 +10,9 @@ use Rattle.frame_tree.specs.Document.{loaded}
 use Rattle.frame_tree.specs.Sandbox.{unrestricted}
 use Rattle.frame_tree.specs.Tree.{PlainFrame, document_of}
 use Rattle.live_state.specs.FramesInPlace.{requested}
-use Rattle.script_lines.specs.declared.words.Method.TheVariants as method
-use Rattle.script_lines.specs.declared.words.Prompt.{Prompt}
-use Rattle.script_lines.specs.declared.words.Prompt.TheVariants as prompt
+use Rattle.script_actions.specs.declared.words.Method.TheVariants as method
+use Rattle.script_actions.specs.declared.words.Prompt.{Prompt}
+use Rattle.script_actions.specs.declared.words.Prompt.TheVariants as prompt
 use Rattle.agent_model.specs.CookieUse.{consulted_by}
 use Rattle.agent_model.specs.CookieUses.{fetch_use, frame_use, nav_use}
 use Rattle.agent_model.specs.Frames.{frames_navigated}

@@ -29,8 +29,8 @@ use Rattle.frame_tree.proofs.KeyLemmas.{top-of-sites}
 use Rattle.frame_tree.proofs.ShapeLemmas.{has-reversed}
 use Rattle.frame_tree.proofs.TopLemmas.{top-document}
 use Rattle.live_state.specs.Tabs.{PlainTab}
-use Rattle.script_lines.specs.Script.{DocumentAction, Frame, Nav, Drop, Click, Fetch, Set, Get, Del, Clear, Len, Key}
-use Rattle.script_lines.specs.Script.{Events, Cookie, SetCookie, Has, Request, Persisted, Estimate, Persist}
+use Rattle.script_actions.specs.Action.{DocumentAction, Frame, Nav, Drop, Click, Fetch, Set, Get, Del, Clear, Len, Key}
+use Rattle.script_actions.specs.Action.{Events, Cookie, SetCookie, Has, Request, Persisted, Estimate, Persist}
 use Rattle.agent_model.specs.CookieCells.{Domain}
 use Rattle.agent_model.specs.Documents.{Keyed}
 use Rattle.agent_model.specs.CookieUse.{CookieUse, consulted_by, cookie_domain}

@@ -11,7 +11,7 @@ use Rattle.unwinding.specs.LocalEntries.{HeldCell, changed_cells, line_entries, 
 use Rattle.origin_site.specs.Site.{PlainSite, same_plain_site}
 use Rattle.storage_key.specs.Context.{is_of}
 use Rattle.live_state.specs.Tabs.{PlainTab}
-use Rattle.script_lines.specs.Script.{DocumentAction, PlainAction, Act}
+use Rattle.script_actions.specs.Action.{DocumentAction, PlainAction, Act}
 use Rattle.agent_model.specs.CookieCells.{Domain, Cookies, domain_order}
 use Rattle.agent_model.specs.Partition.{Holdings, Partition, tab_named}
 use Rattle.agent_model.specs.Done.{SharedCells}

@@ -15,8 +15,8 @@ use Rattle.frame_tree.specs.Calls.{is_https_chain}
 use Rattle.local_area.specs.Area.{area_weight}
 use Rattle.storage_events.specs.declared.event.AreaKind.TheVariants.{Local}
 use Rattle.live_state.specs.Tabs.{PlainTab}
-use Rattle.script_lines.specs.declared.words.Prompt.{Prompt}
-use Rattle.script_lines.specs.declared.words.Prompt.TheVariants as prompt
+use Rattle.script_actions.specs.declared.words.Prompt.{Prompt}
+use Rattle.script_actions.specs.declared.words.Prompt.TheVariants as prompt
 use Rattle.reply_lines.specs.Reply.{Plain, Truth, Estimate, Cleared}
 use Rattle.row_changes.specs.Change.{SetMode}
 use Rattle.agent_model.specs.Partition.{Areas, Holdings, is_under}

@@ -12,9 +12,9 @@ use Rattle.frame_tree.specs.Document.{PlainDocument}
 use Rattle.frame_tree.specs.Keys.{key_of_document}
 use Rattle.frame_tree.specs.Tree.{PlainFrame, document_of}
 use Rattle.live_state.specs.Tabs.{PlainTab}
-use Rattle.script_lines.specs.Script.{DocumentAction, Frame, Nav, Drop, Click, Fetch, Set, Get, Del}
-use Rattle.script_lines.specs.Script.{Clear, Len, Key, Events, Cookie, SetCookie, Has, Request}
-use Rattle.script_lines.specs.Script.{Persisted, Estimate, Persist}
+use Rattle.script_actions.specs.Action.{DocumentAction, Frame, Nav, Drop, Click, Fetch, Set, Get, Del}
+use Rattle.script_actions.specs.Action.{Clear, Len, Key, Events, Cookie, SetCookie, Has, Request}
+use Rattle.script_actions.specs.Action.{Persisted, Estimate, Persist}
 use Rattle.agent_model.specs.CookieCells.{Domain}
 use Rattle.agent_model.specs.Partition.{Partition, tab_named}
 use Rattle.agent_model.specs.Documents.{Keyed}

@@ -21,7 +21,7 @@ use Rattle.cookie_jar.specs.Persistent.{CookieRow, RowInsert, RowReplace, RowRem
 use Rattle.cookie_jar.specs.Persistent.{rows_of_steps}
 use Rattle.cookie_jar.specs.Steps.{after_steps}
 use Rattle.row_changes.specs.Change.{PlainChange, CookieInsert, CookieReplace, CookieRemove}
-use Rattle.script_lines.specs.Script.{HeadField}
+use Rattle.script_actions.specs.Action.{HeadField}
 use Rattle.agent_model.specs.CookieCells.{Cookies}
 use Rattle.agent_model.specs.CookieUse.{CookieUse, access_of, own_cell, partition_cell}
 use Rattle.agent_model.specs.CookieWords.{drop_word, parse_word, stored_word}

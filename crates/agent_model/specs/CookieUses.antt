@@ -15,8 +15,8 @@ use Rattle.storage_key.specs.Context.{context_of, is_first_party}
 use Rattle.frame_tree.specs.Document.{PlainDocument, same_document_origin}
 use Rattle.frame_tree.specs.Keys.{sites}
 use Rattle.frame_tree.specs.Tree.{PlainFrame, chain_of, document_of}
-use Rattle.script_lines.specs.declared.words.Method.{Method}
-use Rattle.script_lines.specs.declared.words.Method.TheVariants as method
+use Rattle.script_actions.specs.declared.words.Method.{Method}
+use Rattle.script_actions.specs.declared.words.Method.TheVariants as method
 use Rattle.agent_model.specs.CookieUse.{CookieUse}
 use Rattle.agent_model.specs.Documents.{Keyed}
 

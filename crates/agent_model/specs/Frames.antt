@@ -16,8 +16,8 @@ use Rattle.frame_tree.specs.Tree.{PlainFrame, has_frame}
 use Rattle.frame_tree.specs.Calls.{added, navigated, without, activated}
 use Rattle.origin_site.specs.Site.{PlainSite}
 use Rattle.live_state.specs.Tabs.{PlainTab, made_tab}
-use Rattle.script_lines.specs.declared.words.Method.{Method}
-use Rattle.script_lines.specs.Script.{HeadField}
+use Rattle.script_actions.specs.declared.words.Method.{Method}
+use Rattle.script_actions.specs.Action.{HeadField}
 use Rattle.reply_lines.specs.Reply.{PlainBody, Plain}
 use Rattle.agent_model.specs.Partition.{with_tab}
 use Rattle.agent_model.specs.Done.{Effect, answers, ok}

@@ -9,10 +9,10 @@ use Rattle.std.specs.List.{list_any}
 use Rattle.unwinding.specs.LeftOut.{Group, IsGroup, lines_without}
 use Rattle.suffix_list.specs.Suffix.{Rule}
 use Rattle.origin_site.specs.Site.{PlainSite}
-use Rattle.script_lines.specs.Script.{PlainAction, Tick, Open, Close, Go, Evict, Act}
-use Rattle.script_lines.specs.Script.{DocumentAction, Frame, Nav, Drop, Click, Fetch, Set, Get, Del}
-use Rattle.script_lines.specs.Script.{Clear, Len, Key, Events, Cookie, SetCookie, Has, Request}
-use Rattle.script_lines.specs.Script.{Persisted, Estimate, Persist}
+use Rattle.script_actions.specs.Action.{PlainAction, Tick, Open, Close, Go, Evict, Act}
+use Rattle.script_actions.specs.Action.{DocumentAction, Frame, Nav, Drop, Click, Fetch, Set, Get, Del}
+use Rattle.script_actions.specs.Action.{Clear, Len, Key, Events, Cookie, SetCookie, Has, Request}
+use Rattle.script_actions.specs.Action.{Persisted, Estimate, Persist}
 use Rattle.agent_model.specs.CookieCells.{Domain}
 use Rattle.agent_model.specs.Lines.{Rest, site_at}
 use Rattle.agent_model.specs.TheMachine.{machine, beginning}

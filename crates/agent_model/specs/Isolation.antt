@@ -7,7 +7,7 @@ use Rattle.unwinding.specs.OneSite.{EpochScript, epoch_script, epoch_run}
 use Rattle.suffix_list.specs.Suffix.{Rule}
 use Rattle.origin_site.specs.Site.{PlainSite}
 use Rattle.storage_key.specs.Context.{is_of}
-use Rattle.script_lines.specs.Script.{PlainAction}
+use Rattle.script_actions.specs.Action.{PlainAction}
 use Rattle.reply_lines.specs.Reply.{PlainReply, reply_text}
 use Rattle.agent_model.specs.CookieCells.{Domain, Cookies}
 use Rattle.agent_model.specs.Partition.{Partition}

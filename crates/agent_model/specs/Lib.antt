@@ -17,7 +17,7 @@ pub mod Frames
 pub mod StorageAccess
 pub mod Sessions
 pub mod SiteEvent
-pub mod ActionNames
+pub mod LoadNames
 pub mod SiteStep
 pub mod Lines
 pub mod SideEvents

@@ -10,8 +10,8 @@ use Rattle.unwinding.specs.Machine.{World, Occurrence}
 use Rattle.suffix_list.specs.Suffix.{Rule}
 use Rattle.origin_site.specs.Address.{PlainAddress}
 use Rattle.origin_site.specs.Site.{PlainSite, site_of_address, same_plain_site}
-use Rattle.script_lines.specs.declared.words.Method.{Method}
-use Rattle.script_lines.specs.Script.{HeadField, PlainAction, Tick, Open, Close, Go, Evict, Act}
+use Rattle.script_actions.specs.declared.words.Method.{Method}
+use Rattle.script_actions.specs.Action.{HeadField, PlainAction, Tick, Open, Close, Go, Evict, Act}
 use Rattle.agent_model.specs.Partition.{Partition}
 use Rattle.agent_model.specs.Done.{SharedCells}
 use Rattle.agent_model.specs.SiteEvent.{SiteEvent, Acts, Arrives, Closes, Evicts, Opens, Goes}

@@ -11,7 +11,7 @@ use Rattle.unwinding.specs.HeldOnly.{NoneHolds, OthersLeaveCell}
 use Rattle.suffix_list.specs.Suffix.{Rule}
 use Rattle.origin_site.specs.Site.{PlainSite, same_plain_site, site_of_address}
 use Rattle.storage_key.specs.Context.{is_of}
-use Rattle.script_lines.specs.Script.{PlainAction, Tick, Open, Close, Go, Evict, Act}
+use Rattle.script_actions.specs.Action.{PlainAction, Tick, Open, Close, Go, Evict, Act}
 use Rattle.agent_model.specs.CookieCells.{Domain}
 use Rattle.agent_model.specs.Partition.{Partition}
 use Rattle.agent_model.specs.Sessions.{has_session}

@@ -3,10 +3,10 @@
 use Rattle.std.specs.Prelude.{ℕ, ◌+◌, min, pos, List, Option, Some, None, codes}
 use Rattle.std.specs.FinMap as map
 use Rattle.suffix_list.specs.Suffix.{Rule}
-use Rattle.script_lines.specs.Script.{PlainAction, Tick, Open, Close, Go, Evict, Act}
+use Rattle.script_actions.specs.Action.{PlainAction, Tick, Open, Close, Go, Evict, Act}
 use Rattle.reply_lines.specs.Reply.{PlainBody, Plain, Now}
 use Rattle.agent_model.specs.SiteEvent.{Answer}
-use Rattle.agent_model.specs.ActionNames.{action_name}
+use Rattle.script_actions.specs.ActionNames.{action_name}
 use Rattle.agent_model.specs.Lines.{AgentWorld, Places, Rest, Starter, SiteOccurrence}
 use Rattle.agent_model.specs.Lines.{main_event, opener_of, placed}
 

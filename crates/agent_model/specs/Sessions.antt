@@ -13,8 +13,8 @@ use Rattle.origin_site.specs.Site.{PlainSite}
 use Rattle.local_area.specs.Area.{Pair}
 use Rattle.frame_tree.specs.Calls.{opened}
 use Rattle.live_state.specs.Tabs.{made_tab}
-use Rattle.script_lines.specs.declared.words.Method.{Method}
-use Rattle.script_lines.specs.Script.{HeadField}
+use Rattle.script_actions.specs.declared.words.Method.{Method}
+use Rattle.script_actions.specs.Action.{HeadField}
 use Rattle.agent_model.specs.Partition.{SessionKey, Holdings, is_under, with_tab, without_tab}
 use Rattle.agent_model.specs.Done.{Effect}
 use Rattle.agent_model.specs.CookieUses.{top_use}

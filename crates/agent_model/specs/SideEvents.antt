@@ -8,7 +8,7 @@ use Rattle.std.specs.Prelude.{if◌then◌else◌}
 use Rattle.suffix_list.specs.Suffix.{Rule}
 use Rattle.origin_site.specs.Site.{PlainSite, site_of_address, same_plain_site}
 use Rattle.storage_key.specs.Context.{is_of}
-use Rattle.script_lines.specs.Script.{PlainAction, Tick, Open, Close, Go, Evict, Act}
+use Rattle.script_actions.specs.Action.{PlainAction, Tick, Open, Close, Go, Evict, Act}
 use Rattle.agent_model.specs.Partition.{tab_named}
 use Rattle.agent_model.specs.SiteEvent.{Leaves, Copies, Closes, TimedEvent}
 use Rattle.agent_model.specs.Sessions.{has_session}

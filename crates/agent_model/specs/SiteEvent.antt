@@ -6,8 +6,8 @@ use Rattle.std.specs.Prelude.{ℕ, Bool, List, [], Some, None}
 use Rattle.agent_base.specs.declared.refusals.Label.{Label}
 use Rattle.unwinding.specs.Machine.{Outcome}
 use Rattle.origin_site.specs.Address.{PlainAddress}
-use Rattle.script_lines.specs.declared.words.Method.{Method}
-use Rattle.script_lines.specs.Script.{DocumentAction, HeadField}
+use Rattle.script_actions.specs.declared.words.Method.{Method}
+use Rattle.script_actions.specs.Action.{DocumentAction, HeadField}
 use Rattle.row_changes.specs.Change.{PlainChange}
 use Rattle.reply_lines.specs.Reply.{PlainBody}
 use Rattle.agent_model.specs.Partition.{Holdings, Partition}

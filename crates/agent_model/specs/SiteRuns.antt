@@ -9,7 +9,7 @@ use Rattle.unwinding.specs.World.{SiteReply}
 use Rattle.suffix_list.specs.Suffix.{Rule}
 use Rattle.origin_site.specs.Site.{PlainSite, same_plain_site}
 use Rattle.storage_key.specs.Context.{is_of}
-use Rattle.script_lines.specs.Script.{PlainAction}
+use Rattle.script_actions.specs.Action.{PlainAction}
 use Rattle.agent_model.specs.Partition.{Partition, empty_partition}
 use Rattle.agent_model.specs.Done.{no_shared_cells}
 use Rattle.agent_model.specs.SiteEvent.{TimedEvent, Answer, SiteOutcome}

@@ -7,9 +7,9 @@ use Rattle.agent_base.specs.declared.refusals.Label.{Label}
 use Rattle.suffix_list.specs.Suffix.{Rule}
 use Rattle.origin_site.specs.Site.{PlainSite}
 use Rattle.live_state.specs.Tabs.{PlainTab}
-use Rattle.script_lines.specs.Script.{DocumentAction, Frame, Nav, Drop, Click, Fetch, Set, Get, Del}
-use Rattle.script_lines.specs.Script.{Clear, Len, Key, Events, Cookie, SetCookie, Has, Request}
-use Rattle.script_lines.specs.Script.{Persisted, Estimate, Persist}
+use Rattle.script_actions.specs.Action.{DocumentAction, Frame, Nav, Drop, Click, Fetch, Set, Get, Del}
+use Rattle.script_actions.specs.Action.{Clear, Len, Key, Events, Cookie, SetCookie, Has, Request}
+use Rattle.script_actions.specs.Action.{Persisted, Estimate, Persist}
 use Rattle.agent_model.specs.Partition.{Partition, tab_named, without_tab}
 use Rattle.agent_model.specs.Done.{SharedCells, Effect, answers, ok}
 use Rattle.agent_model.specs.Documents.{with_key}
@@ -23,7 +23,8 @@ use Rattle.agent_model.specs.Queues.{take_events}
 use Rattle.agent_model.specs.Sessions.{arrive, close, copy_sessions}
 use Rattle.agent_model.specs.SiteEvent.{SiteEvent, Acts, Arrives, Leaves, Copies, Closes, Evicts}
 use Rattle.agent_model.specs.SiteEvent.{TimedEvent, SiteOutcome, replied, silent}
-use Rattle.agent_model.specs.ActionNames.{document_action_name, load_name}
+use Rattle.agent_model.specs.LoadNames.{load_name}
+use Rattle.script_actions.specs.ActionNames.{document_action_name}
 
 -- an action of a document in an open tab at this site
 abbrev pub act_in : List Rule → ℕ → PlainSite → Label → DocumentAction → PlainTab → Effect

@@ -26,8 +26,8 @@ use Rattle.access_grants.specs.Grant.{PlainGrant, grant_state, kept}
 use Rattle.access_grants.specs.Request.{first_row, has_access, request_rows}
 use Rattle.live_state.specs.FramesInPlace.{requested}
 use Rattle.live_state.specs.Tabs.{PlainTab}
-use Rattle.script_lines.specs.declared.words.Prompt.{Prompt}
-use Rattle.script_lines.specs.declared.words.Prompt.TheVariants as prompt
+use Rattle.script_actions.specs.declared.words.Prompt.{Prompt}
+use Rattle.script_actions.specs.declared.words.Prompt.TheVariants as prompt
 use Rattle.reply_lines.specs.Reply.{PlainBody, Plain, Truth}
 use Rattle.row_changes.specs.Change.{PlainChange, Grant}
 use Rattle.agent_model.specs.Done.{Effect, answers, changes_to}

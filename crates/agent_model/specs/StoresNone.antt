@@ -2,10 +2,10 @@
 -- script sets one.
 -- Source: RFC 6265bis, "Storage Model", where cookies come from; HTML, `document.cookie`.
 use Rattle.std.specs.Prelude.{◌≡◌, List, [], ◌∷◌}
-use Rattle.script_lines.specs.Script.{PlainAction, Tick, Open, Close, Go, Evict, Act}
-use Rattle.script_lines.specs.Script.{DocumentAction, Frame, Nav, Drop, Click, Fetch, Set, Get, Del}
-use Rattle.script_lines.specs.Script.{Clear, Len, Key, Events, Cookie, SetCookie, Has, Request}
-use Rattle.script_lines.specs.Script.{Persisted, Estimate, Persist}
+use Rattle.script_actions.specs.Action.{PlainAction, Tick, Open, Close, Go, Evict, Act}
+use Rattle.script_actions.specs.Action.{DocumentAction, Frame, Nav, Drop, Click, Fetch, Set, Get, Del}
+use Rattle.script_actions.specs.Action.{Clear, Len, Key, Events, Cookie, SetCookie, Has, Request}
+use Rattle.script_actions.specs.Action.{Persisted, Estimate, Persist}
 use Rattle.agent_model.specs.CookieStore.{cookie_texts}
 
 -- an action stores none: the head of its response has no such field, and it sets none

@@ -7,7 +7,7 @@ use Rattle.unwinding.specs.FiniteCells.{get_cell, set_cell, restrict_cells, merg
 use Rattle.suffix_list.specs.Suffix.{Rule}
 use Rattle.origin_site.specs.Site.{PlainSite, same_plain_site}
 use Rattle.row_changes.specs.Change.{PlainChange}
-use Rattle.script_lines.specs.Script.{PlainAction}
+use Rattle.script_actions.specs.Action.{PlainAction}
 use Rattle.agent_model.specs.CookieCells.{Domain, Cookies, domain_order, is_home, is_own}
 use Rattle.agent_model.specs.CookieCells.{equal_cookies}
 use Rattle.agent_model.specs.Partition.{Partition, empty_partition}

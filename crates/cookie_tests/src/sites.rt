@@ -4,7 +4,7 @@ ghost use Rattle.std.specs.Prelude.{◌≤◌};
 use agent_base::MemSource;
 use origin_site::{Address, Site};
 use reply_lines::ReplyBody;
-use script_lines::HeadField;
+use script_actions::HeadField;
 use std::alloc::Global;
 use std::process::Abort;
 use std::test::Fail;

@@ -5,7 +5,7 @@ use Rattle.origin_site.specs.Site.{PlainSite}
 use Rattle.frame_tree.specs.Calls.{is_https_chain}
 use Rattle.row_changes.specs.Change.{SetMode}
 use Rattle.live_state.specs.Tabs.{PlainTab}
-use Rattle.script_lines.specs.declared.words.Prompt.{Prompt}
+use Rattle.script_actions.specs.declared.words.Prompt.{Prompt}
 use Rattle.reply_lines.specs.Reply.{Plain, Truth}
 use Rattle.agent_model.specs.CookieCells.{Domain}
 use Rattle.agent_model.specs.Partition.{Holdings}

@@ -8,7 +8,7 @@ use Rattle.unwinding.specs.Facts.{DurableFacts, Facts, KeepingFacts}
 use Rattle.suffix_list.specs.Suffix.{Rule}
 use Rattle.origin_site.specs.Site.{PlainSite, same_plain_site}
 use Rattle.cookie_jar.specs.Persistent.{kept}
-use Rattle.script_lines.specs.Script.{PlainAction}
+use Rattle.script_actions.specs.Action.{PlainAction}
 use Rattle.row_changes.specs.Change.{PlainChange}
 use Rattle.agent_model.specs.CookieCells.{Cookies, Domain, domain_order}
 use Rattle.agent_model.specs.SiteEvent.{TimedEvent}

@@ -11,7 +11,7 @@ use Rattle.frame_tree.specs.Tree.{PlainFrame}
 use Rattle.stored_cookie.specs.StoredCookie.{PlainCookie}
 use Rattle.cookie_jar.specs.Cookie.{copies}
 use Rattle.live_state.specs.Tabs.{PlainTab, made_tab}
-use Rattle.script_lines.specs.Script.{DocumentAction}
+use Rattle.script_actions.specs.Action.{DocumentAction}
 use Rattle.agent_model.specs.CookieCells.{Domain, domain_order}
 use Rattle.agent_model.specs.PartitionedCells.{PartitionedKey, partitioned_order}
 use Rattle.agent_model.specs.Partition.{Holdings, Partition, tab_named, without_tab}

@@ -12,7 +12,7 @@ use Rattle.cookie_jar.specs.Cookie.{copies}
 use Rattle.cookie_jar.specs.Persistent.{kept}
 use Rattle.cookie_jar.proofs.MarkLemmas.{kept_marked, marked_copies}
 use Rattle.row_changes.specs.Change.{PlainChange}
-use Rattle.script_lines.specs.Script.{HeadField}
+use Rattle.script_actions.specs.Action.{HeadField}
 use Rattle.reply_lines.specs.Reply.{PlainBody, Load, SetOne}
 use Rattle.agent_model.specs.CookieCells.{Cookies, Domain, domain_order}
 use Rattle.agent_model.specs.PartitionedCells.{PartitionedKey, partitioned_order}

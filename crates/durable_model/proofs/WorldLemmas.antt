@@ -8,7 +8,7 @@ use Rattle.origin_site.specs.Site.{PlainSite, same_plain_site}
 use Rattle.origin_site.proofs.SameLemmas.{same_plain_site-Decides}
 use Rattle.stored_cookie.specs.StoredCookie.{PlainCookie}
 use Rattle.cookie_jar.specs.Cookie.{copies}
-use Rattle.script_lines.specs.Script.{PlainAction, Tick, Open, Close, Go, Evict, Act}
+use Rattle.script_actions.specs.Action.{PlainAction, Tick, Open, Close, Go, Evict, Act}
 use Rattle.agent_model.specs.CookieCells.{Domain, domain_order}
 use Rattle.agent_model.specs.Partition.{Partition}
 use Rattle.agent_model.specs.Done.{SharedCells}

@@ -12,7 +12,7 @@ use Rattle.unwinding.specs.Transcript as general_text
 use Rattle.unwinding.specs.Admissible.{Step, History, history_epochs}
 use Rattle.suffix_list.specs.Suffix.{Rule}
 use Rattle.origin_site.specs.Site.{PlainSite}
-use Rattle.script_lines.specs.Script.{PlainAction}
+use Rattle.script_actions.specs.Action.{PlainAction}
 use Rattle.agent_model.specs.CookieCells.{CookieCells, Cookies, Domain}
 use Rattle.agent_model.specs.SiteEvent.{Answer, TimedEvent}
 use Rattle.agent_model.specs.Lines.{AgentWorld, Rest, no_places}

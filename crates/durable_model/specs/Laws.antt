@@ -8,7 +8,7 @@ use Rattle.unwinding.specs.Setting.{Setting}
 use Rattle.unwinding.specs.Laws.{RestartProjects}
 use Rattle.suffix_list.specs.Suffix.{Rule}
 use Rattle.origin_site.specs.Site.{PlainSite}
-use Rattle.script_lines.specs.Script.{PlainAction}
+use Rattle.script_actions.specs.Action.{PlainAction}
 use Rattle.row_changes.specs.Change.{PlainChange}
 use Rattle.agent_model.specs.CookieCells.{CookieCells, Cookies, Domain}
 use Rattle.agent_model.specs.Partition.{Partition}

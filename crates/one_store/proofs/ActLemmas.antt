@@ -4,8 +4,8 @@ use Rattle.agent_base.specs.declared.refusals.Label.{Label}
 use Rattle.suffix_list.specs.Suffix.{Rule}
 use Rattle.origin_site.specs.Site.{PlainSite, same_plain_site}
 use Rattle.live_state.specs.Tabs.{PlainTab}
-use Rattle.script_lines.specs.Script.{DocumentAction, Frame, Nav, Drop, Click, Fetch, Set, Get, Del, Clear, Len, Key}
-use Rattle.script_lines.specs.Script.{Events, Cookie, SetCookie, Has, Request, Persisted, Estimate, Persist}
+use Rattle.script_actions.specs.Action.{DocumentAction, Frame, Nav, Drop, Click, Fetch, Set, Get, Del, Clear, Len, Key}
+use Rattle.script_actions.specs.Action.{Events, Cookie, SetCookie, Has, Request, Persisted, Estimate, Persist}
 use Rattle.agent_model.specs.Partition.{Holdings, tab_named}
 use Rattle.agent_model.specs.Done.{SharedCells, answers, ok}
 use Rattle.agent_model.specs.CookieUses.{fetch_use, frame_use, nav_use}

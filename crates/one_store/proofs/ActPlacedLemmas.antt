@@ -8,7 +8,7 @@ use Rattle.frame_tree.specs.declared.tab.TreeFault.{TreeFault}
 use Rattle.frame_tree.specs.Tree.{PlainFrame, IsTree, top_site}
 use Rattle.live_state.specs.FramesInPlace.{requested}
 use Rattle.live_state.specs.Tabs.{PlainTab}
-use Rattle.script_lines.specs.Script.{DocumentAction}
+use Rattle.script_actions.specs.Action.{DocumentAction}
 use Rattle.agent_model.specs.Partition.{Holdings, tab_named}
 use Rattle.agent_model.specs.Done.{SharedCells}
 use Rattle.agent_model.specs.Frames.{frames_added, frames_navigated, frames_removed, frames_clicked}

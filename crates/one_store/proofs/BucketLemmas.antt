@@ -8,7 +8,7 @@ use Rattle.storage_key.proofs.OrderLemmas.{key_order_total, key_order_same}
 use Rattle.frame_tree.specs.Calls.{is_https_chain}
 use Rattle.local_area.specs.Area.{area_weight}
 use Rattle.storage_events.specs.declared.event.AreaKind.TheVariants.{Local}
-use Rattle.script_lines.specs.declared.words.Prompt.{Prompt}
+use Rattle.script_actions.specs.declared.words.Prompt.{Prompt}
 use Rattle.reply_lines.specs.Reply.{Plain, Truth, Estimate, Cleared}
 use Rattle.live_state.specs.Tabs.{PlainTab}
 use Rattle.agent_model.specs.Partition.{Holdings, is_under}

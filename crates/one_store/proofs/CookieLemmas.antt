@@ -5,7 +5,7 @@ use Rattle.suffix_list.specs.Suffix.{Rule}
 use Rattle.origin_site.specs.Site.{PlainSite, same_plain_site}
 use Rattle.cookie_jar.specs.Sending.{joined}
 use Rattle.reply_lines.specs.Reply.{PlainBody, Cookie, Load, SetOne}
-use Rattle.script_lines.specs.Script.{HeadField}
+use Rattle.script_actions.specs.Action.{HeadField}
 use Rattle.agent_model.specs.CookieCells.{Cookies}
 use Rattle.agent_model.specs.PartitionedCells.{PartitionedKey, partitioned_order}
 use Rattle.agent_model.specs.Partition.{Holdings, is_cell_under}

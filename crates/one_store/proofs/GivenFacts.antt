@@ -8,8 +8,8 @@ use Rattle.unwinding.specs.Durable.{DurableChange}
 use Rattle.unwinding.specs.World.{SiteReply}
 use Rattle.origin_site.specs.Site.{PlainSite, same_plain_site, site_of_address}
 use Rattle.row_changes.specs.Change.{PlainChange}
-use Rattle.script_lines.specs.declared.words.Method.TheVariants as method
-use Rattle.script_lines.specs.Script.{PlainAction, Tick, Open}
+use Rattle.script_actions.specs.declared.words.Method.TheVariants as method
+use Rattle.script_actions.specs.Action.{PlainAction, Tick, Open}
 use Rattle.agent_model.specs.Partition.{Holdings, no_holdings}
 use Rattle.agent_model.specs.Done.{SharedCells, Done, no_shared_cells}
 use Rattle.agent_model.specs.SiteEvent.{TimedEvent, Answer, Arrives, Opens}

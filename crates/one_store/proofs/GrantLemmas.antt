@@ -15,7 +15,7 @@ use Rattle.access_grants.proofs.PartLemmas.{find_under, kept_at, kept_own}
 use Rattle.frame_tree.specs.Tree.{PlainFrame}
 use Rattle.live_state.specs.FramesInPlace.{requested}
 use Rattle.live_state.specs.Tabs.{PlainTab}
-use Rattle.script_lines.specs.declared.words.Prompt.{Prompt}
+use Rattle.script_actions.specs.declared.words.Prompt.{Prompt}
 use Rattle.reply_lines.specs.Reply.{PlainBody, Plain}
 use Rattle.agent_model.specs.Partition.{Holdings}
 use Rattle.agent_model.specs.Done.{SharedCells, Effect, changes_to}

@@ -6,8 +6,8 @@ use Rattle.suffix_list.specs.Suffix.{Rule}
 use Rattle.origin_site.specs.Address.{PlainAddress}
 use Rattle.origin_site.specs.Site.{PlainSite, site_of_address}
 use Rattle.live_state.specs.Tabs.{PlainTab}
-use Rattle.script_lines.specs.declared.words.Method.{Method}
-use Rattle.script_lines.specs.Script.{PlainAction, Tick, Open, Close, Go, Evict, Act, DocumentAction, HeadField}
+use Rattle.script_actions.specs.declared.words.Method.{Method}
+use Rattle.script_actions.specs.Action.{PlainAction, Tick, Open, Close, Go, Evict, Act, DocumentAction, HeadField}
 use Rattle.agent_model.specs.Partition.{tab_named}
 use Rattle.agent_model.specs.Lines.{Starter, is_same_site, opener_of, site_at}
 use Rattle.agent_model.specs.TheMachine.{machine}

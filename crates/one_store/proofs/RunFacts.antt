@@ -16,10 +16,10 @@ use Rattle.local_area.specs.Area.{area_get, area_put}
 use Rattle.local_area.specs.Put.{put_answer}
 use Rattle.storage_events.specs.declared.event.AreaKind.TheVariants.{Local}
 use Rattle.storage_events.specs.Event.{PlainEvent}
-use Rattle.script_lines.specs.declared.words.Method.TheVariants as method
+use Rattle.script_actions.specs.declared.words.Method.TheVariants as method
 use Rattle.reply_lines.specs.Reply.{PlainBody, Cookie, Load, Text}
-use Rattle.script_lines.specs.Script.{PlainAction, DocumentAction, HeadField, Open, Act, Set, Get}
-use Rattle.script_lines.specs.Script as script
+use Rattle.script_actions.specs.Action.{PlainAction, DocumentAction, HeadField, Open, Act, Set, Get}
+use Rattle.script_actions.specs.Action as script
 use Rattle.cookie_jar.specs.Sending.{joined}
 use Rattle.agent_model.specs.CookieCells.{Cookies, domain_order}
 use Rattle.agent_model.specs.PartitionedCells.{PartitionedKey, partitioned_order}

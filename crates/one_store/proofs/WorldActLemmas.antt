@@ -13,13 +13,13 @@ use Rattle.origin_site.specs.Address.{PlainAddress}
 use Rattle.origin_site.specs.Site.{PlainSite, same_plain_site, site_of_address}
 use Rattle.storage_key.specs.Context.{is_of}
 use Rattle.live_state.specs.Tabs.{PlainTab}
-use Rattle.script_lines.specs.declared.words.Method.{Method}
+use Rattle.script_actions.specs.declared.words.Method.{Method}
 use Rattle.reply_lines.specs.Reply.{Plain}
-use Rattle.script_lines.specs.Script.{Close, Go, Act, DocumentAction, HeadField}
+use Rattle.script_actions.specs.Action.{Close, Go, Act, DocumentAction, HeadField}
 use Rattle.agent_model.specs.Partition.{Holdings, Partition, tab_named}
 use Rattle.agent_model.specs.Done.{SharedCells, Done}
 use Rattle.agent_model.specs.SiteEvent.{Acts, Closes, TimedEvent, replied}
-use Rattle.agent_model.specs.ActionNames.{document_action_name}
+use Rattle.script_actions.specs.ActionNames.{document_action_name}
 use Rattle.agent_model.specs.SiteStep.{act_in, act, site_step}
 use Rattle.agent_model.specs.Lines.{AgentWorld, Places, site_at, occurs, going, main_event}
 use Rattle.agent_model.specs.SideEvents.{leaves, closes, side_event}

@@ -10,7 +10,7 @@ use Rattle.origin_site.specs.Site.{PlainSite, same_plain_site}
 use Rattle.storage_key.specs.Context.{is_of}
 use Rattle.live_state.specs.Tabs.{PlainTab}
 use Rattle.reply_lines.specs.Reply.{Now}
-use Rattle.script_lines.specs.Script.{Tick, Close, Evict}
+use Rattle.script_actions.specs.Action.{Tick, Close, Evict}
 use Rattle.agent_model.specs.Partition.{Partition, Holdings, tab_named}
 use Rattle.agent_model.specs.Done.{SharedCells, no_shared_cells, ok}
 use Rattle.agent_model.specs.SiteEvent.{Closes, Evicts, replied}

@@ -8,7 +8,7 @@ use Rattle.unwinding.specs.World.{SiteReply, consulted, is_in, after_side, after
 use Rattle.suffix_list.specs.Suffix.{Rule}
 use Rattle.origin_site.specs.Site.{PlainSite, same_plain_site}
 use Rattle.origin_site.proofs.SameLemmas.{same_plain_site-Decides}
-use Rattle.script_lines.specs.Script.{PlainAction}
+use Rattle.script_actions.specs.Action.{PlainAction}
 use Rattle.reply_lines.specs.Reply.{PlainBody}
 use Rattle.agent_model.specs.CookieCells.{Domain, domain_order, is_own}
 use Rattle.agent_model.specs.Partition.{Partition}

@@ -10,13 +10,14 @@ use Rattle.suffix_list.specs.Suffix.{Rule}
 use Rattle.origin_site.specs.Address.{PlainAddress}
 use Rattle.origin_site.specs.Site.{PlainSite, same_plain_site, site_of_address}
 use Rattle.storage_key.specs.Context.{is_of}
-use Rattle.script_lines.specs.declared.words.Method.{Method}
-use Rattle.script_lines.specs.Script.{HeadField, PlainAction, Go}
+use Rattle.script_actions.specs.declared.words.Method.{Method}
+use Rattle.script_actions.specs.Action.{HeadField, PlainAction, Go}
 use Rattle.agent_model.specs.Partition.{Holdings, Partition}
 use Rattle.agent_model.specs.Done.{SharedCells, Done}
 use Rattle.agent_model.specs.SiteEvent.{TopLoad, Goes, Arrives, Leaves, TimedEvent, replied}
 use Rattle.agent_model.specs.Sessions.{arrive, show}
-use Rattle.agent_model.specs.ActionNames.{action_name, load_name}
+use Rattle.agent_model.specs.LoadNames.{load_name}
+use Rattle.script_actions.specs.ActionNames.{action_name}
 use Rattle.agent_model.specs.SiteStep.{site_step}
 use Rattle.agent_model.specs.Lines.{AgentWorld, Places, site_at, placed, goer_of, is_same_site, going, main_event}
 use Rattle.agent_model.specs.SideEvents.{where_so, leaves, side_event}

@@ -6,9 +6,9 @@ use Rattle.origin_site.specs.Address.{PlainAddress}
 use Rattle.origin_site.specs.Site.{PlainSite, same_plain_site, site_of_address}
 use Rattle.origin_site.proofs.SameLemmas.{same_plain_site-Decides}
 use Rattle.storage_key.specs.Context.{is_of}
-use Rattle.script_lines.specs.declared.words.Method.{Method}
+use Rattle.script_actions.specs.declared.words.Method.{Method}
 use Rattle.reply_lines.specs.Reply.{Plain}
-use Rattle.script_lines.specs.Script.{HeadField, Open}
+use Rattle.script_actions.specs.Action.{HeadField, Open}
 use Rattle.agent_model.specs.Partition.{Holdings}
 use Rattle.agent_model.specs.Done.{SharedCells, Done}
 use Rattle.agent_model.specs.SiteEvent.{Opens, Copies}

@@ -5,7 +5,7 @@ use Rattle.unwinding.specs.Durable.{line_changes}
 use Rattle.unwinding.specs.World.{SiteReply, line_reply, world_step}
 use Rattle.suffix_list.specs.Suffix.{Rule}
 use Rattle.origin_site.specs.Site.{PlainSite}
-use Rattle.script_lines.specs.Script.{PlainAction}
+use Rattle.script_actions.specs.Action.{PlainAction}
 use Rattle.agent_model.specs.Lines.{AgentWorld}
 use Rattle.agent_model.specs.SiteEvent.{Answer}
 use Rattle.agent_model.specs.TheMachine.{machine}

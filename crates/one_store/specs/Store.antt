@@ -14,16 +14,16 @@ use Rattle.origin_site.specs.Address.{PlainAddress}
 use Rattle.origin_site.specs.Site.{PlainSite, site_of_address}
 use Rattle.live_state.specs.Tabs.{PlainTab}
 use Rattle.row_changes.specs.Change.{PlainChange}
-use Rattle.script_lines.specs.declared.words.Method.{Method}
+use Rattle.script_actions.specs.declared.words.Method.{Method}
 use Rattle.reply_lines.specs.Reply.{PlainBody, Plain, Now}
-use Rattle.script_lines.specs.Script.{PlainAction, Tick, Open, Close, Go, Evict, Act}
-use Rattle.script_lines.specs.Script.{DocumentAction, HeadField}
+use Rattle.script_actions.specs.Action.{PlainAction, Tick, Open, Close, Go, Evict, Act}
+use Rattle.script_actions.specs.Action.{DocumentAction, HeadField}
 use Rattle.agent_model.specs.Partition.{Holdings, no_holdings, tab_named}
 use Rattle.agent_model.specs.Done.{SharedCells, Done, no_shared_cells, answers, ok}
 use Rattle.agent_model.specs.Buckets.{evict}
 use Rattle.agent_model.specs.Sessions.{arrive, close, copy_sessions}
 use Rattle.agent_model.specs.SiteEvent.{Answer}
-use Rattle.agent_model.specs.ActionNames.{action_name}
+use Rattle.script_actions.specs.ActionNames.{action_name}
 use Rattle.agent_model.specs.SiteStep.{act_in}
 use Rattle.agent_model.specs.Lines.{Places, Starter, no_places, placed, site_at}
 use Rattle.agent_model.specs.Lines.{goer_of, is_same_site, opener_of}

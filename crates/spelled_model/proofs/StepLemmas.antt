@@ -7,7 +7,7 @@ use Rattle.suffix_list.specs.Suffix.{Rule}
 use Rattle.origin_site.specs.Site.{PlainSite, site_of_address}
 use Rattle.frame_tree.specs.Calls.{opened}
 use Rattle.live_state.specs.Tabs.{PlainTab, made_tab}
-use Rattle.script_lines.specs.Script.{DocumentAction}
+use Rattle.script_actions.specs.Action.{DocumentAction}
 use Rattle.agent_model.specs.Partition.{Holdings, Partition, tab_named, without_tab}
 use Rattle.agent_model.specs.Done.{SharedCells}
 use Rattle.agent_model.specs.CookieUses.{top_use}

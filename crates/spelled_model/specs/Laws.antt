@@ -7,7 +7,7 @@ use Rattle.std.specs.List.{All}
 use Rattle.unwinding.specs.World.{world_step}
 use Rattle.unwinding.specs.Durable.{line_changes}
 use Rattle.suffix_list.specs.Suffix.{Rule}
-use Rattle.script_lines.specs.Script.{PlainAction}
+use Rattle.script_actions.specs.Action.{PlainAction}
 use Rattle.row_changes.specs.Appended.{HasTexts}
 use Rattle.row_changes.specs.Change.{PlainChange}
 use Rattle.row_changes.specs.Spelled.{IsSpelled}

@@ -10,7 +10,7 @@ use Rattle.cookie_jar.specs.Key.{PlainKey, OwnCell, plain_key}
 use Rattle.cookie_jar.specs.Sending.{joined, marked}
 use Rattle.reply_lines.specs.Plain.{body_of}
 use Rattle.reply_lines.specs.Reply.{Cookie, Load, SetOne}
-use Rattle.script_lines.specs.Script.{HeadField}
+use Rattle.script_actions.specs.Action.{HeadField}
 use Rattle.agent_model.specs.CookieCells.{Cookies}
 use Rattle.agent_model.specs.Partition.{Holdings}
 use Rattle.agent_model.specs.Done.{Effect, answers}

@@ -21,7 +21,7 @@ use Rattle.web_cookies.specs.Words.{IsStored, IsWordOf, IsWordOfDrop, jar_left, 
 use Rattle.std.specs.List.{list_any}
 use Rattle.case_tables.specs.Rows.{same_in_any_case}
 use Rattle.suffix_list.specs.Suffix.{Rule}
-use Rattle.script_lines.specs.Script.{HeadField}
+use Rattle.script_actions.specs.Action.{HeadField}
 use Rattle.agent_model.specs.CookieUse.{CookieUse, access_of, own_cell, partition_cell, uses_own}
 use Rattle.agent_model.specs.CookieStore.{BothCells, cookie_texts, done_by, dropped_by, store_parsed, store_text, store_texts, stored_in}
 

@@ -2,7 +2,7 @@
 ghost use Rattle.std.specs.Prelude.{◌≡◌, ◌≤◌, ◌+◌, ◌++◌, ◌∷◌, [], IfOk, OnOk, codes, pos, length, map};
 ghost use Rattle.std.specs.List.{list_any};
 ghost use Rattle.cookie_jar.specs.Sending.{marked};
-ghost use Rattle.script_lines.specs.Plain.{head_field_of};
+ghost use Rattle.script_actions.specs.Plain.{head_field_of};
 ghost use Rattle.setcookie_parse.specs.SetCookie.{Kept};
 ghost use Rattle.setcookie_parse.specs.Views.{cookie_view};
 ghost use Rattle.agent_model.specs.CookieStore as spec;
@@ -27,7 +27,7 @@ use agent_base::NoMemory;
 use cookie_jar::{Access, CellKey, CookieDrop, Destination, Jar, Plan, destination};
 use partition_limits::CellKind;
 use row_changes::Change;
-use script_lines::HeadField;
+use script_actions::HeadField;
 use setcookie_parse::{CookieText, Parsed, parse};
 use std::alloc::Global;
 use std::marker::Model;

@@ -3,7 +3,7 @@ ghost use Rattle.std.specs.Prelude.{◌≡◌, ◌≤◌, [], IfOk, IfSome, OnEr
 ghost use Rattle.cookie_jar.specs.Key.{PlainKey, plain_key};
 ghost use Rattle.partition_limits.specs.declared.tally.CellKind.TheVariants as kind;
 ghost use Rattle.reply_lines.specs.Plain.{body_of};
-ghost use Rattle.script_lines.specs.Plain.{head_field_of};
+ghost use Rattle.script_actions.specs.Plain.{head_field_of};
 ghost use Rattle.agent_model.specs.CookieCells.{no_cookies};
 ghost use Rattle.agent_model.specs.PartitionedCells.{no_partitioned_cells};
 ghost use Rattle.agent_model.specs.Cookies.{read_cookies_by, request, set_cookie_by};
@@ -27,7 +27,7 @@ use key_map::KeyMap;
 use partition_limits::CellKind;
 use reply_lines::ReplyBody;
 use row_changes::Change;
-use script_lines::HeadField;
+use script_actions::HeadField;
 use std::alloc::Global;
 use std::marker::Model;
 use suffix_list::SuffixList;

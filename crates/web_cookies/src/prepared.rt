@@ -3,7 +3,7 @@ ghost use Rattle.std.specs.Prelude.{◌≡◌, ◌≤◌, ℕ, List, [], IfSome,
 ghost use Rattle.cookie_jar.specs.Key.{PlainKey, plain_key};
 ghost use Rattle.partition_limits.specs.declared.tally.CellKind.TheVariants as kind;
 ghost use Rattle.suffix_list.specs.Suffix.{Rule};
-ghost use Rattle.script_lines.specs.Script as script;
+ghost use Rattle.script_actions.specs.Action as script;
 ghost use Rattle.agent_model.specs.CookieUse as model;
 ghost use Rattle.agent_model.specs.CookieStore.{cookie_texts};
 ghost use Rattle.agent_model.specs.Cookies.{request};

@@ -30,7 +30,7 @@ use live_state::Live;
 use origin_site::Site;
 use reply_lines::ReplyBody;
 use row_changes::ChangeRef;
-use script_lines::Prompt;
+use script_actions::Prompt;
 use std::alloc::Global;
 use suffix_list::SuffixList;
 

@@ -3,7 +3,7 @@ ghost use Rattle.std.specs.Prelude.{◌≡◌, ◌≤◌, IfSome, Some, false, t
 ghost use Rattle.storage_key.specs.Plain.{plain_key};
 ghost use Rattle.live_state.specs.Queues.{has_document};
 ghost use Rattle.live_state.specs.Tabs.{is_open};
-ghost use Rattle.script_lines.specs.Plain.{action_of};
+ghost use Rattle.script_actions.specs.Plain.{action_of};
 ghost use Rattle.agent_model.specs.Rest.{last_moment};
 ghost use Rattle.agent_model.specs.Documents.{with_key};
 ghost use Rattle.agent_model.specs.SiteStep.{act_in};
@@ -17,7 +17,7 @@ use crate::holdings::{Found, Holdings, key_at};
 use crate::replies::answer;
 use agent_base::{Label, NoMemory};
 use reply_lines::ReplyBody;
-use script_lines::Action;
+use script_actions::Action;
 use std::alloc::Global;
 use storage_key::StorageKey;
 use suffix_list::SuffixList;

@@ -4,7 +4,7 @@ ghost use Rattle.std.specs.FinMap as finite;
 ghost use Rattle.origin_site.specs.Plain.{plain_address, plain_site};
 ghost use Rattle.origin_site.specs.Site.{site_of_address};
 ghost use Rattle.live_state.specs.Tabs.{is_open};
-ghost use Rattle.script_lines.specs.Plain.{head_field_of};
+ghost use Rattle.script_actions.specs.Plain.{head_field_of};
 ghost use Rattle.reply_lines.specs.Plain.{body_of};
 ghost use Rattle.agent_model.specs.Lines.{is_same_site, placed};
 ghost use Rattle.agent_model.specs.Rest.{last_moment};
@@ -23,7 +23,7 @@ use agent_base::NoMemory;
 use frame_tree::Tab;
 use origin_site::{Address, Site};
 use reply_lines::ReplyBody;
-use script_lines::{HeadField, Method};
+use script_actions::{HeadField, Method};
 use std::alloc::Global;
 use suffix_list::SuffixList;
 

@@ -32,7 +32,7 @@ use agent_base::{Label, NoMemory};
 use origin_site::Site;
 use reply_lines::ReplyBody;
 use row_changes::{Change, ChangeRef};
-use script_lines::Prompt;
+use script_actions::Prompt;
 use std::alloc::Global;
 use storage_key::StorageKey;
 use web_storage::Storage;

@@ -1,7 +1,7 @@
 use Rattle.std.proofs.Common.{Ok, sym, subst}
 use Rattle.std.specs.Prelude.{IfSome}
-use Rattle.script_lines.specs.Plain.{action_of}
-use Rattle.script_lines.specs.declared.action.Action.{Action}
+use Rattle.script_actions.specs.Plain.{action_of}
+use Rattle.script_actions.specs.declared.action.Action.{Action}
 use Rattle.agent_model.specs.SiteStep.{act_in}
 use Rattle.agent_memory.specs.ActionKinds.{document_action}
 use Rattle.agent_memory.specs.Actions.{ActsIn}

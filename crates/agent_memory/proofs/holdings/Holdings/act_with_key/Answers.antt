@@ -1,6 +1,6 @@
 use Rattle.std.proofs.Common.{refl, sym, subst}
 use Rattle.std.proofs.lemmas.Option.{IfSome_then}
-use Rattle.script_lines.specs.Plain.{action_of}
+use Rattle.script_actions.specs.Plain.{action_of}
 use Rattle.agent_memory.specs.Documents.{IsFound, key_wanted}
 use Rattle.agent_memory.specs.ActionKinds.{by_keyed}
 use Rattle.agent_memory.specs.Actions.{Acts}

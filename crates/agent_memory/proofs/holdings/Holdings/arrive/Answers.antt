@@ -3,7 +3,7 @@ use Rattle.std.proofs.Common.{◌≡◌, Ok, map, refl, sym, ap, subst, ◌∙�
 use Rattle.origin_site.specs.Plain.{plain_address}
 use Rattle.origin_site.specs.Site.{site_of_address}
 use Rattle.reply_lines.specs.Plain.{body_of}
-use Rattle.script_lines.specs.Plain.{head_field_of}
+use Rattle.script_actions.specs.Plain.{head_field_of}
 use Rattle.web_cookies.specs.Prepared.{Prepares}
 use Rattle.web_cookies.specs.Stored.{shared_in}
 use Rattle.agent_model.specs.CookieUses.{top_use}

@@ -5,7 +5,7 @@ use Rattle.frame_tree.specs.Tree.{chain_of, has_frame, top_site}
 use Rattle.live_state.specs.Queues.{has_document}
 use Rattle.live_state.specs.Tabs.{PlainTab, tab_at}
 use Rattle.reply_lines.specs.Plain.{body_of}
-use Rattle.script_lines.specs.Plain.{head_field_of}
+use Rattle.script_actions.specs.Plain.{head_field_of}
 use Rattle.agent_model.specs.CookieUses.{fetch_use, request_use}
 use Rattle.agent_model.specs.Cookies.{fetch, request}
 use Rattle.agent_model.specs.Done.{Effect}

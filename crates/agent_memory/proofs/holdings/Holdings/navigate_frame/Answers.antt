@@ -8,7 +8,7 @@ use Rattle.live_state.specs.FramesInPlace.{frames_at}
 use Rattle.live_state.specs.Queues.{frames_by, has_document}
 use Rattle.live_state.specs.Tabs.{PlainTab, is_open, tab_at}
 use Rattle.reply_lines.specs.Plain.{body_of}
-use Rattle.script_lines.specs.Plain.{head_field_of}
+use Rattle.script_actions.specs.Plain.{head_field_of}
 use Rattle.agent_model.specs.CookieUses.{chain_above, nav_use, request_use, starter_of}
 use Rattle.agent_model.specs.Cookies.{request}
 use Rattle.agent_model.specs.Frames.{frames_navigated, navigate_frame, on_frames}

@@ -1,8 +1,8 @@
 use Rattle.std.proofs.Common.{sym, subst}
 use Rattle.std.specs.Prelude.{IfSome}
 use Rattle.storage_key.specs.Plain.{plain_key}
-use Rattle.script_lines.specs.Plain.{action_of}
-use Rattle.script_lines.specs.declared.action.Action.{Action}
+use Rattle.script_actions.specs.Plain.{action_of}
+use Rattle.script_actions.specs.declared.action.Action.{Action}
 use Rattle.agent_memory.specs.ActionKinds.{by_keyed}
 use Rattle.agent_memory.specs.Actions.{ActsAt}
 use Rattle.agent_memory.specs.Writes.{WritesAt}

@@ -1,7 +1,7 @@
 -- The context is by the chain above the frame.
 use Rattle.std.proofs.Common.{◌≡◌, false, map, not, ap, sym, ◌∙◌}
 use Rattle.origin_site.specs.Plain.{plain_address}
-use Rattle.script_lines.specs.Plain.{head_field_of}
+use Rattle.script_actions.specs.Plain.{head_field_of}
 use Rattle.storage_key.specs.Context.{PlainContext, context_of, is_first_party}
 use Rattle.storage_key.specs.Plain.{plain_context}
 use Rattle.frame_tree.specs.Keys.{is_first_at, sites}

@@ -3,10 +3,10 @@ use Rattle.std.specs.Prelude.{IfSome, codes, is_some, option_map}
 use Rattle.unwinding.specs.Durable.{line_changes}
 use Rattle.origin_site.specs.Plain.{plain_site}
 use Rattle.origin_site.specs.Site.{PlainSite}
-use Rattle.script_lines.specs.Plain.{action_of}
+use Rattle.script_actions.specs.Plain.{action_of}
 use Rattle.reply_lines.specs.Plain.{body_of}
 use Rattle.reply_lines.specs.Reply.{Plain}
-use Rattle.script_lines.specs.Script.{PlainAction, Act}
+use Rattle.script_actions.specs.Action.{PlainAction, Act}
 use Rattle.live_state.specs.Tabs.{PlainTab, tab_at}
 use Rattle.frame_tree.specs.Tree.{top_site}
 use Rattle.agent_model.specs.SiteStep.{act_in}
@@ -30,7 +30,7 @@ returns-in_default-clause-runs c =
     let nowhere = sym c.in_ok-site.ensures.site ∙ ap (option_map plain_site) c.in_default.is in
     runs_still c.self.view_is
     (runs_without_tab (action_of c.args.action.now) _ c.self.invariant c.refused.result (subst (λ (line : PlainAction). NeedsTab line (places_in c.self.inside.held.live.tabs)) (sym own.is) nowhere)
-    (c.refused.ensures ∙ ap (λ (name : List ℕ). record { name = name; site = None; body = Plain (codes "no-tab") }) c.name_of-name.ensures))
+    (c.refused.ensures ∙ ap (λ (name : List ℕ). record { name = name; site = None; body = Plain (codes "no-tab") }) c.name-name.ensures.name))
 
 pub returns-in_err-site-clause-runs : goal.returns-in_err-site-clause-runs
 returns-in_err-site-clause-runs c =
@@ -87,7 +87,7 @@ returns-clause-runs c =
     let place = sym c.in_ok-site.ensures.site ∙ ap (option_map plain_site) c.in-Some.is in
     let shown = shown_is _ c.args.at.tab c.self.invariant site place in
     let done = did c own shown.0 site shown.1 (top_is _ c.args.at.tab c.self.invariant shown.0 shown.1 ∙ place) in
-    let replies = ap (λ (name : List ℕ). record { name = name; site = Some site; body = body_of c.in_ok-told.told }) c.name_of-name.ensures in
+    let replies = ap (λ (name : List ℕ). record { name = name; site = Some site; body = body_of c.in_ok-told.told }) c.name-name.ensures.name in
     runs_from c.self.view_is
     (runs_acted _ c.self.invariant c.args.at own.does shown.0 site shown.1 place _ _ _ _ done.places done.cells done.held (action_of c.args.action.now) own.is c.replied.result
     (reply_as (action_of c.args.action.now) c.replied.result (c.replied.ensures ∙ replies) refl done.answer))

@@ -2,7 +2,7 @@ use Rattle.std.proofs.Common.{◌≡◌, [], refl, sym, ap, subst, ◌∙◌}
 use Rattle.unwinding.specs.Durable.{line_changes}
 use Rattle.std.specs.Prelude.{option_map}
 use Rattle.origin_site.specs.Plain.{plain_site}
-use Rattle.script_lines.specs.Script.{Close}
+use Rattle.script_actions.specs.Action.{Close}
 use Rattle.agent_model.specs.TheMachine.{machine}
 use Rattle.agent_memory.specs.AgentState.{AgentState, world_of}
 use Rattle.agent_memory.proofs.StandingLemmas.{reply_as, runs_from, runs_still, runs_without_tab}

@@ -3,7 +3,7 @@ use Rattle.origin_site.specs.Plain.{plain_site}
 use Rattle.live_state.specs.Tabs.{PlainLive}
 use Rattle.web_cookies.specs.Stored.{shared_in}
 use Rattle.reply_lines.specs.Reply.{Cleared}
-use Rattle.script_lines.specs.Script.{Evict}
+use Rattle.script_actions.specs.Action.{Evict}
 use Rattle.agent_memory.specs.AgentState.{places_in}
 use Rattle.agent_memory.proofs.StandingLemmas.{reply_as, runs_from, runs_still}
 use Rattle.agent_memory.proofs.RunsLemmas.{changes_evicted, runs_evicted, runs_stays, runs_unchanged, standing_evicted, standing_stays}

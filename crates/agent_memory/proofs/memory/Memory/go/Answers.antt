@@ -3,8 +3,8 @@ use Rattle.std.specs.Prelude.{is_some}
 use Rattle.origin_site.specs.Plain.{plain_address}
 use Rattle.origin_site.specs.Site.{site_of_address}
 use Rattle.reply_lines.specs.Plain.{body_of}
-use Rattle.script_lines.specs.Plain.{head_field_of}
-use Rattle.script_lines.specs.Script.{Go}
+use Rattle.script_actions.specs.Plain.{head_field_of}
+use Rattle.script_actions.specs.Action.{Go}
 use Rattle.agent_model.specs.Lines.{is_same_site}
 use Rattle.agent_model.specs.Sessions.{arrive}
 use Rattle.agent_memory.specs.Actions.{IsLoaded}

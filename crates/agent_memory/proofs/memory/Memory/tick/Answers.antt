@@ -2,7 +2,7 @@ use Rattle.std.proofs.Common.{◌≡◌, ℕ, [], Ok, ap, subst, sym, ◌∙◌}
 use Rattle.unwinding.specs.Durable.{line_changes}
 use Rattle.std.specs.Prelude.{pos}
 use Rattle.reply_lines.specs.Reply.{Now}
-use Rattle.script_lines.specs.Script.{Tick}
+use Rattle.script_actions.specs.Action.{Tick}
 use Rattle.agent_model.specs.Isolation.{printed}
 use Rattle.one_store.specs.Store.{null_reply}
 use Rattle.agent_model.specs.TheMachine.{machine}

@@ -1,7 +1,7 @@
 -- One field more, and all of them.
 use Rattle.std.proofs.Common.{◌≡◌, ◌++◌, ◌∷◌, ◌+◌, [], map, take, refl, sym, ap, ◌∙◌, append-nil}
 use Rattle.std.proofs.lemmas.List.{map-append, take_all, take_more}
-use Rattle.script_lines.specs.Plain.{head_field_of}
+use Rattle.script_actions.specs.Plain.{head_field_of}
 use Rattle.row_changes.specs.Plain.{plain_change}
 use Rattle.agent_model.specs.CookieStore.{cookie_texts, store_texts}
 use Rattle.web_cookies.specs.Uses.{plain_use}

@@ -1,6 +1,6 @@
 -- The texts of the fields so far are stored, and their words and their row changes are there.
 use Rattle.std.proofs.Common.{◌≡◌, ◌++◌, map, take}
-use Rattle.script_lines.specs.Plain.{head_field_of}
+use Rattle.script_actions.specs.Plain.{head_field_of}
 use Rattle.row_changes.specs.Plain.{plain_change}
 use Rattle.agent_model.specs.CookieStore.{cookie_texts, store_texts}
 use Rattle.web_cookies.specs.Uses.{plain_use}

@@ -1,6 +1,6 @@
 -- With a text both cells are prepared to be stored, and else marks.
 use Rattle.std.proofs.Common.{map, sym, ◌∙◌}
-use Rattle.script_lines.specs.Plain.{head_field_of}
+use Rattle.script_actions.specs.Plain.{head_field_of}
 use Rattle.web_cookies.specs.Uses.{plain_use}
 use Rattle.web_cookies.proofs.LeftLemmas.{shared_same, partitioned_same}
 use Rattle.web_cookies.proofs.TextLemmas.{no_texts}

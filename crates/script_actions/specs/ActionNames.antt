@@ -1,11 +1,11 @@
--- The names of actions, as replies have them.
+-- The names of lines, as replies have them.
 -- Our own choice: the name is that of the line's member `do`.
 use Rattle.std.specs.Prelude.{ℕ, List, codes}
-use Rattle.script_lines.specs.Script.{DocumentAction, Frame, Nav, Drop, Click, Fetch, Set, Get, Del}
-use Rattle.script_lines.specs.Script.{Clear, Len, Key, Events, Cookie, SetCookie, Has, Request}
-use Rattle.script_lines.specs.Script.{Persisted, Estimate, Persist}
-use Rattle.script_lines.specs.Script.{PlainAction, Tick, Open, Close, Go, Evict, Act}
-use Rattle.agent_model.specs.SiteEvent.{TopLoad, Opens, Goes}
+use Rattle.script_actions.specs.Action.{DocumentAction, Frame, Nav, Drop, Click, Fetch, Set, Get, Del}
+use Rattle.script_actions.specs.Action.{Clear, Len, Key, Events, Cookie, SetCookie, Has, Request}
+use Rattle.script_actions.specs.Action.{Persisted, Estimate, Persist}
+use Rattle.script_actions.specs.Action.{PlainAction, PlainStep, Tick, Open, Close, Go, Evict, Act}
+use Rattle.unwinding.specs.Admissible.{Acts, Reopens}
 
 -- the name of a document's action
 abbrev pub document_action_name : DocumentAction → List ℕ
@@ -29,11 +29,6 @@ document_action_name Persisted = codes "persisted"
 document_action_name Estimate = codes "estimate"
 document_action_name (Persist answer) = codes "persist"
 
--- the name of a load
-abbrev pub load_name : TopLoad → List ℕ
-load_name Opens = codes "open"
-load_name Goes = codes "go"
-
 -- the name of an action
 abbrev pub action_name : PlainAction → List ℕ
 action_name (Tick s) = codes "tick"
@@ -42,3 +37,8 @@ action_name (Close tab) = codes "close"
 action_name (Go tab url by_page method head) = codes "go"
 action_name (Evict site) = codes "evict"
 action_name (Act at action) = document_action_name action
+
+-- the name of a line
+abbrev pub step_name : PlainStep → List ℕ
+step_name (Acts action) = action_name action
+step_name Reopens = codes "restart"

@@ -1,0 +1,9 @@
+-- The names of top-level loads, as replies have them.
+-- Our own choice: the name is that of the line's member `do`.
+use Rattle.std.specs.Prelude.{ℕ, List, codes}
+use Rattle.agent_model.specs.SiteEvent.{TopLoad, Opens, Goes}
+
+-- the name of a load
+abbrev pub load_name : TopLoad → List ℕ
+load_name Opens = codes "open"
+load_name Goes = codes "go"

@@ -1,0 +1,4 @@
+-- What contracts cite.
+pub mod Action
+pub mod Plain
+pub mod ActionNames

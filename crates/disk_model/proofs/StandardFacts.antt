@@ -5,6 +5,7 @@ use Rattle.std.specs.Prelude.{codes, Some, None, true, false}
 use Rattle.disk_model.specs.Image.{greatest_end}
 use Rattle.disk_model.specs.History.{Held, overlaid, wrote, synced, missed, replay, at_first}
 use Rattle.disk_model.specs.Recovery.{halves, placed_end}
+use Rattle.disk_model.specs.MemDisk.{told_cuts}
 use Rattle.disk_model.specs.Schedule.{Plan, next_fails, next_plan, refuses, called}
 
 abbrev written : Held
@@ -61,3 +62,13 @@ off_refuses = refl
 
 off_counts_none : (called (next_plan (plan_of 3))).calls ≡ 4
 off_counts_none = refl
+
+-- a cut is told up to the call before it, and none is where a call fails without one
+cut_is_told : told_cuts (record (plan_of 3) { fails = [] }) ≡ Some (4 ∷ [])
+cut_is_told = refl
+
+passed_is_not : told_cuts (record (plan_of 4) { fails = [] }) ≡ Some []
+passed_is_not = refl
+
+others_hide_it : told_cuts (plan_of 3) ≡ None
+others_hide_it = refl

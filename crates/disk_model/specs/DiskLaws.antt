@@ -1,6 +1,6 @@
 -- What holds of all that a disk tells, whatever was called.
 -- Our own choice: the laws are part of the model of a device.
-use Rattle.std.specs.Prelude.{true, ◌≡◌, ℕ, ◌≤◌, List, Some}
+use Rattle.std.specs.Prelude.{true, ◌≡◌, ℕ, ◌<◌, ◌≤◌, List, Some, All}
 use Rattle.disk_model.specs.Disk.{View}
 
 -- what a disk tells, or a file, keeps to these
@@ -16,3 +16,5 @@ pub record IsLawful (view : View) : Type 0 where
   pub contents_may_stay : (c : List ℕ) → view.contents ≡ Some c → view.may_leave c
   -- what tells nothing has no images
   pub untold : (t : ℕ) (c : List ℕ) → view.left_since t c → view.tells ≡ true
+  -- the cuts to come lie ahead: no changing call has passed one
+  pub cuts_ahead : (cuts : List ℕ) → view.cuts ≡ Some cuts → All (λ cut. view.changing < cut) cuts

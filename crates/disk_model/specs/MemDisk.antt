@@ -1,6 +1,7 @@
 -- A disk in memory, as contracts see it, and what it tells.
 use Rattle.std.specs.Prelude.{◌≡◌, ◌↔◌, true, ℕ, ◌+◌, List, [], ◌∷◌, length}
 use Rattle.std.specs.Prelude.{Option, Some, None, is_some, unwrap_or, Result, IsErr, IsTrue}
+use Rattle.std.specs.Prelude.{filter, nat_lt, ◌==◌, if◌then◌else◌}
 use Rattle.disk_model.specs.Disk.{View}
 use Rattle.disk_model.specs.History.{Past, held, ImageOf, Since}
 use Rattle.disk_model.specs.Schedule.{Plan, refuses, called}
@@ -20,10 +21,13 @@ abbrev pub numbers_of : List Cut → List ℕ
 numbers_of [] = []
 numbers_of (cut ∷ cuts) = cut.call ∷ numbers_of cuts
 
+-- the numbers that lie ahead of the calls made
+abbrev pub numbers_ahead : Plan → List ℕ
+numbers_ahead plan = filter (nat_lt plan.calls) (numbers_of plan.cuts)
+
 -- the cuts to come are told where no call is to fail without one
-abbrev pub told_cuts : List ℕ → List Cut → Option (List ℕ)
-told_cuts [] cuts = Some (numbers_of cuts)
-told_cuts (number ∷ fails) cuts = None
+abbrev pub told_cuts : Plan → Option (List ℕ)
+told_cuts plan = if length plan.fails == 0 then Some (numbers_ahead plan) else None
 
 -- what it tells
 abbrev pub view_of : MemView → View
@@ -39,7 +43,7 @@ view_of disk = record {
   room_writes = disk.past.room_writes;
   off = is_some disk.plan.off;
   failures = disk.failures;
-  cuts = told_cuts disk.plan.fails disk.plan.cuts;
+  cuts = told_cuts disk.plan;
 }
 
 -- the pick of a restart: that of the cut, and 0 while the power is on

@@ -24,6 +24,13 @@ impl<F: RawFile> FileDisk<F> {
     {
         FileDisk { file, calls: 0 }
     }
+
+    /// The file under the disk.
+    pub fn file(&self) -> &F
+        ensures { result.now ≡ self.now.file }
+    {
+        &self.file
+    }
 }
 
 // Fills all of `into`, piece by piece.

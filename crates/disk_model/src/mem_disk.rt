@@ -84,6 +84,8 @@ impl MemDisk {
           off = None;
         } }
         ensures counts { (result.faults ≡ 0) × (result.failures ≡ 0) }
+        ensures cuts { result.plan.fails ≡ []
+            → (view_of result).cuts ≡ Some (numbers_of self.plan.cuts) }
         ensures room { (result.past.room_end ≡ self.past.room_end)
             × (result.past.room_writes ≡ self.past.room_writes) }
     {
@@ -105,6 +107,13 @@ impl MemDisk {
         ensures { result ≡ self.now.plan.calls }
     {
         self.schedule.calls()
+    }
+
+    /// How many calls failed.
+    pub fn faults(&self) -> u64
+        ensures { result ≡ self.now.faults }
+    {
+        self.faults
     }
 
     // A call that found the power off.

@@ -1,5 +1,8 @@
 // In which changing calls a disk in memory fails, and when its power is cut.
 ghost use Rattle.std.specs.Prelude.{◌≡◌, ◌↔◌, ◌<◌, ◌≤◌, nat_lt, [], None, IsTrue, filter, is_some};
+ghost use Rattle.std.specs.Prelude.{MatchBool, Some};
+ghost use Rattle.disk_model.specs.Disk.{IsNextCut};
+ghost use Rattle.disk_model.specs.MemDisk.{numbers_of, told_cuts};
 ghost use Rattle.disk_model.specs.Schedule.{AreFrom, Plan, next_fails, next_plan, pick_at};
 ghost use Rattle.disk_model.specs.Schedule.{cuts_after};
 
@@ -49,6 +52,7 @@ impl Schedule {
           fails = fails.items;
           off = None;
         } }
+        ensures told { fails.items ≡ [] → told_cuts result ≡ Some (numbers_of cuts.items) }
     {
         Schedule {
             calls: 0,
@@ -102,6 +106,9 @@ impl Schedule {
         ensures later { self.old.calls ≤ self.new.calls }
         ensures fails { result ≡ next_fails self.old }
         ensures plan { self.new ≡ next_plan self.old }
+        ensures told { MatchBool result
+            (IsNextCut (told_cuts self.old) (told_cuts self.new) self.new.calls)
+            (told_cuts self.new ≡ told_cuts self.old) }
     {
         let call = self.calls.saturating_add(1);
         let pick = self.cut(call);
@@ -124,6 +131,7 @@ impl Schedule {
           fails = filter (λ number. nat_lt self.old.calls number) self.old.fails;
           off = None;
         } }
+        ensures told { self.new.fails ≡ [] → told_cuts self.new ≡ Some (numbers_of self.old.cuts) }
     {
         let calls = self.calls;
         self.fails.retain(|number| *number > calls);

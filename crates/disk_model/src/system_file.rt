@@ -25,6 +25,13 @@ impl SystemFile {
         SystemFile { file, faults: 0 }
     }
 
+    /// How many calls failed.
+    pub fn faults(&self) -> u64
+        ensures { result ≡ self.now.faults }
+    {
+        self.faults
+    }
+
     // A call that failed.
     fn fault(&mut self) -> Failed
         ensures later { self.old.faults ≤ self.new.faults }

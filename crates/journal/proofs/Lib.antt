@@ -17,3 +17,4 @@ pub mod HeadFaults
 pub mod Refusals
 pub mod Openings
 pub mod Meanings
+pub mod Cuts

@@ -1,8 +1,8 @@
 -- What an opening does to a file, and why it is refused.
 -- Our own choice: a store over 1,073,741,824 bytes is refused where a limit is asked for; this is
 -- looked at first. Then comes whether the file is unborn, then the head, then the region.
-use Rattle.std.specs.Prelude.{◌≡◌, ◌⊎◌, ℕ, ◌^◌, ◌<◌, ◌≤◌, Bool, true, List, [], length, slice_index}
-use Rattle.std.specs.Prelude.{nat_le, nat_eq, if◌then◌else◌}
+use Rattle.std.specs.Prelude.{◌≡◌, ◌⊎◌, ℕ, ◌+◌, ◌-◌, ◌^◌, ◌<◌, ◌≤◌, min, Bool, true, List, [], ◌∷◌, length}
+use Rattle.std.specs.Prelude.{slice_index, nat_le, nat_eq, if◌then◌else◌}
 use Rattle.std.specs.Prelude.{Result, IsErrOf, OnOk}
 use Rattle.agent_base.specs.Counts.{Rose}
 use Rattle.disk_model.specs.Disk.{View, IsPowered, HasFailed}
@@ -103,3 +103,11 @@ pub record Opens {T : Type 0} (result : Result T OpenFault) (old new : View) : T
 abbrev pub opening_calls : List ℕ → ℕ
 opening_calls file = if nat_le (length file) 1 then 7 else if nat_eq
     (slice_index file 0) 0 then 5 else 1
+
+-- the answer by the cuts to come, of an opening of so many calls while the power is on: at `Ok` the
+-- first lies past them, and a device fault is that cut, within them; with none there is no fault
+abbrev pub AnswersByCuts : {T : Type 0} → Result T OpenFault → (before calls : ℕ) → List ℕ → Type 0
+AnswersByCuts result before calls [] = IsErrOf result DeviceFault → ⊥
+AnswersByCuts result before calls (cut ∷ cuts) =
+    OnOk result (min (before + calls) (2 ^ 64 - 1) < cut)
+    × (IsErrOf result DeviceFault → (before < cut) × (cut ≤ before + calls))

@@ -1,14 +1,17 @@
 //! What the frames that the calls speak of stand for, by the meaning that a `Replay` gives to
-//! bodies.
+//! bodies, and what the cuts to come say of an opening.
 // Each function is one law: it does nothing, and its clause is proved.
 ghost use Rattle.std.specs.Prelude.{◌≡◌, ◌⊎◌, ◌+◌, ◌-◌, ◌%◌, ◌^◌, ◌<◌, List, ℕ, length, true};
-ghost use Rattle.std.specs.Prelude.{false};
+ghost use Rattle.std.specs.Prelude.{Result, Some, false};
+ghost use Rattle.disk_model.specs.Disk.{Makes};
 ghost use Rattle.journal.specs.Store.{Frame, IsStore, base_of};
 ghost use Rattle.journal.specs.Region.{Runs, HasChanges, StandsFor};
-ghost use Rattle.journal.specs.Opening.{FileMeans, IsOpening};
+ghost use Rattle.journal.specs.Opening.{AnswersByCuts, FileMeans, IsOpening, Opens};
 ghost use Rattle.journal.specs.Journal.{IsBeforeOrAfter, IsBeforeOrSnapshot};
+ghost use Rattle.journal.specs.declared.open_fault.OpenFault.{OpenFault};
 
 use crate::replay::Replay;
+use disk_model::Disk;
 
 /// A file has one list of frames.
 pub fn one_list_of_frames()
@@ -60,4 +63,12 @@ pub fn since_meaning<R: Replay>()
         → Runs (R.takes by) true R.empty 0 frames s last
         → base_of frames < 2 ^ 64 → HasChanges (R.takes by) R.empty frames total
         → (last + (2 ^ 64 - base_of frames)) % 2 ^ 64 ≡ total % 2 ^ 64 }
+{}
+
+/// Where a disk tells its cuts and its power is on, they say whether an opening may be `Ok`.
+pub fn opening_cuts<D: Disk, T>()
+    ensures law { (old new : D) (result : Result T OpenFault) (calls : ℕ) (cuts : List ℕ)
+        → Opens result (D.view old) (D.view new) → Makes calls result (D.view old) (D.view new)
+        → (D.view old).off ≡ false → (D.view old).cuts ≡ Some cuts
+        → AnswersByCuts result (D.view old).changing calls cuts }
 {}

@@ -1,24 +1,10 @@
 //! What a restart leaves after each pick, and a disk over a file of the system.
 use crate::part_file::PartFile;
-use crate::shared::{bytes_of, disk_of, new_file, path_of};
+use crate::shared::{bytes_of, disk_of, new_file, path_of, put};
 use disk_model::{Cut, Disk, FileDisk, SystemFile};
 use std::alloc::Global;
 use std::fs::{self, OpenOptions};
 use std::test::Fail;
-
-// Writes where the place is within the file or at its end, in room that it makes.
-fn put<D: Disk>(disk: &mut D, at: u64, bytes: &[u8]) -> bool {
-    let Some(end) = at.checked_add(bytes.len() as u64) else {
-        return false;
-    };
-    let Ok(()) = disk.reserve(end, 1) else {
-        return false;
-    };
-    let Ok(len) = disk.len() else {
-        return false;
-    };
-    at <= len && disk.write_at(at, bytes).is_ok()
-}
 
 // The bytes after a restart.
 fn restarted<D: Disk>(alloc: Global, disk: &mut D) -> Result<Vec<u8>, Fail> {

@@ -1,6 +1,6 @@
-//! Tests of streams, of disks and of the journal of a store file, by calls of their libraries.
+//! Tests of streams, of disks, of hosts and of the journal of a store file, by calls of their libraries.
 //!
-//! They stand apart from `agent_base`, `disk_model` and `journal`, so that each of these is proved
+//! They stand apart from `agent_base`, `disk_model`, `hosts` and `journal`, so that each of these is proved
 //! once.
 #![tactic(auto)]
 
@@ -8,6 +8,8 @@
 mod disks;
 #[cfg(test)]
 mod journals;
+#[cfg(test)]
+mod named_stores;
 #[cfg(test)]
 mod part_file;
 #[cfg(test)]

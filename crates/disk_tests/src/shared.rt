@@ -48,6 +48,20 @@ pub fn bytes_of<D: Disk>(alloc: Global, disk: &mut D) -> Result<Vec<u8>, Fail> {
     Ok(bytes)
 }
 
+/// Writes where the place is within the file or at its end, in room that it makes.
+pub fn put<D: Disk>(disk: &mut D, at: u64, bytes: &[u8]) -> bool {
+    let Some(end) = at.checked_add(bytes.len() as u64) else {
+        return false;
+    };
+    let Ok(()) = disk.reserve(end, 1) else {
+        return false;
+    };
+    let Ok(len) = disk.len() else {
+        return false;
+    };
+    at <= len && disk.write_at(at, bytes).is_ok()
+}
+
 /// Where a test keeps a file, apart from those of other processes.
 pub fn path_of(rt: &HostRuntime, name: &str) -> Result<PathBuf, Fail> {
     let alloc = rt.alloc();

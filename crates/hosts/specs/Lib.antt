@@ -1,0 +1,4 @@
+-- What contracts cite.
+pub mod Hosts
+pub mod Entries
+pub mod MemoryStores

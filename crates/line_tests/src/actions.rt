@@ -3,12 +3,14 @@ use crate::scripts::{lines_text, message_of, script_of};
 use std::alloc::Global;
 use std::test::Fail;
 
-// A line, and its action behind its number or the message of its fault.
-const ACTIONS: [(&str, &str); 52] = [
+// A line, and what it asks for behind its number or the message of its fault.
+const ACTIONS: [(&str, &str); 54] = [
     (
         "{\"do\":\"tick\",\"s\":1000000000}",
         "1 Tick { s: 1000000000 }\n",
     ),
+    ("{\"do\":\"restart\"}", "1 Restart\n"),
+    ("{\"do\":\"restart\",\"s\":1}", "script line 1: bad field s"),
     (
         "{\"do\":\"open\",\"tab\":2,\"url\":\"https://a.test/\",\"opener\":1,\
             \"noopener\":true,\"method\":\"POST\"}",

@@ -6,6 +6,8 @@
 #[cfg(test)]
 mod actions;
 #[cfg(test)]
+mod cuts;
+#[cfg(test)]
 mod heads;
 #[cfg(test)]
 mod replies;

@@ -1,14 +1,24 @@
 //! Scripts from outside: the actions of their lines, and their first faults.
 use agent_base::MemSource;
-use script_lines::{Line, Script, ScriptFault};
+use script_actions::{Line, Step};
+use script_lines::{Script, ScriptFault};
 use std::alloc::Global;
 use std::mem::size_of;
 use std::test::Fail;
 
-// What reading these bytes answers.
+// What reading these bytes answers, where cuts are allowed.
 pub fn script_of(alloc: Global, bytes: Vec<u8>) -> Result<Script, ScriptFault> {
+    read_script(alloc, bytes, true)
+}
+
+// What reading these bytes answers, where cuts are allowed or not.
+pub fn read_script(
+    alloc: Global,
+    bytes: Vec<u8>,
+    cuts_allowed: bool,
+) -> Result<Script, ScriptFault> {
     let mut source = MemSource::new(bytes, Vec::new(alloc));
-    Script::read(alloc, &mut source)
+    Script::read(alloc, &mut source, cuts_allowed)
 }
 
 // The message of a fault, through a copy of it.
@@ -93,7 +103,7 @@ const FAULTS: [(&[u8], &[u8]); 25] = [
     ),
     (
         b"{\"do\":\"restart\",\"tab\":1}",
-        b"script line 1: unknown action",
+        b"script line 1: bad field tab",
     ),
     (
         b"{\"do\":\"tick\",\"s\":1,\"\\n\":0}",
@@ -121,9 +131,13 @@ fn first_fault_of_a_script(rt: HostRuntime) -> Result<(), Fail> {
     Ok(())
 }
 
-// A line's number and action.
+// A line's number, and what it asks for.
 fn line_text(alloc: Global, line: &Line) -> Result<String, Fail> {
-    Ok(format!(in alloc; "{} {:?}", line.number, line.action)?)
+    let number = line.number;
+    match &line.step {
+        Step::Act(action) => Ok(format!(in alloc; "{number} {action:?}")?),
+        Step::Restart => Ok(format!(in alloc; "{number} Restart")?),
+    }
 }
 
 // The same of each line.
@@ -161,8 +175,8 @@ fn lines_of_a_script(rt: HostRuntime) -> Result<(), Fail> {
 }
 
 #[test]
-fn a_line_takes_64_bytes(rt: HostRuntime) {
-    assert_eq!(rt; size_of::<Line>(), 64);
+fn a_line_takes_72_bytes(rt: HostRuntime) {
+    assert_eq!(rt; size_of::<Line>(), 72);
 }
 
 #[test]
@@ -189,7 +203,7 @@ fn failing_source(alloc: Global) -> Result<MemSource, Fail> {
 fn source_fails_in_mid_stream(rt: HostRuntime) -> Result<(), Fail> {
     let alloc = rt.alloc();
     let mut source = failing_source(alloc)?;
-    let first = Script::read(alloc, &mut source).err();
+    let first = Script::read(alloc, &mut source, true).err();
     assert!(rt; first == Some(ScriptFault::ReadFault));
     Ok(())
 }

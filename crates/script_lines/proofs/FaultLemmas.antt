@@ -1,11 +1,11 @@
 -- The grammar answers only faults of the text: neither a fault of the source nor want of memory.
 use Rattle.std.proofs.Common.{ℕ, ◌+◌, Bool, true, false, cond, not, List, [], ◌∷◌, Option}
-use Rattle.std.proofs.Common.{Some, None, Result, Ok, Err, IfErr, map, length, option_and_then}
-use Rattle.std.specs.Prelude.{codes, nat_lt}
+use Rattle.std.proofs.Common.{Some, None, Result, Ok, Err, IfErr, map, length}
+use Rattle.std.specs.Prelude.{nat_lt}
 use Rattle.std.specs.List.{list_all}
 use Rattle.std.specs.Str.{is_utf8}
 use Rattle.serde_json.specs.Data.{Data}
-use Rattle.serde_json.specs.Find.{get, as_str}
+use Rattle.serde_json.specs.Find.{get}
 use Rattle.serde_json.specs.Read.{read}
 use Rattle.script_lines.specs.Script.{PlainFault, NotJson, UnknownAction, BadField}
 use Rattle.script_lines.specs.Script.{LineTooLong, TooLong, NotUtf8, ReadFault, BadHeader, NoMemory}
@@ -13,9 +13,11 @@ use Rattle.script_lines.specs.Fields.{Field, Kind, Meaning, meaning, checked, fo
 use Rattle.script_lines.specs.Fields.{fields_of, given, then_ok, head_list}
 use Rattle.script_lines.specs.Heads.{is_header}
 use Rattle.script_lines.specs.Rows.{Row}
-use Rattle.script_lines.specs.Grammar.{action_by, action_by_row, action_named}
-use Rattle.script_lines.specs.Grammar.{action_of_bytes, first_unknown, is_blank, json_of, line_limit}
-use Rattle.script_lines.specs.Grammar.{line_of_bytes, lines_from, lines_of, refused, row_named}
+use Rattle.script_actions.specs.Action.{PlainStep}
+use Rattle.script_lines.specs.Steps.{by_row, cuts_of_data, disk_row, first_unknown, name_of, refused}
+use Rattle.script_lines.specs.Steps.{row_named, step_by, step_named, step_of_data}
+use Rattle.script_lines.specs.Grammar.{begun_by, data_of_bytes, is_blank, is_disk, json_of, line_limit}
+use Rattle.script_lines.specs.Grammar.{line_of_bytes, lines_from, lines_of, script_from}
 use Rattle.script_lines.specs.Grammar.{script_limit, script_of_bytes}
 
 -- a fault of the text
@@ -62,32 +64,39 @@ refused_of_text : (number : ℕ) (name : Option (List ℕ)) → IfErr (refused n
 refused_of_text number (Some name) = tt
 refused_of_text number None = tt
 
-by_row_of_text : (number : ℕ) (row : Row) (line : Data) → IfErr (action_by_row number row line) IsOfText
+by_row_of_text : {A : Type 0} (number : ℕ) (row : Row A) (line : Data) → IfErr (by_row number row line) IsOfText
 by_row_of_text number row line =
     then_of_text _ _ (fields_of_text number row.fields line)
     (λ values. then_of_text _ _ (refused_of_text number (first_unknown (map (λ field. field.name) row.fields) line)) (λ _. tt))
 
-row_of_text : (number : ℕ) (row : Option Row) (line : Data) → IfErr (action_by number row line) IsOfText
+row_of_text : (number : ℕ) (row : Option (Row PlainStep)) (line : Data) → IfErr (step_by number row line) IsOfText
 row_of_text number None line = tt
 row_of_text number (Some row) line = by_row_of_text number row line
 
-named_of_text : (number : ℕ) (name : Option (List ℕ)) (line : Data) → IfErr (action_named number name line) IsOfText
+named_of_text : (number : ℕ) (name : Option (List ℕ)) (line : Data) → IfErr (step_named number name line) IsOfText
 named_of_text number None line = tt
 named_of_text number (Some name) line = row_of_text number (row_named name) line
+
+step_of_text : (number : ℕ) (line : Data) → IfErr (step_of_data number line) IsOfText
+step_of_text number line = named_of_text number (name_of line) line
+
+cuts_of_text : (cuts_allowed : Bool) (number : ℕ) (line : Data) → IfErr (cuts_of_data cuts_allowed number line) IsOfText
+cuts_of_text true number line = by_row_of_text number disk_row line
+cuts_of_text false number line = tt
 
 json_of_text : (number : ℕ) (line : Option Data) → IfErr (json_of number line) IsOfText
 json_of_text number (Some line) = tt
 json_of_text number None = tt
 
-action_of_text : (number : ℕ) (line : List ℕ) → IfErr (action_of_bytes number line) IsOfText
-action_of_text number line =
+data_of_text : (number : ℕ) (line : List ℕ) → IfErr (data_of_bytes number line) IsOfText
+data_of_text number line =
     if_of_text (nat_lt line_limit (length line)) _ _ tt
-    (if_of_text (not (is_utf8 line)) _ _ tt
-    (then_of_text _ _ (json_of_text number (read line)) (λ value. named_of_text number (option_and_then as_str (get (codes "do") value)) value)))
+    (if_of_text (not (is_utf8 line)) _ _ tt (json_of_text number (read line)))
 
 line_of_text : (number : ℕ) (line : List ℕ) → IfErr (line_of_bytes number line) IsOfText
 line_of_text number line =
-    if_of_text (is_blank line) _ _ tt (then_of_text _ _ (action_of_text number line) (λ action. tt))
+    if_of_text (is_blank line) _ _ tt
+    (then_of_text _ _ (then_of_text _ _ (data_of_text number line) (step_of_text number)) (λ step. tt))
 
 lines_of_text : (number : ℕ) (lines : List (List ℕ)) → IfErr (lines_from number lines) IsOfText
 unfolding lines_from
@@ -96,8 +105,22 @@ lines_of_text number (line ∷ lines) =
     then_of_text _ _ (line_of_text number line)
     (λ first. then_of_text _ _ (lines_of_text (number + 1) lines) (λ later. tt))
 
+begun_of_text : (cuts_allowed : Bool) (number : ℕ) (line : List ℕ) → IfErr (begun_by cuts_allowed number line) IsOfText
+begun_of_text cuts_allowed number line =
+    then_of_text _ _ (data_of_text number line)
+    (λ value. if_of_text (is_disk (name_of value)) _ _
+    (then_of_text _ _ (cuts_of_text cuts_allowed number value) (λ cuts. tt))
+    (then_of_text _ _ (step_of_text number value) (λ step. tt)))
+
+from_of_text : (cuts_allowed : Bool) (number : ℕ) (lines : List (List ℕ)) → IfErr (script_from cuts_allowed number lines) IsOfText
+unfolding script_from
+from_of_text cuts_allowed number [] = tt
+from_of_text cuts_allowed number (line ∷ lines) =
+    if_of_text (is_blank line) _ _ (from_of_text cuts_allowed (number + 1) lines)
+    (then_of_text _ _ (begun_of_text cuts_allowed number line)
+    (λ script. then_of_text _ _ (lines_of_text (number + 1) lines) (λ later. tt)))
+
 -- the fault of a script is one of the text
-pub script_of_text : (bytes : List ℕ) → IfErr (script_of_bytes bytes) IsOfText
-script_of_text bytes =
-    if_of_text (nat_lt script_limit (length bytes)) _ _ tt
-    (then_of_text _ _ (lines_of_text 1 (lines_of bytes)) (λ lines. tt))
+pub script_of_text : (cuts_allowed : Bool) (bytes : List ℕ) → IfErr (script_of_bytes cuts_allowed bytes) IsOfText
+script_of_text cuts_allowed bytes =
+    if_of_text (nat_lt script_limit (length bytes)) _ _ tt (from_of_text cuts_allowed 1 (lines_of bytes))

@@ -5,8 +5,8 @@ use Rattle.serde_json.proofs.OnLiterals.{serde_json_on_literals}
 use Rattle.serde_json.specs.Read.{read}
 use Rattle.url.proofs.OnLiterals.{url_on_literals}
 use Rattle.storage_events.specs.declared.event.AreaKind.TheVariants.{Local, Session}
-use Rattle.script_lines.specs.declared.words.Method.TheVariants.{Get, Patch}
-use Rattle.script_lines.specs.declared.words.Prompt.TheVariants.{Deny}
+use Rattle.script_actions.specs.declared.words.Method.TheVariants.{Get, Patch}
+use Rattle.script_actions.specs.declared.words.Prompt.TheVariants.{Deny}
 use Rattle.script_lines.specs.Script.{PlainFault, BadField}
 use Rattle.script_lines.specs.Fields.{Field, Meaning, field_of, required, defaulted, whole}
 use Rattle.script_lines.specs.Fields.{truth, site_name, method_name, area_name}

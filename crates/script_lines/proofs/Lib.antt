@@ -2,11 +2,13 @@ pub mod StandardFacts
 pub mod ActionFacts
 pub mod FieldFacts
 pub mod HeadFacts
+pub mod CutFacts
 pub mod LineLemmas
 pub mod MemberLemmas
 pub mod FaultLemmas
+pub mod CutLemmas
 pub mod NameLemmas
 pub mod FlatLemmas
-pub mod HeadLemmas
+pub mod ItemLemmas
 pub mod PairLemmas
 pub mod PlaceLemmas

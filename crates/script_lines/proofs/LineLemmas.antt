@@ -1,19 +1,23 @@
 -- The lines of a text one after another, and the script that they give.
-use Rattle.std.proofs.Common.{◌≡◌, ℕ, ◌+◌, ◌<◌, ◌≤◌, Bool, List, [], ◌∷◌, ◌++◌, length, take, drop}
+use Rattle.std.proofs.Common.{◌≡◌, ℕ, ◌+◌, ◌<◌, ◌≤◌, Bool, true, false, List, [], ◌∷◌, ◌++◌, length, take, drop}
 use Rattle.std.proofs.Common.{Option, Some, None, Result, Ok, Err, refl, ap, sym, ◌∙◌, arith}
 use Rattle.std.proofs.Common.{append_assoc, append-nil, position, map, option_map}
 use Rattle.std.specs.Prelude.{option_to_list}
 use Rattle.std.specs.List.{slice_split, position_or_len}
+use Rattle.std.proofs.lemmas.Bool.{cond-true, cond-false}
 use Rattle.std.proofs.lemmas.Grind.{common_steps}
 use Rattle.std.proofs.lemmas.List.Quantifiers.{position-Some}
 use Rattle.std.proofs.lemmas.List.Splits.{slice_split_first, slice_split_none}
 use Rattle.std.proofs.lemmas.List.Sums.{fails_before_first}
-use Rattle.script_lines.specs.Script.{PlainLine, PlainFault}
+use Rattle.script_actions.specs.Action.{PlainLine}
+use Rattle.script_lines.specs.Script.{PlainScript, PlainFault}
 use Rattle.std.proofs.lemmas.List.{map-append}
-use Rattle.script_lines.specs.declared.script.Line.{Line}
+use Rattle.script_actions.specs.declared.step.Line.{Line}
 use Rattle.script_lines.specs.Fields.{then_ok}
-use Rattle.script_lines.specs.Grammar.{line_of_bytes, lines_from, lines_of}
-use Rattle.script_lines.specs.Plain.{line_of}
+use Rattle.script_lines.specs.Grammar.{begun_by, is_blank, line_of_bytes, lines_from, lines_of, script_from}
+use Rattle.script_lines.specs.Grammar.{with_lines}
+use Rattle.script_lines.specs.Pieces.{after}
+use Rattle.script_actions.specs.Plain.{line_of}
 
 -- where an element passes first, the first part ends
 pub cut_at : (p : ℕ → Bool) (xs : List ℕ) (k : ℕ) → position p xs ≡ Some k → slice_split p xs ≡ take k xs ∷ slice_split p (drop (k + 1) xs)
@@ -27,15 +31,6 @@ pub cut_none : (p : ℕ → Bool) (xs : List ℕ) → position p xs ≡ None →
 cut_none p xs none =
     let whole : length xs ≤ position_or_len p xs = grind (arith, common_steps) in
     slice_split_none p xs (λ k d inside. fails_before_first p xs k d (omega arith))
-
--- what goes on with the lines later on, after these
-abbrev pub after : List PlainLine → List PlainLine → Result (List PlainLine) PlainFault
-after done later = Ok (done ++ later)
-
--- after no lines
-pub after_none : (later : Result (List PlainLine) PlainFault) → later ≡ then_ok later (after [])
-after_none (Ok later) = refl
-after_none (Err why) = refl
 
 joined : (done first : List PlainLine) (later : Result (List PlainLine) PlainFault)
     → then_ok (then_ok later (λ lines. Ok (first ++ lines))) (after done) ≡ then_ok later (after (done ++ first))
@@ -84,3 +79,39 @@ pub script_has_fault : (script : Result (List PlainLine) PlainFault) (number : �
     → line_of_bytes number line ≡ Err why → script ≡ Err why
 script_has_fault script number rest line lines old why so_far cut is =
     so_far ∙ ap (λ ls. then_ok (lines_from number ls) (after (map line_of old))) cut ∙ line_fault number line lines (map line_of old) why is
+
+-- ---- the first line
+
+-- a line that is skipped
+pub skipped : (cuts_allowed : Bool) (number : ℕ) (line : List ℕ) (lines : List (List ℕ)) → is_blank line ≡ true → script_from cuts_allowed number (line ∷ lines) ≡ script_from cuts_allowed (number + 1) lines
+unfolding script_from
+skipped cuts_allowed number line lines blank = cond-true _ _ _ blank
+
+begins : (cuts_allowed : Bool) (number : ℕ) (line : List ℕ) (lines : List (List ℕ)) → is_blank line ≡ false
+    → script_from cuts_allowed number (line ∷ lines) ≡ then_ok (begun_by cuts_allowed number line) (λ script. then_ok (lines_from (number + 1) lines) (with_lines script))
+unfolding script_from
+begins cuts_allowed number line lines seen = cond-false _ _ _ seen
+
+-- behind the last line there is no script but the empty one
+pub nothing_begins : (cuts_allowed : Bool) (number : ℕ) → script_from cuts_allowed number [] ≡ Ok (record { cuts = []; lines = [] })
+unfolding script_from
+nothing_begins cuts_allowed number = refl
+
+-- the fault of the first line is that of the script
+pub first_has_fault : (cuts_allowed : Bool) (number : ℕ) (line : List ℕ) (lines : List (List ℕ)) (why : PlainFault) → is_blank line ≡ false
+    → begun_by cuts_allowed number line ≡ Err why → script_from cuts_allowed number (line ∷ lines) ≡ Err why
+first_has_fault cuts_allowed number line lines why seen is =
+    begins cuts_allowed number line lines seen ∙ ap (λ begun. then_ok begun (λ script. then_ok (lines_from (number + 1) lines) (with_lines script))) is
+
+behind : (script : PlainScript) (later : Result (List PlainLine) PlainFault)
+    → then_ok later (with_lines script) ≡ then_ok (then_ok later (after script.lines)) (λ lines. Ok (record { cuts = script.cuts; lines = lines }))
+behind script (Ok later) = refl
+behind script (Err why) = refl
+
+-- the first line was read: the script is its own, with the lines behind it, or their fault
+pub first_read : (cuts_allowed : Bool) (number : ℕ) (line : List ℕ) (lines : List (List ℕ)) (script : PlainScript) (later : Result (List PlainLine) PlainFault) → is_blank line ≡ false
+    → begun_by cuts_allowed number line ≡ Ok script → then_ok (lines_from (number + 1) lines) (after script.lines) ≡ later
+    → script_from cuts_allowed number (line ∷ lines) ≡ then_ok later (λ lines. Ok (record { cuts = script.cuts; lines = lines }))
+first_read cuts_allowed number line lines script later seen is then =
+    begins cuts_allowed number line lines seen ∙ ap (λ begun. then_ok begun (λ script. then_ok (lines_from (number + 1) lines) (with_lines script))) is
+    ∙ behind script (lines_from (number + 1) lines) ∙ ap (λ later. then_ok later (λ lines. Ok (record { cuts = script.cuts; lines = lines }))) then

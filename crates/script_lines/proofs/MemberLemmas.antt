@@ -1,5 +1,5 @@
 -- The names of an object's members, as the map of its entries has them.
-use Rattle.std.proofs.Common.{◌≡◌, ℕ, Bool, true, false, cond, ◌||◌, List, [], ◌∷◌, map, Option}
+use Rattle.std.proofs.Common.{◌≡◌, ℕ, Bool, true, false, cond, ◌||◌, ◌&&◌, List, [], ◌∷◌, map, Option}
 use Rattle.std.proofs.Common.{Some, None, option_map, find, not, fold, String, string_bytes, refl, ap, nat_cmp, Ordering, Less, Equal, Greater}
 use Rattle.std.specs.declared.alloc.Global.{Global}
 use Rattle.std.specs.List.{list_all, list_any}
@@ -10,13 +10,18 @@ use Rattle.serde_json.specs.Data.{Data, Members, no_members, member, put}
 use Rattle.serde_json.specs.View.{members_view}
 use Rattle.serde_json.specs.declared.value.Value.{Value}
 use Rattle.script_lines.specs.Flat.{flat_data, members_of, with_member}
-use Rattle.script_lines.specs.Grammar.{member_names}
+use Rattle.script_lines.specs.Steps.{member_names}
 use Rattle.script_lines.specs.declared.flat_object.Member.{Member}
 
 -- a test of the mapped elements
 pub list_any-map : {A B : Type 0} (test : B → Bool) (f : A → B) (xs : List A) → list_any test (map f xs) ≡ list_any (λ x. test (f x)) xs
 list_any-map test f [] = refl
 list_any-map test f (x ∷ xs) = ap (λ b. test (f x) || b) (list_any-map test f xs)
+
+-- a test of the mapped elements, all of them
+pub list_all-map : {A B : Type 0} (test : B → Bool) (f : A → B) (xs : List A) → list_all test (map f xs) ≡ list_all (λ x. test (f x)) xs
+list_all-map test f [] = refl
+list_all-map test f (x ∷ xs) = ap (λ b. test (f x) && b) (list_all-map test f xs)
 
 found_by : {A B : Type 0} (f : A → B) (x : A) (b : Bool) (later : Option A) (o : Option B) → option_map f later ≡ o → option_map f (cond b (Some x) later) ≡ cond b (Some (f x)) o
 found_by f x true later o same = refl

@@ -3,10 +3,11 @@ use Rattle.std.proofs.Common.{◌≡◌, ℕ, Bool, true, false, cond, List, [],
 use Rattle.std.specs.Prelude.{codes}
 use Rattle.serde_json.specs.Data.{Data}
 use Rattle.case_tables.specs.Rows.{first_value}
-use Rattle.script_lines.specs.Grammar.{action_by_row}
+use Rattle.script_lines.specs.Steps.{by_row}
 use Rattle.script_lines.specs.Names.{row_of}
-use Rattle.script_lines.specs.Plain.{Reads, action_of}
-use Rattle.script_lines.specs.declared.action.Action.{Action}
+use Rattle.script_lines.specs.Plain.{Reads}
+use Rattle.script_actions.specs.Plain.{step_of}
+use Rattle.script_actions.specs.declared.step.Step.{Step}
 use Rattle.script_lines.specs.declared.script.ScriptFault.{ScriptFault}
 use Rattle.script_lines.specs.declared.actions.ActionName.{ActionName}
 use Rattle.script_lines.specs.declared.actions.ActionName.TheVariants as name
@@ -15,6 +16,7 @@ use Rattle.script_lines.specs.declared.actions.ActionName.TheVariants as name
 abbrev pub names : List (List ℕ × ActionName)
 names =
     (codes "tick", name.Tick)
+    ∷ (codes "restart", name.Restart)
     ∷ (codes "open", name.Open)
     ∷ (codes "close", name.Close)
     ∷ (codes "go", name.Go)
@@ -52,6 +54,6 @@ first_value-map f passes [] = refl
 first_value-map f passes (row ∷ rows) = picked f (passes row.0) row _ _ (first_value-map f passes rows)
 
 -- what reads the row of a name reads that of an equal one
-pub of_row : {a b : ActionName} (number : ℕ) (line : Data) (read : Result Action ScriptFault)
-    → a ≡ b → Reads action_of (action_by_row number (row_of b) line) read → Reads action_of (action_by_row number (row_of a) line) read
-of_row number line read same reads = subst (λ n. Reads action_of (action_by_row number (row_of n) line) read) (sym same) reads
+pub of_row : {a b : ActionName} (number : ℕ) (line : Data) (read : Result Step ScriptFault)
+    → a ≡ b → Reads step_of (by_row number (row_of b) line) read → Reads step_of (by_row number (row_of a) line) read
+of_row number line read same reads = subst (λ n. Reads step_of (by_row number (row_of n) line) read) (sym same) reads

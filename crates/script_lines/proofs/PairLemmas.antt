@@ -8,7 +8,8 @@ use Rattle.serde_json.specs.Data.{Data, array, string, Items, no_items, item}
 use Rattle.serde_json.specs.Read.{converted, of_items, of_json}
 use Rattle.serde_json.specs.View.{items_of}
 use Rattle.script_lines.specs.Flat.{field_of_texts, items_of_pairs, pairs_data}
-use Rattle.script_lines.specs.Heads.{all_there, few, fields_of_pairs, head_of_value}
+use Rattle.script_lines.specs.Heads.{few, field_of_pair, head_of_value}
+use Rattle.script_lines.specs.Items.{all_there, each_of}
 use Rattle.script_lines.specs.declared.pairs.Pair.{Pair}
 use Rattle.script_lines.proofs.FlatLemmas.{converted_some}
 
@@ -94,8 +95,8 @@ pub pair_read : (a b : List ℕ) (ts r : List Token)
 pair_read a b ts r is = ap (λ ts. converted of_json (value 125 ts)) is ∙ two_texts 123 a b r
 
 -- pairs are the fields of a head
-pub fields_of_items : (pairs : List Pair) → fields_of_pairs (items_of_pairs pairs) ≡ Some (map field_of_texts pairs)
-unfolding fields_of_pairs
+pub fields_of_items : (pairs : List Pair) → each_of field_of_pair (items_of_pairs pairs) ≡ Some (map field_of_texts pairs)
+unfolding each_of
 fields_of_items [] = refl
 fields_of_items (pair ∷ pairs) = ap (all_there (Some (field_of_texts pair))) (fields_of_items pairs)
 

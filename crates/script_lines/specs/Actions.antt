@@ -1,143 +1,148 @@
--- The table of all actions, each with its row.
+-- The table of all lines but `disk`, each with its row.
 -- Source: the script format of docs/FORMATS.md. Our own choice: all of it.
 use Rattle.std.specs.Prelude.{ℕ, false, List, [], ◌∷◌, codes, None}
-use Rattle.script_lines.specs.Script.{Tick, Open, Close, Go, Frame, Nav, Drop, Click, Fetch, Set}
-use Rattle.script_lines.specs.Script.{Get, Del, Clear, Len, Key, Events, Cookie, SetCookie}
-use Rattle.script_lines.specs.Script.{Has, Request, Persisted, Estimate, Persist, Evict, Act}
+use Rattle.script_actions.specs.Action.{Tick, Open, Close, Go, Frame, Nav, Drop, Click, Fetch, Set}
+use Rattle.script_actions.specs.Action.{Get, Del, Clear, Len, Key, Events, Cookie, SetCookie}
+use Rattle.script_actions.specs.Action.{Has, Request, Persisted, Estimate, Persist, Evict, PlainStep}
+use Rattle.unwinding.specs.Admissible.{Acts, Reopens}
 use Rattle.script_lines.specs.Fields.{required, defaulted, whole, any_text, truth, site_name}
 use Rattle.script_lines.specs.Fields.{loader, navigator, prompt_answer, consent, optional}
-use Rattle.script_lines.specs.Rows.{Row, label, document_row, area_row, name_row, tab, frame}
+use Rattle.script_lines.specs.Rows.{Row, acts, document_row, area_row, name_row, tab, frame}
 use Rattle.script_lines.specs.Rows.{inner_frame, url, method_field, head, area, key}
 use Rattle.script_lines.specs.Rows.{tab_number, frame_number}
 
-abbrev pub tick_row : Row
+abbrev pub tick_row : Row PlainStep
 tick_row = record {
   fields = required (codes "s") (whole 0 1000000000) ∷ [];
-  action = λ (s, _). Tick s;
+  gives = λ (s, _). Acts (Tick s);
 }
 
-abbrev pub open_row : Row
+-- it has no field
+abbrev pub restart_row : Row PlainStep
+restart_row = record { fields = []; gives = λ _. Reopens }
+
+abbrev pub open_row : Row PlainStep
 open_row = record {
   fields = tab ∷ url ∷ defaulted (codes "opener") (optional tab_number) None
       ∷ defaulted (codes "noopener") truth false ∷ method_field ∷ head ∷ [];
-  action = λ (tab, (url, (opener, (noopener, (method, (head, _)))))).
-      Open tab url opener noopener method head;
+  gives = λ (tab, (url, (opener, (noopener, (method, (head, _)))))).
+      Acts (Open tab url opener noopener method head);
 }
 
-abbrev pub close_row : Row
-close_row = record { fields = tab ∷ []; action = λ (tab, _). Close tab }
+abbrev pub close_row : Row PlainStep
+close_row = record { fields = tab ∷ []; gives = λ (tab, _). Acts (Close tab) }
 
-abbrev pub go_row : Row
+abbrev pub go_row : Row PlainStep
 go_row = record {
   fields = tab ∷ url ∷ defaulted (codes "by") loader false ∷ method_field ∷ head ∷ [];
-  action = λ (tab, (url, (by_page, (method, (head, _))))). Go tab url by_page method head;
+  gives = λ (tab, (url, (by_page, (method, (head, _))))). Acts (Go tab url by_page method head);
 }
 
-abbrev pub frame_row : Row
+abbrev pub frame_row : Row PlainStep
 frame_row = record {
   fields = tab ∷ inner_frame ∷ defaulted (codes "parent") frame_number 0 ∷ url
       ∷ defaulted (codes "sandbox") (optional any_text) None
       ∷ defaulted (codes "deny") truth false ∷ head ∷ [];
-  action = λ (tab, (frame, (parent, (url, (sandbox, (deny, (head, _))))))).
-      Act (label tab frame) (Frame parent url sandbox deny head);
+  gives = λ (tab, (frame, (parent, (url, (sandbox, (deny, (head, _))))))).
+      acts tab frame (Frame parent url sandbox deny head);
 }
 
-abbrev pub nav_row : Row
+abbrev pub nav_row : Row PlainStep
 nav_row = record {
   fields = tab ∷ inner_frame ∷ url ∷ defaulted (codes "by") navigator false
       ∷ method_field ∷ head ∷ [];
-  action = λ (tab, (frame, (url, (by_self, (method, (head, _)))))).
-      Act (label tab frame) (Nav url by_self method head);
+  gives = λ (tab, (frame, (url, (by_self, (method, (head, _)))))).
+      acts tab frame (Nav url by_self method head);
 }
 
-abbrev pub drop_row : Row
+abbrev pub drop_row : Row PlainStep
 drop_row = record {
   fields = tab ∷ inner_frame ∷ [];
-  action = λ (tab, (frame, _)). Act (label tab frame) Drop;
+  gives = λ (tab, (frame, _)). acts tab frame Drop;
 }
 
-abbrev pub click_row : Row
+abbrev pub click_row : Row PlainStep
 click_row = document_row Click
 
-abbrev pub fetch_row : Row
+abbrev pub fetch_row : Row PlainStep
 fetch_row = record {
   fields = tab ∷ frame ∷ url ∷ method_field ∷ head ∷ [];
-  action = λ (tab, (frame, (url, (method, (head, _))))).
-      Act (label tab frame) (Fetch url method head);
+  gives = λ (tab, (frame, (url, (method, (head, _))))).
+      acts tab frame (Fetch url method head);
 }
 
-abbrev pub set_row : Row
+abbrev pub set_row : Row PlainStep
 set_row = record {
   fields = tab ∷ frame ∷ area ∷ key ∷ required (codes "value") any_text ∷ [];
-  action = λ (tab, (frame, (area, (key, (value, _))))). Act (label tab frame) (Set area key value);
+  gives = λ (tab, (frame, (area, (key, (value, _))))). acts tab frame (Set area key value);
 }
 
-abbrev pub get_row : Row
+abbrev pub get_row : Row PlainStep
 get_row = name_row Get
 
-abbrev pub del_row : Row
+abbrev pub del_row : Row PlainStep
 del_row = name_row Del
 
-abbrev pub clear_row : Row
+abbrev pub clear_row : Row PlainStep
 clear_row = area_row Clear
 
-abbrev pub len_row : Row
+abbrev pub len_row : Row PlainStep
 len_row = area_row Len
 
-abbrev pub key_row : Row
+abbrev pub key_row : Row PlainStep
 key_row = record {
   fields = tab ∷ frame ∷ area ∷ required (codes "n") (whole 0 4294967295) ∷ [];
-  action = λ (tab, (frame, (area, (n, _)))). Act (label tab frame) (Key area n);
+  gives = λ (tab, (frame, (area, (n, _)))). acts tab frame (Key area n);
 }
 
-abbrev pub events_row : Row
+abbrev pub events_row : Row PlainStep
 events_row = document_row Events
 
-abbrev pub cookie_row : Row
+abbrev pub cookie_row : Row PlainStep
 cookie_row = document_row Cookie
 
-abbrev pub setcookie_row : Row
+abbrev pub setcookie_row : Row PlainStep
 setcookie_row = record {
   fields = tab ∷ frame ∷ required (codes "text") any_text ∷ [];
-  action = λ (tab, (frame, (text, _))). Act (label tab frame) (SetCookie text);
+  gives = λ (tab, (frame, (text, _))). acts tab frame (SetCookie text);
 }
 
-abbrev pub has_row : Row
+abbrev pub has_row : Row PlainStep
 has_row = document_row Has
 
-abbrev pub request_row : Row
+abbrev pub request_row : Row PlainStep
 request_row = record {
   fields = tab ∷ frame ∷ required (codes "answer") prompt_answer ∷ [];
-  action = λ (tab, (frame, (answer, _))). Act (label tab frame) (Request answer);
+  gives = λ (tab, (frame, (answer, _))). acts tab frame (Request answer);
 }
 
-abbrev pub persisted_row : Row
+abbrev pub persisted_row : Row PlainStep
 persisted_row = document_row Persisted
 
-abbrev pub estimate_row : Row
+abbrev pub estimate_row : Row PlainStep
 estimate_row = document_row Estimate
 
-abbrev pub persist_row : Row
+abbrev pub persist_row : Row PlainStep
 persist_row = record {
   fields = tab ∷ frame ∷ required (codes "answer") consent ∷ [];
-  action = λ (tab, (frame, (answer, _))). Act (label tab frame) (Persist answer);
+  gives = λ (tab, (frame, (answer, _))). acts tab frame (Persist answer);
 }
 
-abbrev pub evict_row : Row
+abbrev pub evict_row : Row PlainStep
 evict_row = record {
   fields = required (codes "site") site_name ∷ [];
-  action = λ (site, _). Evict site;
+  gives = λ (site, _). Acts (Evict site);
 }
 
--- the actions that a line may have, by their names
-unfoldable pub table : List (List ℕ × Row)
+-- what lines may ask for, by their names
+unfoldable pub table : List (List ℕ × Row PlainStep)
 table =
-    (codes "tick", tick_row) ∷ (codes "open", open_row) ∷ (codes "close", close_row)
-    ∷ (codes "go", go_row) ∷ (codes "frame", frame_row) ∷ (codes "nav", nav_row)
-    ∷ (codes "drop", drop_row) ∷ (codes "click", click_row) ∷ (codes "fetch", fetch_row)
-    ∷ (codes "set", set_row) ∷ (codes "get", get_row) ∷ (codes "del", del_row)
-    ∷ (codes "clear", clear_row) ∷ (codes "len", len_row) ∷ (codes "key", key_row)
-    ∷ (codes "events", events_row) ∷ (codes "cookie", cookie_row)
+    (codes "tick", tick_row) ∷ (codes "restart", restart_row) ∷ (codes "open", open_row)
+    ∷ (codes "close", close_row) ∷ (codes "go", go_row) ∷ (codes "frame", frame_row)
+    ∷ (codes "nav", nav_row) ∷ (codes "drop", drop_row) ∷ (codes "click", click_row)
+    ∷ (codes "fetch", fetch_row) ∷ (codes "set", set_row) ∷ (codes "get", get_row)
+    ∷ (codes "del", del_row) ∷ (codes "clear", clear_row) ∷ (codes "len", len_row)
+    ∷ (codes "key", key_row) ∷ (codes "events", events_row) ∷ (codes "cookie", cookie_row)
     ∷ (codes "setcookie", setcookie_row) ∷ (codes "has", has_row)
     ∷ (codes "request", request_row) ∷ (codes "persisted", persisted_row)
     ∷ (codes "estimate", estimate_row) ∷ (codes "persist", persist_row)

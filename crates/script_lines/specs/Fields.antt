@@ -12,12 +12,15 @@ use Rattle.serde_json.specs.Find.{get, as_bool, as_str}
 use Rattle.origin_site.specs.Address.{PlainAddress, address_of}
 use Rattle.origin_site.specs.Site.{PlainSite, site_of_text}
 use Rattle.storage_events.specs.declared.event.AreaKind.{AreaKind}
-use Rattle.script_lines.specs.Script.{HeadField, PlainFault, BadField, BadHeader}
+use Rattle.script_lines.specs.Script.{PlainFault, BadField, BadHeader}
+use Rattle.script_actions.specs.Action.{HeadField}
 use Rattle.script_lines.specs.Words.{number_of, within, word_of, methods, areas, loaders}
 use Rattle.script_lines.specs.Words.{navigators, answers, consents}
 use Rattle.script_lines.specs.Heads.{head_of_value, is_header}
-use Rattle.script_lines.specs.declared.words.Method.{Method}
-use Rattle.script_lines.specs.declared.words.Prompt.{Prompt}
+use Rattle.disk_model.specs.declared.schedule.Cut.{Cut}
+use Rattle.script_lines.specs.Cuts.{cuts_of_value}
+use Rattle.script_actions.specs.declared.words.Method.{Method}
+use Rattle.script_actions.specs.declared.words.Prompt.{Prompt}
 
 -- what goes on with a value, and leaves a fault
 abbrev pub then_ok : {A B E : Type 0} → Result A E → (A → Result B E) → Result B E
@@ -40,6 +43,7 @@ pub data Kind : Type 0 where
   navigator : Kind
   prompt_answer : Kind
   consent : Kind
+  cut_list : Kind
   optional : Kind → Kind
 
 -- what a member of a kind stands for
@@ -56,6 +60,7 @@ Meaning loader = Bool
 Meaning navigator = Bool
 Meaning prompt_answer = Prompt
 Meaning consent = Prompt
+Meaning cut_list = List Cut
 Meaning (optional kind) = Option (Meaning kind)
 
 -- what a value stands for as a member of a kind, and none where it is of another form
@@ -72,6 +77,7 @@ meaning loader value = word_of loaders value
 meaning navigator value = word_of navigators value
 meaning prompt_answer value = word_of answers value
 meaning consent value = word_of consents value
+meaning cut_list value = cuts_of_value value
 meaning (optional kind) value = option_map Some (meaning kind value)
 
 -- ---- fields

@@ -9,7 +9,7 @@ use Rattle.script_lines.specs.declared.flat_object.Member.{Member}
 use Rattle.script_lines.specs.declared.json_value.JsonValue.{JsonValue}
 use Rattle.script_lines.specs.declared.json_value.JsonValue.TheVariants as json
 use Rattle.script_lines.specs.declared.pairs.Pair.{Pair}
-use Rattle.script_lines.specs.Script.{HeadField}
+use Rattle.script_actions.specs.Action.{HeadField}
 
 -- a pair of texts
 abbrev pub pair_data : Pair → Data

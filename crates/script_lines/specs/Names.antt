@@ -1,12 +1,14 @@
 -- The rows of the table that the names in the code stand for.
+use Rattle.script_actions.specs.Action.{PlainStep}
 use Rattle.script_lines.specs.Rows.{Row}
 use Rattle.script_lines.specs.Actions as table
 use Rattle.script_lines.specs.declared.actions.ActionName.{ActionName}
 use Rattle.script_lines.specs.declared.actions.ActionName.TheVariants as name
 
 -- the row of the table that a name stands for
-abbrev pub row_of : ActionName → Row
+abbrev pub row_of : ActionName → Row PlainStep
 row_of name.Tick = table.tick_row
+row_of name.Restart = table.restart_row
 row_of name.Open = table.open_row
 row_of name.Close = table.close_row
 row_of name.Go = table.go_row

@@ -1,19 +1,20 @@
--- What a row of the table of actions is, and what several rows have.
+-- What a row of a table of lines is, and what several rows have.
 -- Source: the script format of docs/FORMATS.md. Our own choice: all of it.
 use Rattle.std.specs.Prelude.{ℕ, List, [], ◌∷◌, codes}
 use Rattle.agent_base.specs.declared.refusals.Label.{Label}
 use Rattle.storage_events.specs.declared.event.AreaKind.{AreaKind}
 use Rattle.storage_events.specs.declared.event.AreaKind.TheVariants.{Local}
-use Rattle.script_lines.specs.declared.words.Method.TheVariants as method
-use Rattle.script_lines.specs.Script.{PlainAction, DocumentAction, Act}
+use Rattle.script_actions.specs.declared.words.Method.TheVariants as method
+use Rattle.script_actions.specs.Action.{PlainStep, DocumentAction, Act}
+use Rattle.unwinding.specs.Admissible.{Acts}
 use Rattle.script_lines.specs.Fields.{Field, Kind, required, defaulted, Meanings}
 use Rattle.script_lines.specs.Fields.{whole, any_text, address_text, method_name, head_list}
 use Rattle.script_lines.specs.Fields.{area_name}
 
--- a kind of line: its fields in order, and the action that they give
-pub record Row : Type 0 where
+-- a kind of line: its fields in order, and what they give
+pub record Row (A : Type 0) : Type 0 where
   pub fields : List Field
-  pub action : Meanings fields → PlainAction
+  pub gives : Meanings fields → A
 
 -- ---- fields that several rows have
 
@@ -56,23 +57,27 @@ key = required (codes "key") any_text
 abbrev pub label : ℕ → ℕ → Label
 label tab frame = record { tab = tab; frame = frame }
 
+-- an action of this document
+abbrev pub acts : ℕ → ℕ → DocumentAction → PlainStep
+acts tab frame action = Acts (Act (label tab frame) action)
+
 -- a document and nothing besides
-abbrev pub document_row : DocumentAction → Row
+abbrev pub document_row : DocumentAction → Row PlainStep
 document_row action = record {
   fields = tab ∷ frame ∷ [];
-  action = λ (tab, (frame, _)). Act (label tab frame) action;
+  gives = λ (tab, (frame, _)). acts tab frame action;
 }
 
 -- an area of a document
-abbrev pub area_row : (AreaKind → DocumentAction) → Row
+abbrev pub area_row : (AreaKind → DocumentAction) → Row PlainStep
 area_row action = record {
   fields = tab ∷ frame ∷ area ∷ [];
-  action = λ (tab, (frame, (area, _))). Act (label tab frame) (action area);
+  gives = λ (tab, (frame, (area, _))). acts tab frame (action area);
 }
 
 -- a name of an area
-abbrev pub name_row : (AreaKind → List ℕ → DocumentAction) → Row
+abbrev pub name_row : (AreaKind → List ℕ → DocumentAction) → Row PlainStep
 name_row action = record {
   fields = tab ∷ frame ∷ area ∷ key ∷ [];
-  action = λ (tab, (frame, (area, (key, _)))). Act (label tab frame) (action area key);
+  gives = λ (tab, (frame, (area, (key, _)))). acts tab frame (action area key);
 }

@@ -8,10 +8,10 @@ use Rattle.serde_json.specs.Find.{as_number, as_str, as_u64}
 use Rattle.case_tables.specs.Rows.{first_value}
 use Rattle.storage_events.specs.declared.event.AreaKind.{AreaKind}
 use Rattle.storage_events.specs.declared.event.AreaKind.TheVariants as area
-use Rattle.script_lines.specs.declared.words.Method.{Method}
-use Rattle.script_lines.specs.declared.words.Method.TheVariants as method
-use Rattle.script_lines.specs.declared.words.Prompt.{Prompt}
-use Rattle.script_lines.specs.declared.words.Prompt.TheVariants as prompt
+use Rattle.script_actions.specs.declared.words.Method.{Method}
+use Rattle.script_actions.specs.declared.words.Method.TheVariants as method
+use Rattle.script_actions.specs.declared.words.Prompt.{Prompt}
+use Rattle.script_actions.specs.declared.words.Prompt.TheVariants as prompt
 
 -- the whole number that a value is
 abbrev pub number_of : Data → Option ℕ

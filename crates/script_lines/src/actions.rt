@@ -1,22 +1,25 @@
-//! The actions of the table, each read by its row.
+//! What lines ask for, each read by its row of the table.
 ghost use Rattle.std.specs.Prelude.{◌≡◌, option_map};
-ghost use Rattle.script_lines.specs.Grammar as spec;
-ghost use Rattle.script_lines.specs.Grammar.{action_by, action_by_row, action_of_data};
+ghost use Rattle.script_lines.specs.Steps as spec;
+ghost use Rattle.script_lines.specs.Steps.{by_row, step_by, step_of_data};
 ghost use Rattle.script_lines.specs.Names.{row_of};
 ghost use Rattle.script_lines.specs.JsonLine.{data_of_line};
-ghost use Rattle.script_lines.specs.Plain.{Reads, action_of};
+ghost use Rattle.script_lines.specs.Plain.{Reads};
+ghost use Rattle.script_actions.specs.Plain.{step_of};
 
 use crate::fields::bad_field;
 use crate::json_line::JsonLine;
 use crate::json_value::JsonValue;
-use crate::{Action, ScriptFault, rows};
+use crate::{ScriptFault, rows};
 use case_tables::Cases;
+use script_actions::Step;
 use std::alloc::Global;
 
 /// The rows of the table by their names.
 #[derive(Clone, Copy)]
 pub enum ActionName {
     Tick,
+    Restart,
     Open,
     Close,
     Go,
@@ -42,8 +45,9 @@ pub enum ActionName {
     Evict,
 }
 
-const ACTIONS: [(&str, ActionName); 24] = [
+const ACTIONS: [(&str, ActionName); 25] = [
     ("tick", ActionName::Tick),
+    ("restart", ActionName::Restart),
     ("open", ActionName::Open),
     ("close", ActionName::Close),
     ("go", ActionName::Go),
@@ -69,9 +73,9 @@ const ACTIONS: [(&str, ActionName); 24] = [
     ("evict", ActionName::Evict),
 ];
 
-/// The action of a line that is JSON.
-pub fn read_action(alloc: Global, line: &JsonLine<'_>, number: u32) -> Result<Action, ScriptFault>
-    ensures { Reads action_of (action_of_data number (data_of_line line.now)) result }
+/// What a line that is JSON asks for.
+pub fn read_step(alloc: Global, line: &JsonLine<'_>, number: u32) -> Result<Step, ScriptFault>
+    ensures { Reads step_of (step_of_data number (data_of_line line.now)) result }
 {
     match line.get("do").and_then(JsonValue::as_str) {
         Some(name) => read_named(alloc, line, number, name),
@@ -84,9 +88,9 @@ fn read_named(
     line: &JsonLine<'_>,
     number: u32,
     name: &str,
-) -> Result<Action, ScriptFault>
-    ensures { Reads action_of
-        (action_by number (spec.row_named name.now) (data_of_line line.now)) result }
+) -> Result<Step, ScriptFault>
+    ensures { Reads step_of
+        (step_by number (spec.row_named name.now) (data_of_line line.now)) result }
 {
     match action_named(name) {
         Some(action) => read_row(alloc, line, number, action),
@@ -105,12 +109,13 @@ fn read_row(
     line: &JsonLine<'_>,
     number: u32,
     action: ActionName,
-) -> Result<Action, ScriptFault>
-    ensures { Reads action_of
-        (action_by_row number (row_of action) (data_of_line line.now)) result }
+) -> Result<Step, ScriptFault>
+    ensures { Reads step_of
+        (by_row number (row_of action) (data_of_line line.now)) result }
 {
     match action {
         ActionName::Tick => rows::tick(alloc, line, number),
+        ActionName::Restart => rows::restart(alloc, line, number),
         ActionName::Open => rows::open(alloc, line, number),
         ActionName::Close => rows::close(alloc, line, number),
         ActionName::Go => rows::go(alloc, line, number),

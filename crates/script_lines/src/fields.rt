@@ -13,11 +13,11 @@ ghost use Rattle.script_lines.specs.Script as plain;
 ghost use Rattle.script_lines.specs.Words.{word_of};
 
 use crate::ScriptFault;
-use crate::action::boxed;
 use crate::json_line::JsonLine;
 use crate::json_value::JsonValue;
 use case_tables::Cases;
 use origin_site::{Address, AddressFault, Site, SiteFault};
+use script_actions::boxed;
 use std::alloc::Global;
 
 /// The fault of this member, or want of memory for its name.
@@ -30,8 +30,8 @@ pub fn bad_field(alloc: Global, number: u32, name: &str) -> ScriptFault
     }
 }
 
-// A value of the right form, or the fault of a member of another form.
-fn formed<T>(alloc: Global, number: u32, name: &str, value: Option<T>) -> Result<T, ScriptFault>
+/// A value of the right form, or the fault of a member of another form.
+pub fn formed<T>(alloc: Global, number: u32, name: &str, value: Option<T>) -> Result<T, ScriptFault>
     ensures { MatchResult result (λ v. value ≡ Some v) (λ why. (value ≡ None)
         × ((why ≡ ScriptFault.NoMemory) ⊎ (fault_of why ≡ plain.BadField number name.now))) }
 {

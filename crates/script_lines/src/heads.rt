@@ -6,18 +6,21 @@ ghost use Rattle.http_header.specs.Token.{is_token_byte};
 ghost use Rattle.serde_json.specs.Find.{as_array};
 ghost use Rattle.serde_json.specs.View.{items_view, view};
 ghost use Rattle.script_lines.specs.Flat.{field_of_texts};
+ghost use Rattle.script_lines.specs.Items.{each_of};
 ghost use Rattle.script_lines.specs.JsonLine.{data_of_line};
 ghost use Rattle.script_lines.specs.Fields.{checked, defaulted, field_of, formed, head_list};
 ghost use Rattle.script_lines.specs.Heads as spec;
-ghost use Rattle.script_lines.specs.Plain.{Reads, head_field_of};
+ghost use Rattle.script_lines.specs.Plain.{Reads};
+ghost use Rattle.script_actions.specs.Plain.{head_field_of};
 
+use crate::ScriptFault;
 use crate::fields::bad_field;
 use crate::json_line::JsonLine;
-use crate::json_value::JsonValue;
+use crate::json_value::{JsonValue, two_of};
 use crate::pairs::Pair;
-use crate::{HeadField, ScriptFault};
 use agent_base::NoMemory;
 use http_header::{MAX_HEADER_NAME_LEN, is_token_char};
+use script_actions::HeadField;
 use serde_json::Value;
 use std::alloc::Global;
 
@@ -87,7 +90,7 @@ fn copied(alloc: Global, pairs: &[Pair<'_>]) -> Result<Vec<HeadField>, NoMemory>
 // The pairs of texts that a value is a list of.
 fn pairs_in(alloc: Global, value: &Value) -> Result<Option<Vec<Pair<'_>>>, NoMemory>
     ensures { IfOk result (λ pairs. option_map (λ v. map field_of_texts v.items) pairs
-        ≡ option_and_then spec.fields_of_pairs (as_array (view value.now))) }
+        ≡ option_and_then (each_of spec.field_of_pair) (as_array (view value.now))) }
 {
     match value.as_array() {
         Some(items) => each_pair(alloc, items),
@@ -97,7 +100,7 @@ fn pairs_in(alloc: Global, value: &Value) -> Result<Option<Vec<Pair<'_>>>, NoMem
 
 fn each_pair(alloc: Global, items: &[Value]) -> Result<Option<Vec<Pair<'_>>>, NoMemory>
     ensures { IfOk result (λ pairs. option_map (λ v. map field_of_texts v.items) pairs
-        ≡ spec.fields_of_pairs (items_view items.now)) }
+        ≡ each_of spec.field_of_pair (items_view items.now)) }
 {
     let mut pairs = Vec::new(alloc);
     for item in items {
@@ -120,30 +123,6 @@ fn pair_in(pair: &Value) -> Option<Pair<'_>>
     match (name.as_str(), value.as_str()) {
         (Some(name), Some(value)) => Some(Pair { name, value }),
         _ => None,
-    }
-}
-
-// The two values of a pair.
-fn two_of(pair: &Value) -> Option<(&Value, &Value)>
-    ensures { option_map (λ pair. (view pair.0.now, view pair.1.now)) result
-        ≡ spec.two_of (view pair.now) }
-{
-    match pair.as_array() {
-        Some(items) => two_in(items),
-        None => None,
-    }
-}
-
-#[tactic(auto, using(crate::proofs::HeadLemmas::two_of_few, crate::proofs::HeadLemmas::two_of_many))]
-fn two_in(items: &[Value]) -> Option<(&Value, &Value)>
-    ensures { option_map (λ pair. (view pair.0.now, view pair.1.now)) result
-        ≡ spec.two_in (items_view items.now) }
-{
-    match items {
-        [first, second] => Some((first, second)),
-        [] => None,
-        [_] => None,
-        [_, _, _, ..] => None,
     }
 }
 

@@ -1,7 +1,9 @@
-//! The value of a member of a line.
-ghost use Rattle.std.specs.Prelude.{◌≡◌, option_and_then, option_copied};
+//! The value of a member of a line, and pairs of values.
+ghost use Rattle.std.specs.Prelude.{◌≡◌, option_and_then, option_copied, option_map};
 ghost use Rattle.serde_json.specs.Find as find;
+ghost use Rattle.serde_json.specs.View.{items_view, view};
 ghost use Rattle.script_lines.specs.Flat.{data_of};
+ghost use Rattle.script_lines.specs.Items as spec;
 
 use crate::pairs::Pair;
 use serde_json::Value;
@@ -45,5 +47,29 @@ impl<'a> JsonValue<'a> {
             JsonValue::Any(value) => value.as_bool(),
             JsonValue::Text(_) | JsonValue::Whole(_) | JsonValue::Pairs(_) => None,
         }
+    }
+}
+
+/// The two values of a pair.
+pub fn two_of(pair: &Value) -> Option<(&Value, &Value)>
+    ensures { option_map (λ pair. (view pair.0.now, view pair.1.now)) result
+        ≡ spec.two_of (view pair.now) }
+{
+    match pair.as_array() {
+        Some(items) => two_in(items),
+        None => None,
+    }
+}
+
+#[tactic(auto, using(crate::proofs::ItemLemmas::two_of_few, crate::proofs::ItemLemmas::two_of_many))]
+fn two_in(items: &[Value]) -> Option<(&Value, &Value)>
+    ensures { option_map (λ pair. (view pair.0.now, view pair.1.now)) result
+        ≡ spec.two_in (items_view items.now) }
+{
+    match items {
+        [first, second] => Some((first, second)),
+        [] => None,
+        [_] => None,
+        [_, _, _, ..] => None,
     }
 }

@@ -5,8 +5,9 @@
 //! table of actions with their fields.
 #![tactic(auto)]
 
-mod action;
 mod actions;
+mod beginning;
+mod cuts;
 mod fields;
 mod flat_object;
 mod heads;
@@ -19,6 +20,4 @@ mod rows;
 mod script;
 mod words;
 
-pub use action::{Action, HeadField};
-pub use script::{Line, Script, ScriptFault};
-pub use words::{Method, Prompt};
+pub use script::{Script, ScriptFault};

@@ -6,8 +6,8 @@ ghost use Rattle.std.specs.List.{list_all, list_any};
 ghost use Rattle.serde_json.specs.Data.{object};
 ghost use Rattle.serde_json.specs.View.{view};
 ghost use Rattle.script_lines.specs.Flat.{members_of};
-ghost use Rattle.script_lines.specs.Grammar as spec;
-ghost use Rattle.script_lines.specs.Grammar.{refused};
+ghost use Rattle.script_lines.specs.Steps as spec;
+ghost use Rattle.script_lines.specs.Steps.{refused};
 ghost use Rattle.script_lines.specs.JsonLine.{data_of_line};
 ghost use Rattle.script_lines.specs.Plain.{Reads};
 

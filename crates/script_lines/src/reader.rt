@@ -2,23 +2,29 @@
 ghost use Rattle.std.specs.Prelude.{◌≡◌, ◌≤◌, ◌<◌, ◌∷◌, ◌++◌, ◌+◌, IfErr, IfOk, IsErrOf, OnOk};
 ghost use Rattle.std.specs.Prelude.{[], Ok, Err, ◌==◌, ◌⊎◌, IfSome, MatchOption, MatchResult};
 ghost use Rattle.std.specs.Prelude.{option_to_list};
-ghost use Rattle.std.specs.Prelude.{false, position, true, length, map, option_copied, option_map};
+ghost use Rattle.std.specs.Prelude.{false, position, true, length, map, Some, option_copied, option_map};
 ghost use Rattle.std.specs.Str.{is_utf8};
 ghost use Rattle.agent_base.specs.Counts.{Rose};
 ghost use Rattle.agent_base.specs.Streams.{Shortens};
+ghost use Rattle.disk_model.specs.Schedule.{AreFrom};
+ghost use Rattle.script_lines.specs.Fields.{then_ok};
 ghost use Rattle.script_lines.specs.Grammar as spec;
-ghost use Rattle.script_lines.specs.Grammar.{action_of_bytes, json_of, line_of_bytes, lines_from};
+ghost use Rattle.script_lines.specs.Grammar.{line_of_bytes, lines_from};
 ghost use Rattle.script_lines.specs.Grammar.{lines_of, script_limit, script_of_bytes};
-ghost use Rattle.script_lines.specs.Pieces.{lines_after};
-ghost use Rattle.script_lines.specs.Plain.{GaveScript, Reads, ReadsSource, action_of, fault_of};
-ghost use Rattle.script_lines.specs.Plain.{line_of, script_of};
+ghost use Rattle.script_lines.specs.JsonLine.{data_of_line};
+ghost use Rattle.script_lines.specs.Pieces as pieces;
+ghost use Rattle.script_lines.specs.Pieces.{after, length_after, lines_after};
+ghost use Rattle.script_lines.specs.Plain.{GaveScript, Reads, ReadsSource, fault_of, script_of};
+ghost use Rattle.script_actions.specs.Plain.{line_of};
 
-use crate::actions::read_action;
+use crate::actions::read_step;
+use crate::beginning::{FirstLine, first_line};
 use crate::json_line::JsonLine;
-use crate::{Action, Line, Script, ScriptFault};
+use crate::{Script, ScriptFault};
 use agent_base::{ReadAll, Source, read_all};
 use json::Scratch;
 use memchr::memchr;
+use script_actions::Line;
 use std::alloc::Global;
 use std::str;
 
@@ -31,14 +37,20 @@ const LINE_LIMIT: usize = 1_048_576;
 impl Script {
     /// Reads the script that the bytes of a source are, in time linear in their number. Of several
     /// faults the first is answered.
-    pub fn read<S: Source>(alloc: Global, source: &mut S) -> Result<Script, ScriptFault>
+    pub fn read<S: Source>(
+        alloc: Global,
+        source: &mut S,
+        cuts_allowed: bool,
+    ) -> Result<Script, ScriptFault>
         ensures answer { IfSome (S.left source.old)
-            (λ bytes. ReadsSource script_of (script_of_bytes bytes) result) }
-        ensures given { IfOk result
-            (λ s. GaveScript (S.left source.old) (S.left source.new) (Ok (script_of s))) }
+            (λ bytes. ReadsSource script_of (script_of_bytes cuts_allowed bytes) result) }
+        ensures given { IfOk result (λ s.
+            GaveScript cuts_allowed (S.left source.old) (S.left source.new) (Ok (script_of s))) }
         ensures refused { IfErr result (λ why. (why ≡ ScriptFault.NoMemory)
             ⊎ ((why ≡ ScriptFault.ReadFault) ⊎ ((why ≡ ScriptFault.TooLong)
-            ⊎ GaveScript (S.left source.old) (S.left source.new) (Err (fault_of why))))) }
+            ⊎ GaveScript cuts_allowed (S.left source.old) (S.left source.new)
+            (Err (fault_of why))))) }
+        ensures cuts { IfOk result (λ s. AreFrom 1 s.cuts.items) }
         ensures end { OnOk result (IfSome (S.left source.new) (λ rest. rest ≡ [])) }
         ensures refused_end { IfErr result (λ why. (why ≡ ScriptFault.NoMemory)
             ⊎ ((why ≡ ScriptFault.ReadFault) ⊎ ((why ≡ ScriptFault.TooLong)
@@ -52,7 +64,7 @@ impl Script {
         ensures rest { Shortens (S.left source.old) (S.left source.new) }
     {
         match read_all(alloc, source, SCRIPT_LIMIT) {
-            Ok(bytes) => script_in(alloc, &bytes),
+            Ok(bytes) => script_in(alloc, &bytes, cuts_allowed),
             Err(ReadAll::TooLong) => Err(ScriptFault::TooLong),
             Err(ReadAll::Failed) => Err(ScriptFault::ReadFault),
             Err(ReadAll::NoMemory) => Err(ScriptFault::NoMemory),
@@ -60,25 +72,60 @@ impl Script {
     }
 }
 
-fn script_in(alloc: Global, bytes: &[u8]) -> Result<Script, ScriptFault>
+fn script_in(alloc: Global, bytes: &[u8], cuts_allowed: bool) -> Result<Script, ScriptFault>
     requires { length bytes.now ≤ script_limit }
-    ensures { Reads script_of (script_of_bytes bytes.now) result }
+    ensures { Reads script_of (script_of_bytes cuts_allowed bytes.now) result }
 {
-    let lines = read_lines(alloc, bytes)?;
-    Ok(Script { lines })
+    match first_line(bytes) {
+        Some(first) => script_at(alloc, &first, cuts_allowed),
+        None => Ok(Script {
+            cuts: Vec::new(alloc),
+            lines: Vec::new(alloc),
+        }),
+    }
 }
 
-fn read_lines(alloc: Global, bytes: &[u8]) -> Result<Vec<Line>, ScriptFault>
-    requires { length bytes.now ≤ script_limit }
-    ensures { Reads (λ v. map line_of v.items) (lines_from 1 (lines_of bytes.now)) result }
+fn script_at(
+    alloc: Global,
+    first: &FirstLine<'_>,
+    cuts_allowed: bool,
+) -> Result<Script, ScriptFault>
+    requires seen { spec.is_blank first.now.text.now ≡ false }
+    requires count { first.now.number + length_after (option_copied first.now.later)
+        ≤ script_limit + 1 }
+    ensures { Reads script_of (pieces.script_at cuts_allowed (Some first.now)) result }
 {
-    let mut lines = Vec::new(alloc);
     let mut scratch = Scratch::new(alloc);
+    let begun = first.read(alloc, cuts_allowed, &mut scratch)?;
+    match first.later {
+        Some(later) => {
+            let lines = read_lines(alloc, begun.lines, first.number + 1, later, &mut scratch)?;
+            Ok(Script {
+                cuts: begun.cuts,
+                lines,
+            })
+        }
+        None => Ok(begun),
+    }
+}
+
+// These lines, and then those of a text, of which the first has this number.
+fn read_lines(
+    alloc: Global,
+    mut lines: Vec<Line>,
+    mut number: u32,
+    bytes: &[u8],
+    scratch: &mut Scratch,
+) -> Result<Vec<Line>, ScriptFault>
+    requires { number + length bytes.now ≤ script_limit + 1 }
+    ensures { Reads (λ v. map line_of v.items)
+        (then_ok (lines_from number (lines_of bytes.now))
+        (after (map line_of lines.items))) result }
+{
     let mut rest = bytes;
-    let mut number = 1;
     'lines: loop {
         let (line, later) = next_line(rest);
-        push_some(&mut lines, read_line(alloc, line, number, &mut scratch)?)?;
+        push_some(&mut lines, read_line(alloc, line, number, scratch)?)?;
         match later {
             Some(later) => rest = later,
             None => return Ok(lines),
@@ -88,7 +135,7 @@ fn read_lines(alloc: Global, bytes: &[u8]) -> Result<Vec<Line>, ScriptFault>
 }
 
 /// The first line, and what follows its line feed.
-fn next_line(bytes: &[u8]) -> (&[u8], Option<&[u8]>)
+pub fn next_line(bytes: &[u8]) -> (&[u8], Option<&[u8]>)
     ensures lines { lines_of bytes.now ≡ result.0.now ∷ lines_after (option_copied result.1) }
     ensures shorter { IfSome result.1 (λ later. length later.now < length bytes.now) }
 {
@@ -98,7 +145,8 @@ fn next_line(bytes: &[u8]) -> (&[u8], Option<&[u8]>)
     }
 }
 
-fn push_some(lines: &mut Vec<Line>, line: Option<Line>) -> Result<(), ScriptFault>
+/// Puts a line behind the others, if there is one.
+pub fn push_some(lines: &mut Vec<Line>, line: Option<Line>) -> Result<(), ScriptFault>
     ensures { MatchResult result (λ _. lines.new.items ≡ lines.old.items ++ option_to_list line)
         (λ e. e ≡ ScriptFault.NoMemory) }
 {
@@ -128,32 +176,34 @@ fn read_line(
     if is_blank(line) {
         return Ok(None);
     }
-    let action = action_in(alloc, line, number, scratch)?;
-    Ok(Some(Line { number, action }))
+    let value = json_in(alloc, line, number, scratch)?;
+    let step = read_step(alloc, &value, number)?;
+    Ok(Some(Line { number, step }))
 }
 
-fn is_blank(line: &[u8]) -> bool
+/// Whether a line is skipped.
+pub fn is_blank(line: &[u8]) -> bool
     ensures { result ≡ spec.is_blank line.now }
 {
     line.iter().all(|b| matches!(*b, b' ' | b'\t' | b'\r'))
 }
 
-fn action_in(
+/// The value of a line, or why it has none.
+pub fn json_in<'a>(
     alloc: Global,
-    line: &[u8],
+    line: &'a [u8],
     number: u32,
-    scratch: &mut Scratch,
-) -> Result<Action, ScriptFault>
-    ensures { Reads action_of (action_of_bytes number line.now) result }
+    scratch: &'a mut Scratch,
+) -> Result<JsonLine<'a>, ScriptFault>
+    ensures { Reads data_of_line (spec.data_of_bytes number line.now) result }
 {
     if line.len() > LINE_LIMIT {
         return Err(ScriptFault::LineTooLong(number));
     }
-    let Some(text) = utf8_text(line) else {
-        return Err(ScriptFault::NotUtf8(number));
-    };
-    let value = JsonLine::read(alloc, text, number, scratch)?;
-    read_action(alloc, &value, number)
+    match utf8_text(line) {
+        Some(text) => JsonLine::read(alloc, text, number, scratch),
+        None => Err(ScriptFault::NotUtf8(number)),
+    }
 }
 
 fn utf8_text(line: &[u8]) -> Option<&str>

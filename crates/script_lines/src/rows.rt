@@ -1,13 +1,16 @@
-//! The readers of the rows of the table, one a row.
+//! The readers of the rows of the table, one a row, and that of the line `disk`.
 ghost use Rattle.script_lines.specs.Actions.{clear_row, click_row, close_row, cookie_row, del_row};
 ghost use Rattle.script_lines.specs.Actions.{drop_row, estimate_row, events_row, evict_row};
 ghost use Rattle.script_lines.specs.Actions.{fetch_row, frame_row, get_row, go_row, has_row, key_row};
 ghost use Rattle.script_lines.specs.Actions.{len_row, nav_row, open_row, persist_row, persisted_row};
-ghost use Rattle.script_lines.specs.Actions.{request_row, set_row, setcookie_row, tick_row};
-ghost use Rattle.script_lines.specs.Grammar.{action_by_row};
+ghost use Rattle.script_lines.specs.Actions.{request_row, restart_row, set_row, setcookie_row, tick_row};
+ghost use Rattle.script_lines.specs.Steps.{by_row, disk_row};
 ghost use Rattle.script_lines.specs.JsonLine.{data_of_line};
-ghost use Rattle.script_lines.specs.Plain.{Reads, action_of};
+ghost use Rattle.script_lines.specs.Plain.{Reads};
+ghost use Rattle.script_actions.specs.Plain.{step_of};
 
+use crate::ScriptFault;
+use crate::cuts::cuts;
 use crate::fields::{
     address, frame_number, inner_frame, optional_tab, optional_text, site, tab_number, text, truth,
     whole_number, word,
@@ -16,9 +19,10 @@ use crate::heads::head;
 use crate::json_line::JsonLine;
 use crate::members::no_others;
 use crate::words::{ANSWERS, AREAS, CONSENTS, LOADERS, METHODS, NAVIGATORS};
-use crate::{Action, Method, ScriptFault};
 use agent_base::Label;
 use case_tables::read_fields;
+use disk_model::Cut;
+use script_actions::{Action, Method, Step};
 use std::alloc::Global;
 use storage_events::AreaKind;
 
@@ -35,59 +39,75 @@ macro_rules! read_document {
             tab: tab_number,
             frame: frame_number(0),
             $($fields)*
-        } => Action::$action { at: Label { tab, frame }, $($field),* })
+        } => Step::Act(Action::$action { at: Label { tab, frame }, $($field),* }))
     };
 }
 
-pub fn tick(alloc: Global, line: &JsonLine<'_>, number: u32) -> Result<Action, ScriptFault>
-    ensures { Reads action_of (action_by_row number tick_row (data_of_line line.now)) result }
+pub fn disk(alloc: Global, line: &JsonLine<'_>, number: u32) -> Result<Vec<Cut>, ScriptFault>
+    ensures { Reads (λ v. v.items) (by_row number disk_row (data_of_line line.now)) result }
 {
-    let action = read_fields!((alloc, line, number); no_others; {
-        s: whole_number(1_000_000_000),
-    } => Action::Tick { s });
-    Ok(action)
+    let cuts = read_fields!((alloc, line, number); no_others; {
+        cuts: cuts,
+    } => cuts);
+    Ok(cuts)
 }
 
-pub fn open(alloc: Global, line: &JsonLine<'_>, number: u32) -> Result<Action, ScriptFault>
-    ensures { Reads action_of (action_by_row number open_row (data_of_line line.now)) result }
+pub fn tick(alloc: Global, line: &JsonLine<'_>, number: u32) -> Result<Step, ScriptFault>
+    ensures { Reads step_of (by_row number tick_row (data_of_line line.now)) result }
 {
-    let action = read_fields!((alloc, line, number); no_others; {
+    let step = read_fields!((alloc, line, number); no_others; {
+        s: whole_number(1_000_000_000),
+    } => Step::Act(Action::Tick { s }));
+    Ok(step)
+}
+
+pub fn restart(alloc: Global, line: &JsonLine<'_>, number: u32) -> Result<Step, ScriptFault>
+    ensures { Reads step_of (by_row number restart_row (data_of_line line.now)) result }
+{
+    let step = read_fields!((alloc, line, number); no_others; {} => Step::Restart);
+    Ok(step)
+}
+
+pub fn open(alloc: Global, line: &JsonLine<'_>, number: u32) -> Result<Step, ScriptFault>
+    ensures { Reads step_of (by_row number open_row (data_of_line line.now)) result }
+{
+    let step = read_fields!((alloc, line, number); no_others; {
         tab: tab_number,
         url: address,
         opener: optional_tab,
         noopener: truth(false),
         method: word(&METHODS, DEFAULT_METHOD),
         head: head,
-    } => Action::Open { tab, url, opener, noopener, method, head });
-    Ok(action)
+    } => Step::Act(Action::Open { tab, url, opener, noopener, method, head }));
+    Ok(step)
 }
 
-pub fn close(alloc: Global, line: &JsonLine<'_>, number: u32) -> Result<Action, ScriptFault>
-    ensures { Reads action_of (action_by_row number close_row (data_of_line line.now)) result }
+pub fn close(alloc: Global, line: &JsonLine<'_>, number: u32) -> Result<Step, ScriptFault>
+    ensures { Reads step_of (by_row number close_row (data_of_line line.now)) result }
 {
-    let action = read_fields!((alloc, line, number); no_others; {
+    let step = read_fields!((alloc, line, number); no_others; {
         tab: tab_number,
-    } => Action::Close { tab });
-    Ok(action)
+    } => Step::Act(Action::Close { tab }));
+    Ok(step)
 }
 
-pub fn go(alloc: Global, line: &JsonLine<'_>, number: u32) -> Result<Action, ScriptFault>
-    ensures { Reads action_of (action_by_row number go_row (data_of_line line.now)) result }
+pub fn go(alloc: Global, line: &JsonLine<'_>, number: u32) -> Result<Step, ScriptFault>
+    ensures { Reads step_of (by_row number go_row (data_of_line line.now)) result }
 {
-    let action = read_fields!((alloc, line, number); no_others; {
+    let step = read_fields!((alloc, line, number); no_others; {
         tab: tab_number,
         url: address,
         by: word(&LOADERS, Some(false)),
         method: word(&METHODS, DEFAULT_METHOD),
         head: head,
-    } => Action::Go { tab, url, by_page: by, method, head });
-    Ok(action)
+    } => Step::Act(Action::Go { tab, url, by_page: by, method, head }));
+    Ok(step)
 }
 
-pub fn frame(alloc: Global, line: &JsonLine<'_>, number: u32) -> Result<Action, ScriptFault>
-    ensures { Reads action_of (action_by_row number frame_row (data_of_line line.now)) result }
+pub fn frame(alloc: Global, line: &JsonLine<'_>, number: u32) -> Result<Step, ScriptFault>
+    ensures { Reads step_of (by_row number frame_row (data_of_line line.now)) result }
 {
-    let action = read_fields!((alloc, line, number); no_others; {
+    let step = read_fields!((alloc, line, number); no_others; {
         tab: tab_number,
         frame: inner_frame,
         parent: frame_number(0),
@@ -95,178 +115,178 @@ pub fn frame(alloc: Global, line: &JsonLine<'_>, number: u32) -> Result<Action, 
         sandbox: optional_text,
         deny: truth(false),
         head: head,
-    } => Action::Frame { at: Label { tab, frame }, parent, deny, url, sandbox, head });
-    Ok(action)
+    } => Step::Act(Action::Frame { at: Label { tab, frame }, parent, deny, url, sandbox, head }));
+    Ok(step)
 }
 
-pub fn nav(alloc: Global, line: &JsonLine<'_>, number: u32) -> Result<Action, ScriptFault>
-    ensures { Reads action_of (action_by_row number nav_row (data_of_line line.now)) result }
+pub fn nav(alloc: Global, line: &JsonLine<'_>, number: u32) -> Result<Step, ScriptFault>
+    ensures { Reads step_of (by_row number nav_row (data_of_line line.now)) result }
 {
-    let action = read_fields!((alloc, line, number); no_others; {
+    let step = read_fields!((alloc, line, number); no_others; {
         tab: tab_number,
         frame: inner_frame,
         url: address,
         by: word(&NAVIGATORS, Some(false)),
         method: word(&METHODS, DEFAULT_METHOD),
         head: head,
-    } => Action::Nav { at: Label { tab, frame }, url, by_self: by, method, head });
-    Ok(action)
+    } => Step::Act(Action::Nav { at: Label { tab, frame }, url, by_self: by, method, head }));
+    Ok(step)
 }
 
-pub fn drop(alloc: Global, line: &JsonLine<'_>, number: u32) -> Result<Action, ScriptFault>
-    ensures { Reads action_of (action_by_row number drop_row (data_of_line line.now)) result }
+pub fn drop(alloc: Global, line: &JsonLine<'_>, number: u32) -> Result<Step, ScriptFault>
+    ensures { Reads step_of (by_row number drop_row (data_of_line line.now)) result }
 {
-    let action = read_fields!((alloc, line, number); no_others; {
+    let step = read_fields!((alloc, line, number); no_others; {
         tab: tab_number,
         frame: inner_frame,
-    } => Action::Drop { at: Label { tab, frame } });
-    Ok(action)
+    } => Step::Act(Action::Drop { at: Label { tab, frame } }));
+    Ok(step)
 }
 
-pub fn click(alloc: Global, line: &JsonLine<'_>, number: u32) -> Result<Action, ScriptFault>
-    ensures { Reads action_of (action_by_row number click_row (data_of_line line.now)) result }
+pub fn click(alloc: Global, line: &JsonLine<'_>, number: u32) -> Result<Step, ScriptFault>
+    ensures { Reads step_of (by_row number click_row (data_of_line line.now)) result }
 {
-    let action = read_document!((alloc, line, number); {} => Click {});
-    Ok(action)
+    let step = read_document!((alloc, line, number); {} => Click {});
+    Ok(step)
 }
 
-pub fn fetch(alloc: Global, line: &JsonLine<'_>, number: u32) -> Result<Action, ScriptFault>
-    ensures { Reads action_of (action_by_row number fetch_row (data_of_line line.now)) result }
+pub fn fetch(alloc: Global, line: &JsonLine<'_>, number: u32) -> Result<Step, ScriptFault>
+    ensures { Reads step_of (by_row number fetch_row (data_of_line line.now)) result }
 {
-    let action = read_document!((alloc, line, number); {
+    let step = read_document!((alloc, line, number); {
         url: address,
         method: word(&METHODS, DEFAULT_METHOD),
         head: head,
     } => Fetch { url, method, head });
-    Ok(action)
+    Ok(step)
 }
 
-pub fn set(alloc: Global, line: &JsonLine<'_>, number: u32) -> Result<Action, ScriptFault>
-    ensures { Reads action_of (action_by_row number set_row (data_of_line line.now)) result }
+pub fn set(alloc: Global, line: &JsonLine<'_>, number: u32) -> Result<Step, ScriptFault>
+    ensures { Reads step_of (by_row number set_row (data_of_line line.now)) result }
 {
-    let action = read_document!((alloc, line, number); {
+    let step = read_document!((alloc, line, number); {
         area: word(&AREAS, DEFAULT_AREA),
         key: text,
         value: text,
     } => Set { area, key, value });
-    Ok(action)
+    Ok(step)
 }
 
-pub fn get(alloc: Global, line: &JsonLine<'_>, number: u32) -> Result<Action, ScriptFault>
-    ensures { Reads action_of (action_by_row number get_row (data_of_line line.now)) result }
+pub fn get(alloc: Global, line: &JsonLine<'_>, number: u32) -> Result<Step, ScriptFault>
+    ensures { Reads step_of (by_row number get_row (data_of_line line.now)) result }
 {
-    let action = read_document!((alloc, line, number); {
+    let step = read_document!((alloc, line, number); {
         area: word(&AREAS, DEFAULT_AREA),
         key: text,
     } => Get { area, key });
-    Ok(action)
+    Ok(step)
 }
 
-pub fn del(alloc: Global, line: &JsonLine<'_>, number: u32) -> Result<Action, ScriptFault>
-    ensures { Reads action_of (action_by_row number del_row (data_of_line line.now)) result }
+pub fn del(alloc: Global, line: &JsonLine<'_>, number: u32) -> Result<Step, ScriptFault>
+    ensures { Reads step_of (by_row number del_row (data_of_line line.now)) result }
 {
-    let action = read_document!((alloc, line, number); {
+    let step = read_document!((alloc, line, number); {
         area: word(&AREAS, DEFAULT_AREA),
         key: text,
     } => Del { area, key });
-    Ok(action)
+    Ok(step)
 }
 
-pub fn clear(alloc: Global, line: &JsonLine<'_>, number: u32) -> Result<Action, ScriptFault>
-    ensures { Reads action_of (action_by_row number clear_row (data_of_line line.now)) result }
+pub fn clear(alloc: Global, line: &JsonLine<'_>, number: u32) -> Result<Step, ScriptFault>
+    ensures { Reads step_of (by_row number clear_row (data_of_line line.now)) result }
 {
-    let action = read_document!((alloc, line, number); {
+    let step = read_document!((alloc, line, number); {
         area: word(&AREAS, DEFAULT_AREA),
     } => Clear { area });
-    Ok(action)
+    Ok(step)
 }
 
-pub fn len(alloc: Global, line: &JsonLine<'_>, number: u32) -> Result<Action, ScriptFault>
-    ensures { Reads action_of (action_by_row number len_row (data_of_line line.now)) result }
+pub fn len(alloc: Global, line: &JsonLine<'_>, number: u32) -> Result<Step, ScriptFault>
+    ensures { Reads step_of (by_row number len_row (data_of_line line.now)) result }
 {
-    let action = read_document!((alloc, line, number); {
+    let step = read_document!((alloc, line, number); {
         area: word(&AREAS, DEFAULT_AREA),
     } => Len { area });
-    Ok(action)
+    Ok(step)
 }
 
-pub fn key(alloc: Global, line: &JsonLine<'_>, number: u32) -> Result<Action, ScriptFault>
-    ensures { Reads action_of (action_by_row number key_row (data_of_line line.now)) result }
+pub fn key(alloc: Global, line: &JsonLine<'_>, number: u32) -> Result<Step, ScriptFault>
+    ensures { Reads step_of (by_row number key_row (data_of_line line.now)) result }
 {
-    let action = read_document!((alloc, line, number); {
+    let step = read_document!((alloc, line, number); {
         area: word(&AREAS, DEFAULT_AREA),
         n: whole_number(4_294_967_295),
     } => Key { area, n });
-    Ok(action)
+    Ok(step)
 }
 
-pub fn events(alloc: Global, line: &JsonLine<'_>, number: u32) -> Result<Action, ScriptFault>
-    ensures { Reads action_of (action_by_row number events_row (data_of_line line.now)) result }
+pub fn events(alloc: Global, line: &JsonLine<'_>, number: u32) -> Result<Step, ScriptFault>
+    ensures { Reads step_of (by_row number events_row (data_of_line line.now)) result }
 {
-    let action = read_document!((alloc, line, number); {} => Events {});
-    Ok(action)
+    let step = read_document!((alloc, line, number); {} => Events {});
+    Ok(step)
 }
 
-pub fn cookie(alloc: Global, line: &JsonLine<'_>, number: u32) -> Result<Action, ScriptFault>
-    ensures { Reads action_of (action_by_row number cookie_row (data_of_line line.now)) result }
+pub fn cookie(alloc: Global, line: &JsonLine<'_>, number: u32) -> Result<Step, ScriptFault>
+    ensures { Reads step_of (by_row number cookie_row (data_of_line line.now)) result }
 {
-    let action = read_document!((alloc, line, number); {} => Cookie {});
-    Ok(action)
+    let step = read_document!((alloc, line, number); {} => Cookie {});
+    Ok(step)
 }
 
-pub fn set_cookie(alloc: Global, line: &JsonLine<'_>, number: u32) -> Result<Action, ScriptFault>
-    ensures { Reads action_of (action_by_row number setcookie_row (data_of_line line.now)) result }
+pub fn set_cookie(alloc: Global, line: &JsonLine<'_>, number: u32) -> Result<Step, ScriptFault>
+    ensures { Reads step_of (by_row number setcookie_row (data_of_line line.now)) result }
 {
-    let action = read_document!((alloc, line, number); {
+    let step = read_document!((alloc, line, number); {
         text: text,
     } => SetCookie { text });
-    Ok(action)
+    Ok(step)
 }
 
-pub fn has(alloc: Global, line: &JsonLine<'_>, number: u32) -> Result<Action, ScriptFault>
-    ensures { Reads action_of (action_by_row number has_row (data_of_line line.now)) result }
+pub fn has(alloc: Global, line: &JsonLine<'_>, number: u32) -> Result<Step, ScriptFault>
+    ensures { Reads step_of (by_row number has_row (data_of_line line.now)) result }
 {
-    let action = read_document!((alloc, line, number); {} => Has {});
-    Ok(action)
+    let step = read_document!((alloc, line, number); {} => Has {});
+    Ok(step)
 }
 
-pub fn request(alloc: Global, line: &JsonLine<'_>, number: u32) -> Result<Action, ScriptFault>
-    ensures { Reads action_of (action_by_row number request_row (data_of_line line.now)) result }
+pub fn request(alloc: Global, line: &JsonLine<'_>, number: u32) -> Result<Step, ScriptFault>
+    ensures { Reads step_of (by_row number request_row (data_of_line line.now)) result }
 {
-    let action = read_document!((alloc, line, number); {
+    let step = read_document!((alloc, line, number); {
         answer: word(&ANSWERS, None),
     } => Request { answer });
-    Ok(action)
+    Ok(step)
 }
 
-pub fn persisted(alloc: Global, line: &JsonLine<'_>, number: u32) -> Result<Action, ScriptFault>
-    ensures { Reads action_of (action_by_row number persisted_row (data_of_line line.now)) result }
+pub fn persisted(alloc: Global, line: &JsonLine<'_>, number: u32) -> Result<Step, ScriptFault>
+    ensures { Reads step_of (by_row number persisted_row (data_of_line line.now)) result }
 {
-    let action = read_document!((alloc, line, number); {} => Persisted {});
-    Ok(action)
+    let step = read_document!((alloc, line, number); {} => Persisted {});
+    Ok(step)
 }
 
-pub fn estimate(alloc: Global, line: &JsonLine<'_>, number: u32) -> Result<Action, ScriptFault>
-    ensures { Reads action_of (action_by_row number estimate_row (data_of_line line.now)) result }
+pub fn estimate(alloc: Global, line: &JsonLine<'_>, number: u32) -> Result<Step, ScriptFault>
+    ensures { Reads step_of (by_row number estimate_row (data_of_line line.now)) result }
 {
-    let action = read_document!((alloc, line, number); {} => Estimate {});
-    Ok(action)
+    let step = read_document!((alloc, line, number); {} => Estimate {});
+    Ok(step)
 }
 
-pub fn persist(alloc: Global, line: &JsonLine<'_>, number: u32) -> Result<Action, ScriptFault>
-    ensures { Reads action_of (action_by_row number persist_row (data_of_line line.now)) result }
+pub fn persist(alloc: Global, line: &JsonLine<'_>, number: u32) -> Result<Step, ScriptFault>
+    ensures { Reads step_of (by_row number persist_row (data_of_line line.now)) result }
 {
-    let action = read_document!((alloc, line, number); {
+    let step = read_document!((alloc, line, number); {
         answer: word(&CONSENTS, None),
     } => Persist { answer });
-    Ok(action)
+    Ok(step)
 }
 
-pub fn evict(alloc: Global, line: &JsonLine<'_>, number: u32) -> Result<Action, ScriptFault>
-    ensures { Reads action_of (action_by_row number evict_row (data_of_line line.now)) result }
+pub fn evict(alloc: Global, line: &JsonLine<'_>, number: u32) -> Result<Step, ScriptFault>
+    ensures { Reads step_of (by_row number evict_row (data_of_line line.now)) result }
 {
-    let action = read_fields!((alloc, line, number); no_others; {
+    let step = read_fields!((alloc, line, number); no_others; {
         site: site,
-    } => Action::Evict { site });
-    Ok(action)
+    } => Step::Act(Action::Evict { site }));
+    Ok(step)
 }

@@ -1,22 +1,17 @@
-//! A script and its lines.
+//! A script, and why there is none.
 ghost use Rattle.std.specs.Prelude.{◌≡◌, IfOk};
-ghost use Rattle.script_lines.specs.Plain.{fault_of, line_of, script_of};
+ghost use Rattle.script_lines.specs.Plain.{fault_of, script_of};
 
-use crate::Action;
 use agent_base::NoMemory;
+use disk_model::Cut;
+use script_actions::Line;
 use std::alloc::{AllocError, Global};
 use thiserror::Error;
 
-/// A line of a script, with its number from 1.
-#[derive(Debug, Drop, PartialEq, Eq)]
-pub struct Line {
-    pub number: u32,
-    pub action: Action,
-}
-
-/// The lines of a script that are not skipped, in their order.
+/// The cuts of the power that a script asks for, and its lines that are not skipped.
 #[derive(Debug, Drop, PartialEq, Eq)]
 pub struct Script {
+    pub cuts: Vec<Cut>,
     pub lines: Vec<Line>,
 }
 
@@ -75,30 +70,19 @@ impl From<NoMemory> for ScriptFault {
     }
 }
 
-impl Line {
-    /// The same line, over memory of its own.
-    pub fn copy(&self, alloc: Global) -> Result<Line, NoMemory>
-        ensures same { IfOk result (λ l. line_of l ≡ line_of self.now) }
-    {
-        Ok(Line {
-            number: self.number,
-            action: self.action.copy(alloc)?,
-        })
-    }
-}
-
 impl Script {
     /// The same script, over memory of its own.
     pub fn copy(&self, alloc: Global) -> Result<Script, NoMemory>
         ensures same { IfOk result (λ s. script_of s ≡ script_of self.now) }
     {
+        let cuts = Vec::from_slice(alloc, &self.cuts)?;
         let mut lines = Vec::new(alloc);
         for line in &self.lines {
             if lines.push(line.copy(alloc)?).is_err() {
                 return Err(NoMemory);
             }
         }
-        Ok(Script { lines })
+        Ok(Script { cuts, lines })
     }
 }
 

@@ -1,26 +1,6 @@
 //! The words of a line's members, as tables.
+use script_actions::{Method, Prompt};
 use storage_events::AreaKind;
-
-/// The method of a request.
-#[derive(Debug, Clone, Copy, PartialEq, Eq)]
-pub enum Method {
-    Get,
-    Head,
-    Options,
-    Post,
-    Put,
-    Delete,
-    Patch,
-}
-
-/// What a user answers to a prompt.
-#[derive(Debug, Clone, Copy, PartialEq, Eq)]
-pub enum Prompt {
-    Grant,
-    Deny,
-    /// The prompt is closed without an answer.
-    Dismiss,
-}
 
 /// The methods of a request.
 pub const METHODS: [(&str, Method); 7] = [

@@ -5,6 +5,9 @@ use Rattle.script_lines.proofs.actions.read_row.Goals as goal
 pub returns-in-Tick : goal.returns-in-Tick
 returns-in-Tick c = of_row c.args.number (data_of_line c.args.line.now) c.tick.result c.in-Tick.is c.tick.ensures
 
+pub returns-in-Restart : goal.returns-in-Restart
+returns-in-Restart c = of_row c.args.number (data_of_line c.args.line.now) c.restart.result c.in-Restart.is c.restart.ensures
+
 pub returns-in-Open : goal.returns-in-Open
 returns-in-Open c = of_row c.args.number (data_of_line c.args.line.now) c.open.result c.in-Open.is c.open.ensures
 

@@ -1,6 +1,6 @@
 use Rattle.std.proofs.Common.{◌≡◌, map, take}
 use Rattle.script_lines.specs.Flat.{field_of_texts}
-use Rattle.script_lines.specs.Plain.{head_field_of}
+use Rattle.script_actions.specs.Plain.{head_field_of}
 use Rattle.script_lines.proofs.heads.copied.Given as goal
 
 abbrev pub invariant-loop-pair : goal.invariant-loop-pair

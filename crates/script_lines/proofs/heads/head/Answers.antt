@@ -3,7 +3,8 @@ use Rattle.script_lines.specs.Fields.{given, meaning, formed, of_headers, then_o
 use Rattle.script_lines.specs.Flat.{data_of, field_of_texts, pairs_data}
 use Rattle.script_lines.specs.Heads.{few, head_of_value}
 use Rattle.script_lines.specs.JsonLine.{data_of_line}
-use Rattle.script_lines.specs.Plain.{Reads, head_field_of}
+use Rattle.script_lines.specs.Plain.{Reads}
+use Rattle.script_actions.specs.Plain.{head_field_of}
 use Rattle.serde_json.specs.Find.{get}
 use Rattle.script_lines.proofs.PairLemmas.{head_of_pairs}
 use Rattle.script_lines.proofs.heads.head.Goals as goal

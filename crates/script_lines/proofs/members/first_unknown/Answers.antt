@@ -1,6 +1,6 @@
 use Rattle.std.proofs.Common.{ℕ, List, Bool, ap, map, not, [], ◌∙◌, find, option_map, string_bytes}
 use Rattle.std.specs.Prelude.{unwrap_or}
-use Rattle.script_lines.specs.Grammar.{is_known, member_names}
+use Rattle.script_lines.specs.Steps.{is_known, member_names}
 use Rattle.script_lines.proofs.MemberLemmas.{find_name}
 use Rattle.script_lines.proofs.members.first_unknown.Goals as goal
 

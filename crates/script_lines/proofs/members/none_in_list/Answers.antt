@@ -1,5 +1,5 @@
 use Rattle.std.proofs.Common.{List, ℕ, Bool, ap, map, sym, ◌∙◌}
-use Rattle.script_lines.specs.Grammar.{is_known, refused}
+use Rattle.script_lines.specs.Steps.{is_known, refused}
 use Rattle.script_lines.proofs.MemberLemmas.{all_known}
 use Rattle.script_lines.proofs.members.none_in_list.Goals as goal
 

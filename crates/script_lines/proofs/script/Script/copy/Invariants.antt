@@ -1,5 +1,5 @@
 use Rattle.std.proofs.Common.{◌≡◌, map, take}
-use Rattle.script_lines.specs.Plain.{line_of}
+use Rattle.script_actions.specs.Plain.{line_of}
 use Rattle.script_lines.proofs.script.Script.copy.Given as goal
 
 abbrev pub invariant-loop-line : goal.invariant-loop-line

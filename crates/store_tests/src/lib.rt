@@ -1,11 +1,14 @@
-//! Tests of rows and the frames that they take, by the public calls of `row_store`.
+//! Tests of rows, of the frames that they take, and of what a dump prints of them, by the public
+//! calls of `row_store` and `store_dumps`.
 //!
-//! They stand apart from that library, so that it is proved once.
+//! They stand apart from those libraries, so that these are proved once.
 #![tactic(auto)]
 
 #[cfg(test)]
 mod bodies;
 #[cfg(test)]
 mod conditions;
+#[cfg(test)]
+mod dumps;
 #[cfg(test)]
 mod frames;

@@ -1,0 +1,6 @@
+use Rattle.row_lines.proofs.TokenLemmas.{joined}
+use Rattle.row_lines.proofs.rows.put_area.Goals as goal
+
+pub returns : goal.returns
+returns c =
+    joined c.in_ok-begin.ensures (joined c.in_ok-put_truth.ensures (joined c.in_ok-put_text.ensures (joined c.in_ok-put_origin.ensures (joined c.in_ok-put_text-2.ensures (joined c.in_ok-put_site.ensures (joined c.in_ok-put_text-3.ensures c.end.ensures))))))

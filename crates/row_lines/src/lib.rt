@@ -1,0 +1,13 @@
+//! Rows of a store, and the lines of JSON that they are printed as.
+//!
+//! A [`Row`] is a row change that a snapshot may have, over parts that others own. [`print_row`]
+//! puts its line behind what stands in a buffer.
+#![tactic(auto)]
+
+mod members;
+mod printer;
+mod row;
+mod rows;
+
+pub use printer::print_row;
+pub use row::Row;

@@ -1,0 +1,4 @@
+pub mod StandardFacts
+pub mod RowLemmas
+pub mod TextLemmas
+pub mod OpeningLemmas

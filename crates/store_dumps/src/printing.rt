@@ -1,0 +1,40 @@
+//! Prints the rows of a store.
+ghost use Rattle.std.specs.Prelude.{◌≡◌, ℕ, List, Some, true};
+ghost use Rattle.journal.specs.Opening.{FileMeans, IsWithin};
+ghost use Rattle.durable_model.specs.Saved.{Saved, nothing_saved};
+ghost use Rattle.row_store.specs.Bodies.{Takes};
+ghost use Rattle.store_dumps.specs.Dump.{WriteCounts, Writes, WritesSome, dump_text};
+ghost use Rattle.store_dumps.specs.Opening.{OpensStore, opening_of};
+
+use crate::DumpFault;
+use crate::opening::open;
+use crate::writing::write_rows;
+use agent_base::Sink;
+use disk_model::Disk;
+use std::alloc::Global;
+use suffix_list::SuffixList;
+
+/// Opens the store on a disk, and writes a line for each of its rows to `out`.
+///
+/// A store over the limit of size is refused, and a file that is no store yet is made one. Lines
+/// wait in memory, and are written together; where memory is wanting, those that wait are not.
+pub fn dump<D: Disk, O: Sink>(
+    alloc: Global,
+    disk: &mut D,
+    list: &SuffixList,
+    out: &mut O,
+) -> Result<(), DumpFault>
+    // What the sink took of the rows of the state that the file stands for.
+    ensures written { (c : List ℕ) (d : Saved) (n : ℕ) → (D.view disk.old).contents ≡ Some c
+        → IsWithin true c
+        → FileMeans (Takes list.now.rules) nothing_saved list.now.digest c d n
+        → Writes (dump_text d) result (O.taken out.old) (O.taken out.new) }
+    // The same of a disk that does not tell its contents: they are the rows of some state.
+    ensures rows { WritesSome list.now.rules result (O.taken out.old) (O.taken out.new) }
+    ensures count { WriteCounts result (O.faults out.old) (O.faults out.new) }
+    ensures opening { OpensStore list.now (D.view disk.old) (D.view disk.new) (opening_of result) }
+{
+    let parts = open(alloc, disk, list)?;
+    let rows = parts.listing(alloc)?;
+    write_rows(alloc, &rows, out)
+}

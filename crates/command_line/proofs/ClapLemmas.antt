@@ -1,37 +1,48 @@
--- `clap` takes the words of a run, and finds its list and its option.
-use Rattle.std.proofs.Common.{◌≡◌, ℕ, true, false, cond, ◌==◌, ◌&&◌, ◌||◌, List, [], ◌∷◌, ◌++◌, Some, None, codes, fold, refl, ap, ap₂, sym, ◌∙◌, append_assoc, append-nil}
+-- What `clap` makes of words: those of a command of the program, and plain ones.
+use Rattle.std.proofs.Common.{◌≡◌, ℕ, true, false, cond, ◌==◌, ◌&&◌, ◌||◌, List, [], ◌∷◌, ◌++◌, Some, None, codes, fold, find, option_map, refl, ap, ap₂, sym, ◌∙◌, append_assoc, append-nil}
 use Rattle.std.specs.Prelude.{bytes_eq, is_some}
-use Rattle.clap.specs.Words.{App, Row, Rule, Shape, Text, subcommand_of, takes}
-use Rattle.clap.specs.Lexer.{long_of, short_of}
-use Rattle.clap.specs.Simple.{built, entered}
 use Rattle.std.specs.Option.{option_map_or}
 use Rattle.std.specs.List.{list_all}
-use Rattle.clap.specs.Takes.{bundle_passes, default_passes, entered_passes, is_valid, settle_passes, step_passes, flag_word_passes, level_passes, other_passes, turn_passes, walk_passes, word_passes}
-use Rattle.clap.specs.declared.parser.matches.ValueSource.TheVariants.{CommandLine}
-use Rattle.clap.specs.Walk.{Held, finished, Names, Step, Waiting, Walk, after_step, idle, positional, reading_by, trailing, walk, long_or_other, nothing_held, option, plain_word, short_or_plain, subcommand_met, subcommand_or_other, walk_from, walked, word_met}
+use Rattle.clap.specs.Words.{App, Row, Rule, Shape, Text, subcommand_of, takes}
+use Rattle.clap.specs.Lexer.{long_of, short_of}
+use Rattle.clap.specs.Simple.{built, entered, label_of, rows_at}
+use Rattle.clap.specs.Takes.{bundle_passes, default_passes, entered_passes, is_valid, settle_passes, flag_word_passes, level_passes, other_passes, positional_passes, step_passes, turn_passes, walk_passes, word_passes}
+use Rattle.clap.specs.Walk.{Held, finished, Names, Step, Waiting, Walk, after_step, answers_to, arg_by_index, idle, reading_by, to_positional, positional, trailing, walk, long_or_other, nothing_held, option, plain_word, short_or_plain, subcommand_met, subcommand_or_other, walk_from, walked, word_met}
 use Rattle.clap.specs.declared.builder.ValueParser.TheVariants as parser
-use Rattle.clap.proofs.OnLiterals.{clap_on_literals}
-use Rattle.command_line.specs.Program.{bare_app, list_rule, program_app, replay_app, start_rule}
+use Rattle.clap.specs.declared.parser.matches.ValueSource.TheVariants.{CommandLine}
+use Rattle.command_line.specs.Program.{bare_app, dump_app, option_rule, place_rule, program_app, replay_app}
 
--- ---- the command as it is built
+-- ---- the program as it is built
 
-abbrev one : Rule → Rule
+abbrev pub one : Rule → Rule
 one rule = record rule { range = Some (record { start_inclusive = 1; end_inclusive = 1 }); parser = Some parser.String }
 
-abbrev rules : List Rule
-rules = record (one list_rule) { index = Some 1 } ∷ one start_rule ∷ []
+abbrev pub placed : ℕ → Text → Rule
+placed index name = record (one (place_rule name)) { index = Some index }
 
-abbrev leaf : Shape
-leaf = record replay_app.top { rules = rules; no_binary_name = true; disable_help_flag = true; disable_help_subcommand = true; is_built = true }
+abbrev pub replay_rules : List Rule
+replay_rules = placed 1 (codes "list") ∷ one (option_rule (codes "store")) ∷ one (option_rule (codes "batch")) ∷ one (option_rule (codes "start")) ∷ []
+
+abbrev pub dump_rules : List Rule
+dump_rules = placed 1 (codes "list") ∷ placed 2 (codes "store") ∷ []
+
+abbrev leaf : App → List Rule → Shape
+leaf app rules = record app.top { rules = rules; no_binary_name = true; disable_help_flag = true; disable_help_subcommand = true; is_built = true }
+
+abbrev pub replay_leaf : Shape
+replay_leaf = leaf replay_app replay_rules
+
+abbrev pub dump_leaf : Shape
+dump_leaf = leaf dump_app dump_rules
 
 abbrev top : Shape
 top = record bare_app.top { is_leaf = false; is_built = true }
 
 abbrev program_built : App
-program_built = record { top = top; subs = leaf ∷ [] }
+program_built = record { top = top; subs = replay_leaf ∷ dump_leaf ∷ [] }
 
-abbrev run_names : Names
-run_names = (codes "replay", []) ∷ []
+abbrev commands : Names
+commands = (codes "replay", []) ∷ (codes "dump", []) ∷ []
 
 built_is : built program_app ≡ program_built
 built_is = refl
@@ -46,13 +57,13 @@ pub record IsPlain (word : Text) : Type 0 where
 pub starts_plain : (first : ℕ) (tail : List ℕ) → (first == 45) ≡ false → IsPlain (first ∷ tail)
 starts_plain first tail e = record { dashes = rw e refl; long = rw e refl; short = rw e refl }
 
--- no word is a command of the run
-none_met : (waiting : Waiting) (word : Text) → subcommand_met [] waiting word ≡ None
+-- no word is a command of a command
+pub none_met : (waiting : Waiting) (word : Text) → subcommand_met [] waiting word ≡ None
 none_met idle word = refl
 none_met (option id) word = refl
 none_met positional word = refl
 
-met_plain : (c : List Rule) (waiting : Waiting) (position : ℕ) (word : Text) (h : Held) → IsPlain word
+pub met_plain : (c : List Rule) (waiting : Waiting) (position : ℕ) (word : Text) (h : Held) → IsPlain word
     → word_met c [] false waiting position word h ≡ plain_word c waiting word h
 met_plain c waiting position word h plain =
     ap (λ o. subcommand_or_other c o waiting position word h) (none_met waiting word)
@@ -61,129 +72,112 @@ met_plain c waiting position word h plain =
     ∙ ap (λ o. short_or_plain c waiting word o h) plain.short
 
 -- it passes, where no flag is asked for
-plain_passes : (c : Shape) (waiting : Waiting) (word : Text) (h : Held) → IsPlain word → word_passes c [] false waiting word h ≡ true
+pub plain_passes : (c : Shape) (waiting : Waiting) (word : Text) (h : Held) → IsPlain word → word_passes c [] false waiting word h ≡ true
 plain_passes c waiting word h plain =
     ap (λ o. other_passes c o word h) (none_met waiting word)
     ∙ ap (λ b. b || flag_word_passes c.rules c.args_override_self (long_of word) word h) plain.dashes
     ∙ ap (λ o. flag_word_passes c.rules c.args_override_self o word h) plain.long
     ∙ ap (λ o. option_map_or (λ flags. bundle_passes c.rules c.args_override_self flags h) o true) plain.short
 
+-- ---- the words of a command
+
+-- a walk over the words of a command passes, and ends at these rows
+pub record Ends (c : Shape) (from : Walk) (words : List Text) (rows : List Row) : Type 0 where
+  pub walks : walk_passes c [] from words ≡ true
+  pub settles : settle_passes c.rules c.args_override_self (fold (walked c.rules []) from words).held ≡ true
+  pub finishes : finished c.rules (fold (walked c.rules []) from words).held ≡ rows
+
+-- a walk that passes one word more
+pub ends_after : (c : Shape) (from to : Walk) (word : Text) (words : List Text) (rows : List Row)
+    → turn_passes c [] from word ≡ true → walked c.rules [] from word ≡ to → Ends c to words rows → Ends c from (word ∷ words) rows
+unfolding walk_passes
+ends_after c from to word words rows turn step ends = record {
+  walks = ap₂ (λ b w. b && walk_passes c [] w words) turn step ∙ ends.walks;
+  settles = ap (λ w. settle_passes c.rules c.args_override_self (fold (walked c.rules []) w words).held) step ∙ ends.settles;
+  finishes = ap (λ w. finished c.rules (fold (walked c.rules []) w words).held) step ∙ ends.finishes;
+}
+
+level_passed : (c : Shape) (words : List Text) (rows : List Row) → Ends c (walk_from nothing_held) words rows
+    → (list_all default_passes c.rules && is_valid c rows false) ≡ true → level_passes c [] nothing_held words false ≡ true
+level_passed c words rows ends valid =
+    ap₂ (λ x y. x && (y && (list_all default_passes c.rules && is_valid c (finished c.rules (walk c.rules [] nothing_held words).held) false))) ends.walks ends.settles
+    ∙ ap (λ rs. list_all default_passes c.rules && is_valid c rs false) ends.finishes
+    ∙ valid
+
+-- what was found for a name that takes one value
+abbrev pub value_row : (name value : Text) → Row
+value_row name value = record { id = name; values = value ∷ []; count = None; source = Some CommandLine; reading = reading_by (one (option_rule name)) }
+
+-- a walk that waits for no value, with one value that is not settled, of this name, behind these rows
+abbrev pub at_value : (position : ℕ) → List Row → (name value : Text) → Walk
+at_value position rows name value = record {
+  held = record { rows = rows; pending = Some (name, value ∷ []); skip = 0 };
+  waiting = idle;
+  position = position;
+  is_trailing = false;
+  stopped = None;
+}
+
+-- each command begins with a list
+pub begins : (c : Shape) (list : Text) (words : List Text) (rows : List Row) → arg_by_index c.rules 1 ≡ Some (placed 1 (codes "list")) → IsPlain list
+    → Ends c (at_value 2 [] (codes "list") list) words rows → Ends c (walk_from nothing_held) (list ∷ words) rows
+unfolding walked
+begins c list words rows first plain =
+    ends_after c (walk_from nothing_held) (at_value 2 [] (codes "list") list) list words rows
+    (ap₂ (λ b (met : Held × Step). b && step_passes c 1 met.0 met.1) (plain_passes c idle list nothing_held plain) (met_plain c.rules idle 1 list nothing_held plain)
+    ∙ ap (λ place. option_map_or (λ a. positional_passes c.rules c.args_override_self a nothing_held) place false) first)
+    (ap (λ (met : Held × Step). after_step c.rules list (walk_from nothing_held) met.0 met.1) (met_plain c.rules idle 1 list nothing_held plain)
+    ∙ ap (λ place. to_positional c.rules place list (walk_from nothing_held) nothing_held) first)
+
 -- ---- the program's own words
 
--- the program's walk stands at the run, and these words follow
-abbrev at_run : List Text → Walk
-at_run words = record { held = nothing_held; waiting = idle; position = 1; is_trailing = false; stopped = Some (codes "replay", words) }
+-- the program's walk stands at a command, and these words follow
+abbrev at_command : Text → List Text → Walk
+at_command name words = record { held = nothing_held; waiting = idle; position = 1; is_trailing = false; stopped = Some (name, words) }
 
-run_walked : (before words : List Text) → fold (walked [] run_names) (at_run before) words ≡ at_run (before ++ words)
+-- the word is a command of the program
+pub record IsCommand (name : Text) (c : Shape) : Type 0 where
+  pub met : walked [] commands (walk_from nothing_held) name ≡ at_command name []
+  pub turn : turn_passes top commands (walk_from nothing_held) name ≡ true
+  pub among : find (λ s. answers_to name (label_of s)) (replay_leaf ∷ dump_leaf ∷ []) ≡ Some c
+
+command_walked : (name : Text) (before words : List Text) → fold (walked [] commands) (at_command name before) words ≡ at_command name (before ++ words)
 unfolding walked
-run_walked before [] = ap at_run (sym (append-nil before))
-run_walked before (word ∷ words) = run_walked (before ++ word ∷ []) words ∙ ap at_run (append_assoc before (word ∷ []) words)
+command_walked name before [] = ap (at_command name) (sym (append-nil before))
+command_walked name before (word ∷ words) = command_walked name (before ++ word ∷ []) words ∙ ap (at_command name) (append_assoc before (word ∷ []) words)
 
-run_passes : (before words : List Text) → walk_passes top run_names (at_run before) words ≡ true
+command_passes : (name : Text) (before words : List Text) → walk_passes top commands (at_command name before) words ≡ true
 unfolding walk_passes walked
-run_passes before [] = refl
-run_passes before (word ∷ words) = run_passes (before ++ word ∷ []) words
+command_passes name before [] = refl
+command_passes name before (word ∷ words) = command_passes name (before ++ word ∷ []) words
 
-top_stopped : (words : List Text) → walk [] run_names nothing_held (codes "replay" ∷ words) ≡ at_run words
-unfolding walked
-top_stopped words = run_walked [] words
+top_stopped : (name : Text) (c : Shape) (words : List Text) → IsCommand name c → walk [] commands nothing_held (name ∷ words) ≡ at_command name words
+top_stopped name c words is = ap (λ w. fold (walked [] commands) w words) is.met ∙ command_walked name [] words
 
--- the words of a run pass where those behind `replay` pass as the run's own
-taken : (words : List Text) → level_passes leaf [] nothing_held words false ≡ true → takes program_app (codes "replay" ∷ words) ≡ true
-unfolding walked walk_passes
-taken words passes =
-    ap (λ (w : Walk). entered_passes program_built w.stopped
-    && (walk_passes top run_names (walk_from nothing_held) (codes "replay" ∷ words) && (settle_passes top.rules top.args_override_self w.held
-    && (list_all default_passes top.rules && is_valid top (finished top.rules w.held) (is_some (entered program_built w.stopped))))))
-    (top_stopped words)
-    ∙ ap₂ (λ x y. x && (y && true)) passes (run_passes [] words)
+-- what `clap` makes of a command and the words behind it
+pub record IsTaken (name : Text) (words : List Text) (found : Text × List Row) : Type 0 where
+  pub takes_them : takes program_app (name ∷ words) ≡ true
+  pub finds : subcommand_of program_app (name ∷ words) ≡ Some found
 
--- ---- the words of the run
-
-abbrev list_row : Text → Row
-list_row path = record { id = codes "list"; values = path ∷ []; count = None; source = Some CommandLine; reading = reading_by (one list_rule) }
-
-abbrev start_row : Text → Row
-start_row given = record { id = codes "start"; values = given ∷ []; count = None; source = Some CommandLine; reading = reading_by (one start_rule) }
-
-abbrev at_list : Text → Walk
-at_list path = record { held = record { rows = []; pending = Some (codes "list", path ∷ []); skip = 0 }; waiting = idle; position = 2; is_trailing = false; stopped = None }
-
-abbrev at_name : Text → Walk
-at_name path = record { held = record { rows = list_row path ∷ []; pending = Some (codes "start", []); skip = 0 }; waiting = option (codes "start"); position = 2; is_trailing = false; stopped = None }
-
-abbrev at_start : (path given : Text) → Walk
-at_start path given = record { held = record { rows = list_row path ∷ []; pending = Some (codes "start", given ∷ []); skip = 0 }; waiting = idle; position = 2; is_trailing = false; stopped = None }
-
-list_walked : (path : Text) → IsPlain path → walked rules [] (walk_from nothing_held) path ≡ at_list path
-unfolding walked
-list_walked path plain = ap (λ (met : Held × Step). after_step rules path (walk_from nothing_held) met.0 met.1) (met_plain rules idle 1 path nothing_held plain)
-
-name_walked : (path : Text) → walked rules [] (at_list path) (codes "--start") ≡ at_name path
-unfolding clap_on_literals
-name_walked path = refl
-
-start_walked : (path given : Text) → IsPlain given → walked rules [] (at_name path) given ≡ at_start path given
-unfolding walked
-start_walked path given plain = ap (λ (met : Held × Step). after_step rules given (at_name path) met.0 met.1) (met_plain rules (option (codes "start")) 2 given (at_name path).held plain)
-
--- ---- the words of the run pass
-
--- what is left to pass behind the walk does, where it ends so
-leaf_passes : (words : List Text) (end : Walk) → walk rules [] nothing_held words ≡ end → walk_passes leaf [] (walk_from nothing_held) words ≡ true
-    → (settle_passes rules false end.held && (list_all default_passes rules && is_valid leaf (finished rules end.held) false)) ≡ true
-    → level_passes leaf [] nothing_held words false ≡ true
-leaf_passes words end is walks ends =
-    ap (λ (w : Walk). walk_passes leaf [] (walk_from nothing_held) words && (settle_passes rules false w.held && (list_all default_passes rules && is_valid leaf (finished rules w.held) false))) is
-    ∙ ap₂ (λ x y. x && y) walks ends
-
-list_turn : (path : Text) → IsPlain path → turn_passes leaf [] (walk_from nothing_held) path ≡ true
-list_turn path plain = ap₂ (λ b (met : Held × Step). b && step_passes leaf 1 met.0 met.1) (plain_passes leaf idle path nothing_held plain) (met_plain rules idle 1 path nothing_held plain)
-
-start_turn : (path given : Text) → IsPlain given → turn_passes leaf [] (at_name path) given ≡ true
-start_turn path given plain =
-    ap₂ (λ b (met : Held × Step). b && step_passes leaf 2 met.0 met.1) (plain_passes leaf (option (codes "start")) given (at_name path).held plain) (met_plain rules (option (codes "start")) 2 given (at_name path).held plain)
-
-name_turn : (path : Text) → turn_passes leaf [] (at_list path) (codes "--start") ≡ true
-unfolding clap_on_literals
-name_turn path = refl
-
-alone_walks : (path : Text) → IsPlain path → walk_passes leaf [] (walk_from nothing_held) (path ∷ []) ≡ true
+-- the words of a command are taken where they pass as its own
+pub taken : (name : Text) (c : Shape) (words : List Text) (rows : List Row) → IsCommand name c → Ends c (walk_from nothing_held) words rows
+    → (list_all default_passes c.rules && is_valid c rows false) ≡ true → IsTaken name words (c.name, rows)
 unfolding walk_passes
-alone_walks path plain = ap (λ b. b && true) (list_turn path plain)
-
-start_walks : (path given : Text) → IsPlain path → IsPlain given → walk_passes leaf [] (walk_from nothing_held) (path ∷ codes "--start" ∷ given ∷ []) ≡ true
-unfolding walk_passes
-start_walks path given plain digits =
-    ap₂ (λ b w. b && walk_passes leaf [] w (codes "--start" ∷ given ∷ [])) (list_turn path plain) (list_walked path plain)
-    ∙ ap₂ (λ b w. b && walk_passes leaf [] w (given ∷ [])) (name_turn path) (name_walked path)
-    ∙ ap (λ b. b && true) (start_turn path given digits)
-
-start_walk : (path given : Text) → IsPlain path → IsPlain given → walk rules [] nothing_held (path ∷ codes "--start" ∷ given ∷ []) ≡ at_start path given
-start_walk path given plain digits =
-    ap (λ w. walked rules [] (walked rules [] w (codes "--start")) given) (list_walked path plain)
-    ∙ ap (λ w. walked rules [] w given) (name_walked path)
-    ∙ start_walked path given digits
-
-pub takes_alone : (path : Text) → IsPlain path → takes program_app (codes "replay" ∷ path ∷ []) ≡ true
-takes_alone path plain = taken (path ∷ []) (leaf_passes (path ∷ []) (at_list path) (list_walked path plain) (alone_walks path plain) refl)
-
-pub takes_start : (path given : Text) → IsPlain path → IsPlain given → takes program_app (codes "replay" ∷ path ∷ codes "--start" ∷ given ∷ []) ≡ true
-takes_start path given plain digits =
-    let words = path ∷ codes "--start" ∷ given ∷ [] in
-    taken words (leaf_passes words (at_start path given) (start_walk path given plain digits) (start_walks path given plain digits) refl)
-
--- ---- what is found
-
-pub found_alone : (path : Text) → IsPlain path → subcommand_of program_app (codes "replay" ∷ path ∷ []) ≡ Some (codes "replay", list_row path ∷ [])
-unfolding walked
-found_alone path plain =
-    ap (λ (w : Walk). entered program_built w.stopped) (top_stopped (path ∷ []))
-    ∙ ap (λ (w : Walk). Some (codes "replay", finished rules w.held)) (list_walked path plain)
-
-pub found_start : (path given : Text) → IsPlain path → IsPlain given
-    → subcommand_of program_app (codes "replay" ∷ path ∷ codes "--start" ∷ given ∷ []) ≡ Some (codes "replay", list_row path ∷ start_row given ∷ [])
-unfolding walked
-found_start path given plain digits =
-    ap (λ (w : Walk). entered program_built w.stopped) (top_stopped (path ∷ codes "--start" ∷ given ∷ []))
-    ∙ ap (λ (w : Walk). Some (codes "replay", finished rules w.held)) (start_walk path given plain digits)
+taken name c words rows is ends valid =
+    let stopped = top_stopped name c words is in
+    let inner : entered_passes program_built (Some (name, words)) ≡ true =
+    ap (λ found. option_map_or (λ s. level_passes s [] nothing_held words false) found true) is.among ∙ level_passed c words rows ends valid in
+    let outer : walk_passes top commands (walk_from nothing_held) (name ∷ words) ≡ true =
+    ap₂ (λ b w. b && walk_passes top commands w words) is.turn is.met ∙ command_passes name [] words in
+    record {
+      takes_them =
+          ap (λ (w : Walk). entered_passes program_built w.stopped
+          && (walk_passes top commands (walk_from nothing_held) (name ∷ words) && (settle_passes top.rules top.args_override_self w.held
+          && (list_all default_passes top.rules && is_valid top (finished top.rules w.held) (is_some (entered program_built w.stopped))))))
+          stopped
+          ∙ ap₂ (λ x y. x && (y && true)) inner outer;
+      finds =
+          ap (λ (w : Walk). entered program_built w.stopped) stopped
+          ∙ ap (option_map (λ s. rows_at s words)) is.among
+          ∙ ap (λ rs. Some (c.name, rs)) ends.finishes;
+    }

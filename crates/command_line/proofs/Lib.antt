@@ -1,8 +1,10 @@
 mod StandardFacts
 pub mod NumberLemmas
-pub mod OptionLemmas
 pub mod PairLemmas
-pub mod StartLemmas
-pub mod ClapLemmas
+pub mod CommandLemmas
 pub mod FoundLemmas
+pub mod ClapLemmas
+pub mod OptionLemmas
 pub mod RunLemmas
+pub mod DumpLemmas
+pub mod ConfirmLemmas

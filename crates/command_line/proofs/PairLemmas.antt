@@ -1,93 +1,134 @@
--- The options that are read one pair after another are those of the pairs.
-use Rattle.std.proofs.Common.{◌≡◌, ℕ, Bool, true, false, cond, ◌&&◌, ◌||◌, List, [], ◌∷◌, Option, Some, None, option_and_then, option_map, refl, ap, sym, ◌∙◌}
-use Rattle.std.specs.Prelude.{bytes_eq, codes, is_some, not}
+-- Names and values by turns, read two by two.
+use Rattle.std.proofs.Common.{◌≡◌, ◌<◌, ◌≤◌, ◌-◌, Bool, true, false, cond, ◌&&◌, ◌||◌, List, [], ◌∷◌, length, take, drop, map, get_or, String, string_bytes}
+use Rattle.std.proofs.Common.{Option, Some, None, IfSome, option_and_then, option_map, refl, ap, ap₂, sym, ◌∙◌, arith, take_all}
+use Rattle.std.specs.Prelude.{bytes_eq, codes, find, is_some, not}
 use Rattle.std.specs.List.{list_all, list_any}
-use Rattle.std.proofs.lemmas.Slice.Eq.{bytes_eq-Decides}
-use Rattle.command_line.specs.declared.options.Options.{Options}
-use Rattle.command_line.specs.Walk.{no_options, options_from, with_start}
-use Rattle.command_line.specs.Words.{Pair, have_distinct_names, is_named, is_option, last_start, number_of, options_in, options_of, pairs_of}
+use Rattle.std.specs.declared.alloc.Global.{Global}
+use Rattle.std.proofs.lemmas.Bool.{false≢true}
+use Rattle.clap.specs.Words.{Text}
+use Rattle.command_line.specs.Options.{Pair, batch_of, have_distinct_names, is_named, is_option, options_of, pairs_of, start_of, value_named}
+use Rattle.command_line.specs.Walk.{value_in}
+use Rattle.command_line.specs.Words.{Replay, run_of}
 
--- what the pairs give, where they are options
-abbrev made : List Pair → Option Options
-made pairs = cond (have_distinct_names pairs && list_all is_option pairs) (Some (options_in pairs)) None
+-- ---- words of a slice
 
--- pairs of which one of these two conditions fails are no options
-fails_late : (distinct rest : Bool) (given : Option Options) → cond (distinct && (false && rest)) given None ≡ None
-fails_late true rest given = refl
-fails_late false rest given = refl
+-- what holds of no words holds of words fewer than one
+pub no_words : {X : Type 0} (f : List Text → X) (words : List (String Global)) → length words < 1 → f (map string_bytes words) ≡ f []
+no_words f [] few = refl
+no_words f (word ∷ words) few = absurd (omega (arith, few))
 
-fails_second : (distinct first rest : Bool) (given : Option Options) → cond (distinct && (first && (false && rest))) given None ≡ None
-fails_second true true rest given = refl
-fails_second true false rest given = refl
-fails_second false first rest given = refl
+-- what is so of each word alone is so of words that are one
+pub one_word : {X : Type 0} (f : List Text → X) (x : X) (words : List (String Global)) → ((word : Text) → f (word ∷ []) ≡ x) → 1 ≤ length words → length words < 2
+    → f (map string_bytes words) ≡ x
+one_word f x [] alone some few = absurd (omega (arith, some))
+one_word f x (word ∷ []) alone some few = alone (string_bytes word)
+one_word f x (word ∷ other ∷ words) alone some few = absurd (omega (arith, few))
 
--- a first pair that is no option
-first_fails : (pair : Pair) (pairs : Option (List Pair)) → is_option pair ≡ false → option_and_then made (option_map (λ ps. pair ∷ ps) pairs) ≡ None
-first_fails pair None no_option = refl
-first_fails pair (Some ps) no_option =
-    ap (λ o. cond (have_distinct_names (pair ∷ ps) && (o && list_all is_option ps)) (Some (options_in (pair ∷ ps))) None) no_option
-    ∙ fails_late (have_distinct_names (pair ∷ ps)) (list_all is_option ps) (Some (options_in (pair ∷ ps)))
+-- what is so of no words and of each word alone is so of words fewer than two
+pub few_words : {X : Type 0} (f : List Text → X) (x : X) (words : List (String Global)) → f [] ≡ x → ((word : Text) → f (word ∷ []) ≡ x) → length words < 2
+    → f (map string_bytes words) ≡ x
+few_words f x [] none alone few = none
+few_words f x (word ∷ []) none alone few = alone (string_bytes word)
+few_words f x (word ∷ other ∷ words) none alone few = absurd (omega (arith, few))
 
--- a second pair of the first one's name
-second_repeats : (first second : Pair) (pairs : List Pair) → is_named first.0 second ≡ true → made (first ∷ second ∷ pairs) ≡ None
-unfolding have_distinct_names
-second_repeats first second pairs repeats =
-    ap (λ b. cond ((not (b || list_any (is_named first.0) pairs) && have_distinct_names (second ∷ pairs)) && list_all is_option (first ∷ second ∷ pairs))
-    (Some (options_in (first ∷ second ∷ pairs))) None) repeats
+-- two words and what stands behind them
+pub two_words : (words : List (String Global)) (name value : String Global) → 2 ≤ length words → name ≡ get_or words 0 name → value ≡ get_or words 1 value
+    → map string_bytes words ≡ string_bytes name ∷ string_bytes value ∷ map string_bytes (take (length words - 2) (drop 2 words))
+two_words [] name value many first second = absurd (omega (arith, many))
+two_words (a ∷ []) name value many first second = absurd (omega (arith, many))
+two_words (a ∷ b ∷ words) name value many first second =
+    let rest : length (a ∷ b ∷ words) - 2 ≡ length words = omega arith in
+    let all : take (length (a ∷ b ∷ words) - 2) words ≡ words = take_all (length (a ∷ b ∷ words) - 2) words (omega (arith, rest)) in
+    ap (λ ws. string_bytes a ∷ string_bytes b ∷ map string_bytes ws) (sym all)
+    ∙ ap (λ n. string_bytes n ∷ string_bytes b ∷ map string_bytes (take (length (a ∷ b ∷ words) - 2) words)) (sym first)
+    ∙ ap (λ v. string_bytes name ∷ string_bytes v ∷ map string_bytes (take (length (a ∷ b ∷ words) - 2) words)) (sym second)
 
--- a second pair that is no option
-second_fails : (first second : Pair) (pairs : List Pair) → is_option second ≡ false → made (first ∷ second ∷ pairs) ≡ None
-second_fails first second pairs no_option =
-    ap (λ o. cond (have_distinct_names (first ∷ second ∷ pairs) && (is_option first && (o && list_all is_option pairs)))
-    (Some (options_in (first ∷ second ∷ pairs))) None) no_option
-    ∙ fails_second (have_distinct_names (first ∷ second ∷ pairs)) (is_option first) (list_all is_option pairs) (Some (options_in (first ∷ second ∷ pairs)))
+-- ---- the value of a name
 
--- behind a start no second pair is an option
-after_start : (first : Pair) (name value : List ℕ) (pairs : Option (List Pair)) → first.0 ≡ codes "--start"
-    → option_and_then made (option_map (λ ps. first ∷ ps) (option_map (λ ps. (name, value) ∷ ps) pairs)) ≡ None
-after_start first name value None is = refl
-after_start first name value (Some ps) is = at (bytes_eq name (codes "--start")) refl
+-- what is found among words is what is found among their pairs
+value_of_pairs : (name : Text) (words : List Text) → IfSome (pairs_of words) (λ pairs. value_in name words ≡ value_named name pairs)
+unfolding pairs_of value_in
+value_of_pairs name [] = refl
+value_of_pairs name (other ∷ []) = tt
+value_of_pairs name (other ∷ value ∷ words) = at (pairs_of words) (value_of_pairs name words)
   where
-    at : (b : Bool) → bytes_eq name (codes "--start") ≡ b → made (first ∷ (name, value) ∷ ps) ≡ None
-    at true same = second_repeats first (name, value) ps ((bytes_eq-Decides name first.0).1 ((bytes_eq-Decides name (codes "--start")).0 same ∙ sym is))
-    at false other = second_fails first (name, value) ps (ap (λ b. b && is_some (number_of last_start value)) other)
+    chosen : (pairs : List Pair) (b : Bool) → value_in name words ≡ value_named name pairs
+        → cond b (Some value) (value_in name words) ≡ option_map (λ (pair : Pair). pair.1) (cond b (Some (other, value)) (find (is_named name) pairs))
+    chosen pairs true later = refl
+    chosen pairs false later = later
 
--- the options of a start, which stands alone
-abbrev pub only_start : List (List ℕ) → ℕ → Option Options
-only_start [] n = Some (record { start = Some n })
-only_start (word ∷ words) n = None
+    at : (pairs : Option (List Pair)) → IfSome pairs (λ ps. value_in name words ≡ value_named name ps)
+        → IfSome (option_map (λ ps. (other, value) ∷ ps) pairs) (λ ps. cond (bytes_eq other name) (Some value) (value_in name words) ≡ value_named name ps)
+    at None later = tt
+    at (Some pairs) later = chosen pairs (bytes_eq other name) later
 
-pub started : (n : ℕ) (words : List (List ℕ)) → options_from (record { start = Some n }) words ≡ only_start words n
-unfolding options_from
-started n [] = refl
-started n (name ∷ []) = refl
-started n (name ∷ value ∷ words) = at (bytes_eq name (codes "--start")) (number_of last_start value)
+-- a name has a value where it stands
+value_stands : (name : Text) (pairs : List Pair) → is_some (value_named name pairs) ≡ list_any (is_named name) pairs
+value_stands name [] = refl
+value_stands name (pair ∷ pairs) = at (is_named name pair) (value_stands name pairs)
   where
-    at : (b : Bool) (m : Option ℕ) → option_and_then (λ more. options_from more words) (cond b (option_and_then (with_start (record { start = Some n })) m) None) ≡ None
-    at true None = refl
-    at true (Some k) = refl
-    at false m = refl
+    at : (b : Bool) → is_some (value_named name pairs) ≡ list_any (is_named name) pairs
+        → is_some (option_map (λ (pair : Pair). pair.1) (cond b (Some pair) (find (is_named name) pairs))) ≡ (b || list_any (is_named name) pairs)
+    at true later = refl
+    at false later = later
 
--- a start of this number, and what stands behind it
-start_pairs : (name value : List ℕ) (n : ℕ) (words : List (List ℕ)) → bytes_eq name (codes "--start") ≡ true → number_of last_start value ≡ Some n
-    → only_start words n ≡ option_and_then made (option_map (λ ps. (name, value) ∷ ps) (pairs_of words))
+-- ---- the options of words
+
+abbrev stand : List Pair → Bool
+stand pairs = have_distinct_names pairs && list_all is_option pairs
+
+nothing_stands : (b : Bool) → false ≡ (b && false)
+nothing_stands true = refl
+nothing_stands false = refl
+
+one_more : {X : Type 0} (x y : X) (repeated distinct first rest : Bool)
+    → is_some (cond ((not repeated && distinct) && (first && rest)) (Some x) None) ≡ ((first && not repeated) && is_some (cond (distinct && rest) (Some y) None))
+one_more x y true distinct true rest = refl
+one_more x y true distinct false rest = refl
+one_more x y false false true rest = refl
+one_more x y false false false rest = refl
+one_more x y false true true true = refl
+one_more x y false true true false = refl
+one_more x y false true false rest = refl
+
+-- words are options where the first two are one whose name does not stand again, and the others are options
+pub options_of_more : (name value : Text) (words : List Text)
+    → is_some (options_of (name ∷ value ∷ words)) ≡ ((is_option (name, value) && not (is_some (value_in name words))) && is_some (options_of words))
 unfolding pairs_of have_distinct_names
-start_pairs name value n [] named number = sym
-    (ap (λ b. cond ((true && true) && ((b && is_some (number_of last_start value)) && true))
-    (Some (record { start = option_and_then (number_of last_start) (option_map (λ (pair : Pair). pair.1) (cond b (Some (name, value)) None)) })) None) named
-    ∙ ap (λ (m : Option ℕ). cond ((true && true) && ((true && is_some m) && true)) (Some (record { start = m })) None) number)
-start_pairs name value n (word ∷ []) named number = refl
-start_pairs name value n (word ∷ other ∷ words) named number = sym (after_start (name, value) word other (pairs_of words) ((bytes_eq-Decides name (codes "--start")).0 named))
-
--- the walk gives what the pairs give
-pub as_pairs : (words : List (List ℕ)) → options_from no_options words ≡ options_of words
-unfolding options_from pairs_of have_distinct_names
-as_pairs [] = refl
-as_pairs (name ∷ []) = refl
-as_pairs (name ∷ value ∷ words) = at (bytes_eq name (codes "--start")) (number_of last_start value) refl refl
+options_of_more name value words = at (pairs_of words) (value_of_pairs name words)
   where
-    at : (b : Bool) (m : Option ℕ) → bytes_eq name (codes "--start") ≡ b → number_of last_start value ≡ m
-        → option_and_then (λ more. options_from more words) (cond b (option_and_then (with_start no_options) m) None) ≡ option_and_then made (option_map (λ ps. (name, value) ∷ ps) (pairs_of words))
-    at true None named number = sym (first_fails (name, value) (pairs_of words) (ap (λ b. b && is_some (number_of last_start value)) named ∙ ap is_some number))
-    at true (Some n) named number = started n words ∙ start_pairs name value n words named number
-    at false m named number = sym (first_fails (name, value) (pairs_of words) (ap (λ b. b && is_some (number_of last_start value)) named))
+    at : (pairs : Option (List Pair)) → IfSome pairs (λ ps. value_in name words ≡ value_named name ps)
+        → is_some (option_and_then (λ ps. cond (stand ps) (Some ps) None) (option_map (λ ps. (name, value) ∷ ps) pairs))
+        ≡ ((is_option (name, value) && not (is_some (value_in name words))) && is_some (option_and_then (λ ps. cond (stand ps) (Some ps) None) pairs))
+    at None later = nothing_stands (is_option (name, value) && not (is_some (value_in name words)))
+    at (Some pairs) later =
+        one_more ((name, value) ∷ pairs) pairs (list_any (is_named name) pairs) (have_distinct_names pairs) (is_option (name, value)) (list_all is_option pairs)
+        ∙ ap (λ b. (is_option (name, value) && not b) && is_some (cond (stand pairs) (Some pairs) None)) (sym (ap is_some later ∙ value_stands name pairs))
+
+-- the values that are found among options
+values_of_options : (words : List Text) → IfSome (options_of words) (λ options. (name : Text) → value_in name words ≡ value_named name options)
+values_of_options words = at (pairs_of words) (λ name. value_of_pairs name words)
+  where
+    chosen : (pairs : List Pair) (b : Bool) → ((name : Text) → value_in name words ≡ value_named name pairs)
+        → IfSome (cond b (Some pairs) None) (λ options. (name : Text) → value_in name words ≡ value_named name options)
+    chosen pairs true found = found
+    chosen pairs false found = tt
+
+    at : (pairs : Option (List Pair)) → ((name : Text) → IfSome pairs (λ ps. value_in name words ≡ value_named name ps))
+        → IfSome (option_and_then (λ ps. cond (stand ps) (Some ps) None) pairs) (λ options. (name : Text) → value_in name words ≡ value_named name options)
+    at None found = tt
+    at (Some pairs) found = chosen pairs (stand pairs) found
+
+-- the run of the values that are found among options is the run of the options
+pub run_found : (list : Text) (words : List Text) → is_some (options_of words) ≡ true
+    → Some (Replay list (value_in (codes "--store") words) (batch_of (value_in (codes "--batch") words)) (start_of (value_in (codes "--start") words)))
+    ≡ option_map (run_of list) (options_of words)
+run_found list words = at (options_of words) (values_of_options words)
+  where
+    at : (options : Option (List Pair)) → IfSome options (λ os. (name : Text) → value_in name words ≡ value_named name os) → is_some options ≡ true
+        → Some (Replay list (value_in (codes "--store") words) (batch_of (value_in (codes "--batch") words)) (start_of (value_in (codes "--start") words)))
+        ≡ option_map (run_of list) options
+    at None found is = absurd (false≢true is)
+    at (Some options) found is =
+        ap₂ (λ store batch. Some (Replay list store (batch_of batch) (start_of (value_in (codes "--start") words)))) (found (codes "--store")) (found (codes "--batch"))
+        ∙ ap (λ start. Some (Replay list (value_named (codes "--store") options) (batch_of (value_named (codes "--batch") options)) (start_of start))) (found (codes "--start"))

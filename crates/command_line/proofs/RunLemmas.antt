@@ -1,116 +1,143 @@
--- `clap` reads from the words of a run what the definition reads.
-use Rattle.std.proofs.Common.{◌≡◌, ℕ, Bool, true, false, cond, ◌==◌, List, [], ◌∷◌, Option, Some, None, option_and_then, option_map, refl, ap, sym, subst, ◌∙◌, arith}
-use Rattle.std.specs.Prelude.{bytes_eq, codes, is_some, not, unwrap_or}
-use Rattle.std.specs.Option.{option_map_or}
-use Rattle.std.specs.List.{list_all}
-use Rattle.std.specs.Str.Parse.{digits_value}
-use Rattle.std.proofs.lemmas.Bool.{and_parts, eq-eqb, false≢true, ne_eqb}
-use Rattle.std.proofs.lemmas.Slice.Eq.{bytes_eq-Decides}
-use Rattle.clap.specs.Words.{Text, subcommand_of, takes}
-use Rattle.command_line.specs.declared.options.Options.{Options}
-use Rattle.command_line.specs.Program.{found_in, program_app, start_by}
-use Rattle.command_line.specs.Walk.{no_options, options_from, with_start}
-use Rattle.command_line.specs.Words.{Help, PlainCommand, Replay, command_of, default_start, have_distinct_names, is_digit, is_number, is_path, last_start, number_of, options_of, pairs_of, up_to}
-use Rattle.command_line.proofs.ClapLemmas.{IsPlain, found_alone, found_start, starts_plain, takes_alone, takes_start}
-use Rattle.command_line.proofs.NumberLemmas.{digit_bounds, digits}
-use Rattle.command_line.proofs.PairLemmas.{as_pairs, only_start, started}
+-- What `clap` makes of the words of a run.
+use Rattle.std.proofs.Common.{◌≡◌, Bool, true, false, cond, ◌&&◌, ◌||◌, List, [], ◌∷◌, ◌++◌, Option, Some, None, IfSome, codes, find, map, option_and_then, option_map, refl, ap, ap₂, subst, sym, ◌∙◌, append_assoc, append-nil}
+use Rattle.std.specs.Prelude.{bytes_eq, not, slice_get}
+use Rattle.std.specs.List.{list_all, list_any}
+use Rattle.std.proofs.lemmas.Bool.{and_parts, not-true, or_parts}
+use Rattle.std.proofs.lemmas.List.Folds.{list_any-append}
+use Rattle.clap.specs.Words.{Row, Text, first_of}
+use Rattle.clap.specs.Takes.{walk_passes}
+use Rattle.clap.specs.Walk.{has_row, settled_rows}
+use Rattle.clap.proofs.OnLiterals.{clap_on_literals}
+use Rattle.command_line.specs.Options.{Pair, have_distinct_names, is_named, is_option, options_of, pairs_of, value_named}
+use Rattle.command_line.proofs.ClapLemmas.{Ends, IsCommand, IsPlain, IsTaken, at_value, begins, ends_after, replay_leaf, replay_rules, taken, value_row}
+use Rattle.command_line.proofs.OptionLemmas.{IsOption, IsSettled, at_option, differ_back, list_settled, name_of, no_defaults, option_given, option_settled, option_turn, option_walked, passes_once, same_names, settles_once, value_turn, value_walked}
 
--- `clap` takes the words, and finds this list and this beginning of the clock
-pub record IsRead (words : List Text) (path : Text) (start : ℕ) : Type 0 where
-  pub taken : takes program_app words ≡ true
-  pub has_list : option_map_or (bytes_eq path) (found_in (codes "list") (subcommand_of program_app words)) false ≡ true
-  pub has_start : option_map_or (λ n. start == n) (start_by (found_in (codes "start") (subcommand_of program_app words))) false ≡ true
+-- ---- options that were not used yet
 
-read_alone : (path : Text) → IsPlain path → IsRead (codes "replay" ∷ path ∷ []) path default_start
-read_alone path plain = record {
-  taken = takes_alone path plain;
-  has_list = ap (λ met. option_map_or (bytes_eq path) (found_in (codes "list") met) false) (found_alone path plain) ∙ (bytes_eq-Decides path path).1 refl;
-  has_start = ap (λ met. option_map_or (λ n. default_start == n) (start_by (found_in (codes "start") met)) false) (found_alone path plain);
+abbrev is_fresh : List Row → Pair → Bool
+is_fresh rows pair = not (has_row (name_of pair) rows)
+
+absent_more : (rows : List Row) (name before value : Text) → has_row name rows ≡ false → bytes_eq before name ≡ false → has_row name (rows ++ value_row before value ∷ []) ≡ false
+absent_more rows name before value absent other =
+    list_any-append (λ row. bytes_eq row.id name) rows (value_row before value ∷ [])
+    ∙ ap₂ (λ x y. x || (y || false)) absent other
+
+-- what is fresh and has another name stays fresh
+fresh_more : (pairs : List Pair) (rows : List Row) (word name value : Text) → IsOption word name → list_all is_option pairs ≡ true → list_any (is_named word) pairs ≡ false
+    → list_all (is_fresh rows) pairs ≡ true → list_all (is_fresh (rows ++ value_row name value ∷ [])) pairs ≡ true
+fresh_more [] rows word name value is are others fresh = refl
+fresh_more (pair ∷ pairs) rows word name value is are others fresh =
+    let options = and_parts (is_option pair) (list_all is_option pairs) are in
+    let freshes = and_parts (is_fresh rows pair) (list_all (is_fresh rows) pairs) fresh in
+    let names = or_parts (is_named word pair) (list_any (is_named word) pairs) others in
+    let other : bytes_eq name (name_of pair) ≡ false =
+    sym (same_names word pair.0 name (name_of pair) is (option_given pair options.0).is) ∙ differ_back pair.0 word names.0 in
+    ap₂ (λ x y. not x && y)
+    (absent_more rows (name_of pair) name value (not-true (has_row (name_of pair) rows) freshes.0) other)
+    (fresh_more pairs rows word name value is options.1 names.1 freshes.1)
+
+-- each option is fresh behind the list alone
+fresh_behind_list : (list : Text) (pairs : List Pair) → list_all is_option pairs ≡ true → list_all (is_fresh (value_row (codes "list") list ∷ [])) pairs ≡ true
+fresh_behind_list list [] are = refl
+fresh_behind_list list (pair ∷ pairs) are =
+    let options = and_parts (is_option pair) (list_all is_option pairs) are in
+    ap₂ (λ x y. not (x || false) && y) (option_given pair options.0).is.no_list (fresh_behind_list list pairs options.1)
+
+-- ---- the walk over the options
+
+abbrev words_of : List Pair → List Text
+words_of [] = []
+words_of (pair ∷ pairs) = pair.0 ∷ pair.1 ∷ words_of pairs
+
+abbrev pub option_row : Pair → Row
+option_row pair = value_row (name_of pair) pair.1
+
+options_end : (pairs : List Pair) (rows : List Row) (before value : Text) → IsSettled before → has_row before rows ≡ false
+    → have_distinct_names pairs ≡ true → list_all is_option pairs ≡ true → list_all (is_fresh (rows ++ value_row before value ∷ [])) pairs ≡ true
+    → Ends replay_leaf (at_value 2 rows before value) (words_of pairs) ((rows ++ value_row before value ∷ []) ++ map option_row pairs)
+unfolding walk_passes have_distinct_names
+options_end [] rows before value settled absent distinct are fresh = record {
+  walks = refl;
+  settles = passes_once before value rows settled absent;
+  finishes = no_defaults (settled_rows replay_rules (Some (before, value ∷ [])) rows) ∙ settles_once before value rows settled absent ∙ sym (append-nil (rows ++ value_row before value ∷ []));
 }
+options_end (pair ∷ pairs) rows before value settled absent distinct are fresh =
+    let options = and_parts (is_option pair) (list_all is_option pairs) are in
+    let names = and_parts (not (list_any (is_named pair.0) pairs)) (have_distinct_names pairs) distinct in
+    let more = rows ++ value_row before value ∷ [] in
+    let freshes = and_parts (is_fresh more pair) (list_all (is_fresh more) pairs) fresh in
+    let given = option_given pair options.0 in
+    let later = options_end pairs more (name_of pair) pair.1 (option_settled pair.0 (name_of pair) given.is) (not-true (has_row (name_of pair) more) freshes.0) names.1 options.1
+    (fresh_more pairs more pair.0 (name_of pair) pair.1 given.is options.1 (not-true (list_any (is_named pair.0) pairs) names.0) freshes.1) in
+    let end = (more ++ option_row pair ∷ []) ++ map option_row pairs in
+    subst (Ends replay_leaf (at_value 2 rows before value) (words_of (pair ∷ pairs))) (append_assoc more (option_row pair ∷ []) (map option_row pairs))
+    (ends_after replay_leaf (at_value 2 rows before value) (at_option more (name_of pair)) pair.0 (pair.1 ∷ words_of pairs) end
+    (option_turn pair.0 (name_of pair) rows before value given.is settled absent) (option_walked pair.0 (name_of pair) rows before value given.is settled absent)
+    (ends_after replay_leaf (at_option more (name_of pair)) (at_value 2 more (name_of pair) pair.1) pair.1 (words_of pairs) end
+    (value_turn pair.0 (name_of pair) pair.1 more given.is given.plain) (value_walked pair.0 (name_of pair) pair.1 more given.is given.plain) later))
 
-read_start : (path given : Text) (start : ℕ) → IsPlain path → IsPlain given → number_of last_start given ≡ Some start → IsRead (codes "replay" ∷ path ∷ codes "--start" ∷ given ∷ []) path start
-read_start path given start plain numeral number = record {
-  taken = takes_start path given plain numeral;
-  has_list = ap (λ met. option_map_or (bytes_eq path) (found_in (codes "list") met) false) (found_start path given plain numeral) ∙ (bytes_eq-Decides path path).1 refl;
-  has_start =
-      ap (λ met. option_map_or (λ n. start == n) (start_by (found_in (codes "start") met)) false) (found_start path given plain numeral)
-      ∙ ap (λ (found : Option ℕ). option_map_or (λ n. start == n) found false) number ∙ eq-eqb start start refl;
-}
+-- ---- the words of a run
 
--- ---- the forms of words that are a run
+-- options are words by twos, each name once, each an option
+record AreOptions (words : List Text) (options : List Pair) : Type 0 where
+  spelled : words_of options ≡ words
+  distinct : have_distinct_names options ≡ true
+  all : list_all is_option options ≡ true
 
-is_false : (b : Bool) → not b ≡ true → b ≡ false
-is_false true is = sym is
-is_false false is = refl
-
-path_plain : (path : Text) → is_path path ≡ true → IsPlain path
-path_plain [] is = absurd (false≢true is)
-path_plain (first ∷ tail) is = starts_plain first tail (is_false (first == 45) is)
-
-abbrev IsRun : Option PlainCommand → Type 0
-IsRun (Some (Replay path start)) = Unit {0}
-IsRun command = ⊥
-
-abbrev path_in : Option PlainCommand → Text
-path_in (Some (Replay path start)) = path
-path_in command = []
-
-abbrev start_in : Option PlainCommand → ℕ
-start_in (Some (Replay path start)) = start
-start_in command = 0
-
--- a run of one path and beginning is no other
-same_run : (words : List Text) (a b : Text) (n m : ℕ) → Some (Replay a n) ≡ Some (Replay b m) → IsRead words a n → IsRead words b m
-same_run words a b n m is read = subst (λ path. IsRead words path m) (ap path_in is) (subst (λ start. IsRead words a start) (ap start_in is) read)
-
-numeral_plain : (given : Text) (n : ℕ) → number_of last_start given ≡ Some n → IsPlain given
-numeral_plain [] n is = absurd (false≢true (ap is_some is))
-numeral_plain (first ∷ tail) n is = at (is_number (first ∷ tail)) refl is
+pairs_spelled : (words : List Text) → IfSome (pairs_of words) (λ pairs. words_of pairs ≡ words)
+unfolding pairs_of
+pairs_spelled [] = refl
+pairs_spelled (name ∷ []) = tt
+pairs_spelled (name ∷ value ∷ words) = at (pairs_of words) (pairs_spelled words)
   where
-    at : (b : Bool) → is_number (first ∷ tail) ≡ b → cond b (up_to last_start (digits_value 10 (first ∷ tail))) None ≡ Some n → IsPlain (first ∷ tail)
-    at true numeral found =
-        let low = (digit_bounds first (and_parts (is_digit first) (list_all is_digit tail) (digits (first ∷ tail) numeral)).0).0 in
-        starts_plain first tail (ne_eqb first 45 (λ e. omega (arith, low, e)))
-    at false numeral found = absurd (false≢true (ap is_some found))
+    at : (pairs : Option (List Pair)) → IfSome pairs (λ ps. words_of ps ≡ words) → IfSome (option_map (λ ps. (name, value) ∷ ps) pairs) (λ ps. words_of ps ≡ name ∷ value ∷ words)
+    at None spelled = tt
+    at (Some pairs) spelled = ap (λ ws. name ∷ value ∷ ws) spelled
 
--- the run that options give
-abbrev run_of : Text → Option Options → Option PlainCommand
-run_of path options = option_map (λ o. Replay path (unwrap_or o.start default_start)) options
-
--- a start, and what stands behind it
-behind_start : (path given : Text) (n : ℕ) (more : List Text) (b : Text) (m : ℕ) → IsPlain path → number_of last_start given ≡ Some n
-    → run_of path (only_start more n) ≡ Some (Replay b m) → IsRead (codes "replay" ∷ path ∷ codes "--start" ∷ given ∷ more) b m
-behind_start path given n [] b m plain number is = same_run _ path b n m is (read_start path given n plain (numeral_plain given n number) number)
-behind_start path given n (word ∷ words) b m plain number is = absurd (subst IsRun (sym is) tt)
-
-replay_read : (path : Text) (rest : List Text) (b : Text) (m : ℕ) → IsPlain path → run_of path (options_of rest) ≡ Some (Replay b m) → IsRead (codes "replay" ∷ path ∷ rest) b m
-unfolding options_from pairs_of have_distinct_names
-replay_read path [] b m plain is = same_run _ path b default_start m is (read_alone path plain)
-replay_read path (name ∷ []) b m plain is = absurd (subst IsRun (sym is) tt)
-replay_read path (name ∷ given ∷ more) b m plain is =
-    at (bytes_eq name (codes "--start")) (number_of last_start given) refl refl (ap (run_of path) (as_pairs (name ∷ given ∷ more)) ∙ is)
+options_are : (words : List Text) → IfSome (options_of words) (AreOptions words)
+options_are words = at (pairs_of words) (pairs_spelled words)
   where
-    at : (named : Bool) (number : Option ℕ) → bytes_eq name (codes "--start") ≡ named → number_of last_start given ≡ number
-        → run_of path (option_and_then (λ options. options_from options more) (cond named (option_and_then (with_start no_options) number) None)) ≡ Some (Replay b m)
-        → IsRead (codes "replay" ∷ path ∷ name ∷ given ∷ more) b m
-    at true (Some n) same number is =
-        subst (λ word. IsRead (codes "replay" ∷ path ∷ word ∷ given ∷ more) b m) (sym ((bytes_eq-Decides name (codes "--start")).0 same))
-        (behind_start path given n more b m plain number (ap (run_of path) (sym (started n more)) ∙ is))
-    at true None same number is = absurd (subst IsRun (sym is) tt)
-    at false number same none is = absurd (subst IsRun (sym is) tt)
+    chosen : (pairs : List Pair) (b : Bool) → (have_distinct_names pairs && list_all is_option pairs) ≡ b → words_of pairs ≡ words → IfSome (cond b (Some pairs) None) (AreOptions words)
+    chosen pairs true stand spelled =
+        let parts = and_parts (have_distinct_names pairs) (list_all is_option pairs) stand in
+        record { spelled = spelled; distinct = parts.0; all = parts.1 }
+    chosen pairs false stand spelled = tt
 
-pub run_read : (words : List Text) (path : Text) (start : ℕ) → command_of words ≡ Some (Replay path start) → IsRead words path start
-run_read [] path start is = absurd (subst IsRun (sym is) tt)
-run_read (word ∷ []) path start is = at (bytes_eq word (codes "--help")) is
+    at : (pairs : Option (List Pair)) → IfSome pairs (λ ps. words_of ps ≡ words)
+        → IfSome (option_and_then (λ ps. cond (have_distinct_names ps && list_all is_option ps) (Some ps) None) pairs) (AreOptions words)
+    at None spelled = tt
+    at (Some pairs) spelled = chosen pairs (have_distinct_names pairs && list_all is_option pairs) refl spelled
+
+is_command : IsCommand (codes "replay") replay_leaf
+unfolding clap_on_literals
+is_command = record { met = refl; turn = refl; among = refl }
+
+pub run_taken : (list : Text) (words : List Text) (options : List Pair) → IsPlain list → options_of words ≡ Some options
+    → IsTaken (codes "replay") (list ∷ words) (codes "replay", value_row (codes "list") list ∷ map option_row options)
+run_taken list words options plain are =
+    let these : AreOptions words options = subst (λ os. IfSome os (AreOptions words)) are (options_are words) in
+    let rows = value_row (codes "list") list ∷ map option_row options in
+    taken (codes "replay") replay_leaf (list ∷ words) rows is_command
+    (begins replay_leaf list words rows refl plain
+    (subst (λ ws. Ends replay_leaf (at_value 2 [] (codes "list") list) ws rows) these.spelled
+    (options_end options [] (codes "list") list list_settled refl these.distinct these.all (fresh_behind_list list options these.all))))
+    refl
+
+-- the value that is found for an option is that of its name
+value_among : (word name : Text) (pairs : List Pair) → IsOption word name → list_all is_option pairs ≡ true → first_of name (map option_row pairs) ≡ value_named word pairs
+value_among word name [] is are = refl
+value_among word name (pair ∷ pairs) is are =
+    let options = and_parts (is_option pair) (list_all is_option pairs) are in
+    at (is_named word pair) (same_names pair.0 word (name_of pair) name (option_given pair options.0).is is) (value_among word name pairs is options.1)
   where
-    at : (b : Bool) → cond b (Some Help) None ≡ Some (Replay path start) → IsRead (word ∷ []) path start
-    at true is = absurd (subst IsRun (sym is) tt)
-    at false is = absurd (subst IsRun (sym is) tt)
-run_read (word ∷ first ∷ rest) path start is = at (bytes_eq word (codes "replay")) (is_path first) refl refl is
-  where
-    at : (named may_be : Bool) → bytes_eq word (codes "replay") ≡ named → is_path first ≡ may_be
-        → cond named (cond may_be (run_of first (options_of rest)) None) None ≡ Some (Replay path start) → IsRead (word ∷ first ∷ rest) path start
-    at true true same can is =
-        subst (λ w. IsRead (w ∷ first ∷ rest) path start) (sym ((bytes_eq-Decides word (codes "replay")).0 same)) (replay_read first rest path start (path_plain first can) is)
-    at true false same can is = absurd (subst IsRun (sym is) tt)
-    at false can same may is = absurd (subst IsRun (sym is) tt)
+    at : (b : Bool) → b ≡ bytes_eq (name_of pair) name → first_of name (map option_row pairs) ≡ value_named word pairs
+        → first_of name (map option_row (pair ∷ pairs)) ≡ option_map (λ (pair : Pair). pair.1) (cond b (Some pair) (find (is_named word) pairs))
+    at true named later = ap (λ b. option_and_then (λ (row : Row). slice_get row.values 0) (cond b (Some (option_row pair)) (find (λ row. bytes_eq row.id name) (map option_row pairs)))) (sym named)
+    at false named later = ap (λ b. option_and_then (λ (row : Row). slice_get row.values 0) (cond b (Some (option_row pair)) (find (λ row. bytes_eq row.id name) (map option_row pairs)))) (sym named) ∙ later
+
+pub option_found : (list word name : Text) (words : List Text) (pairs : List Pair) → IsOption word name → options_of words ≡ Some pairs
+    → first_of name (value_row (codes "list") list ∷ map option_row pairs) ≡ value_named word pairs
+option_found list word name words pairs is are =
+    let these : AreOptions words pairs = subst (λ os. IfSome os (AreOptions words)) are (options_are words) in
+    ap (λ b. option_and_then (λ (row : Row). slice_get row.values 0) (cond b (Some (value_row (codes "list") list)) (find (λ row. bytes_eq row.id name) (map option_row pairs)))) is.no_list
+    ∙ value_among word name pairs is these.all

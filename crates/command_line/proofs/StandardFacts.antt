@@ -1,19 +1,44 @@
 -- Words and numbers of the command line, so that a wrong rule in the specs does not check.
 use Rattle.std.proofs.Common.{◌≡◌, refl, [], ◌∷◌, Some, None, arith}
 use Rattle.std.specs.Prelude.{codes}
-use Rattle.command_line.specs.Words.{StartsInTime, command_of, have_distinct_names, number_of, pairs_of, Help, Replay}
+use Rattle.command_line.specs.Options.{have_distinct_names, number_of, pairs_of}
+use Rattle.command_line.specs.Words.{Dump, Help, IsInRange, ReadsList, Replay, command_of}
 
-alone : command_of (codes "replay" ∷ codes "l" ∷ []) ≡ Some (Replay (codes "l") 1767225600)
+alone : command_of (codes "replay" ∷ codes "l" ∷ []) ≡ Some (Replay (codes "l") None 1 1767225600)
 unfolding pairs_of have_distinct_names
 alone = refl
 
-started : command_of (codes "replay" ∷ codes "l" ∷ codes "--start" ∷ codes "5" ∷ []) ≡ Some (Replay (codes "l") 5)
+stored : command_of (codes "replay" ∷ codes "l" ∷ codes "--store" ∷ codes "s" ∷ []) ≡ Some (Replay (codes "l") (Some (codes "s")) 1 1767225600)
 unfolding pairs_of have_distinct_names
-started = refl
+stored = refl
 
-started_twice : command_of (codes "replay" ∷ codes "l" ∷ codes "--start" ∷ codes "5" ∷ codes "--start" ∷ codes "5" ∷ []) ≡ None
+all_options : command_of (codes "replay" ∷ codes "l" ∷ codes "--start" ∷ codes "5" ∷ codes "--batch" ∷ codes "256" ∷ codes "--store" ∷ codes "s" ∷ []) ≡ Some (Replay (codes "l") (Some (codes "s")) 256 5)
 unfolding pairs_of have_distinct_names
-started_twice = refl
+all_options = refl
+
+twice_with_another_between : command_of (codes "replay" ∷ codes "l" ∷ codes "--batch" ∷ codes "2" ∷ codes "--start" ∷ codes "5" ∷ codes "--batch" ∷ codes "2" ∷ []) ≡ None
+unfolding pairs_of have_distinct_names
+twice_with_another_between = refl
+
+no_batch : command_of (codes "replay" ∷ codes "l" ∷ codes "--batch" ∷ codes "0" ∷ []) ≡ None
+unfolding pairs_of have_distinct_names
+no_batch = refl
+
+too_long_a_batch : command_of (codes "replay" ∷ codes "l" ∷ codes "--batch" ∷ codes "257" ∷ []) ≡ None
+unfolding pairs_of have_distinct_names
+too_long_a_batch = refl
+
+store_like_an_option : command_of (codes "replay" ∷ codes "l" ∷ codes "--store" ∷ codes "-s" ∷ []) ≡ None
+unfolding pairs_of have_distinct_names
+store_like_an_option = refl
+
+empty_store : command_of (codes "replay" ∷ codes "l" ∷ codes "--store" ∷ [] ∷ []) ≡ None
+unfolding pairs_of have_distinct_names
+empty_store = refl
+
+other_option : command_of (codes "replay" ∷ codes "l" ∷ codes "--checkpoint" ∷ codes "5" ∷ []) ≡ None
+unfolding pairs_of have_distinct_names
+other_option = refl
 
 as_one_word : command_of (codes "replay" ∷ codes "l" ∷ codes "--start=5" ∷ []) ≡ None
 unfolding pairs_of have_distinct_names
@@ -22,26 +47,59 @@ as_one_word = refl
 bare : command_of (codes "replay" ∷ []) ≡ None
 bare = refl
 
+dumped : command_of (codes "dump" ∷ codes "l" ∷ codes "s" ∷ []) ≡ Some (Dump (codes "l") (codes "s"))
+dumped = refl
+
+dumped_from_nothing : command_of (codes "dump" ∷ codes "l" ∷ []) ≡ None
+dumped_from_nothing = refl
+
+dumped_with_an_option : command_of (codes "dump" ∷ codes "l" ∷ codes "s" ∷ codes "--start" ∷ codes "5" ∷ []) ≡ None
+dumped_with_an_option = refl
+
+dumped_like_an_option : command_of (codes "dump" ∷ codes "l" ∷ codes "--store" ∷ []) ≡ None
+dumped_like_an_option = refl
+
+no_other_command : command_of (codes "twin" ∷ codes "l" ∷ codes "s" ∷ []) ≡ None
+no_other_command = refl
+
+help_and_more : command_of (codes "--help" ∷ codes "replay" ∷ codes "l" ∷ []) ≡ None
+help_and_more = refl
+
 help : command_of (codes "--help" ∷ []) ≡ Some Help
 help = refl
 
-last_moment : number_of 253402300799 (codes "253402300799") ≡ Some 253402300799
+last_moment : number_of 0 253402300799 (codes "253402300799") ≡ Some 253402300799
 last_moment = refl
 
-past_the_last_moment : number_of 253402300799 (codes "253402300800") ≡ None
+past_the_last_moment : number_of 0 253402300799 (codes "253402300800") ≡ None
 past_the_last_moment = refl
 
-exponent : number_of 253402300799 (codes "1e3") ≡ None
+exponent : number_of 0 253402300799 (codes "1e3") ≡ None
 exponent = refl
 
-thirteen_digits : number_of 253402300799 (codes "0000000000001") ≡ None
+thirteen_digits : number_of 0 253402300799 (codes "0000000000001") ≡ None
 thirteen_digits = refl
 
-begins_in_time : StartsInTime (Replay (codes "l") 253402300799)
-begins_in_time = omega arith
+first_of_two : number_of 1 2 (codes "01") ≡ Some 1
+first_of_two = refl
 
-begins_too_late : StartsInTime (Replay (codes "l") 253402300800) → ⊥
-begins_too_late late = omega (arith, late)
+before_the_first : number_of 1 2 (codes "00") ≡ None
+before_the_first = refl
 
-begins_never : StartsInTime Help
-begins_never = tt
+in_range : IsInRange (Replay (codes "l") None 256 253402300799)
+in_range = (omega arith, omega arith, omega arith)
+
+begins_too_late : IsInRange (Replay (codes "l") None 1 253402300800) → ⊥
+begins_too_late is = omega (arith, is.2)
+
+batch_of_none : IsInRange (Replay (codes "l") None 0 0) → ⊥
+batch_of_none is = omega (arith, is.0)
+
+batch_too_long : IsInRange (Replay (codes "l") None 257 0) → ⊥
+batch_too_long is = omega (arith, is.1)
+
+help_reads_no_list : ReadsList Help → ⊥
+help_reads_no_list is = is
+
+dump_reads_a_list : ReadsList (Dump (codes "l") (codes "s"))
+dump_reads_a_list = tt

@@ -1,4 +1,5 @@
 -- What contracts cite.
+pub mod Options
 pub mod Words
 pub mod Plain
 -- What private functions compute. No public clause rests on it.

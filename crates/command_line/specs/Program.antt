@@ -1,21 +1,35 @@
--- The command as `clap` is told it. Only private functions see it.
-use Rattle.std.specs.Prelude.{ℕ, List, Option, Some, None, option_and_then, true, codes}
+-- The command as `clap` is told it, and what it found. Only private functions see it.
+-- Source: none.
+use Rattle.std.specs.Prelude.{Bool, true, false, ◌&&◌, ◌==◌, List, Option, Some, None}
+use Rattle.std.specs.Prelude.{option_and_then, bytes_eq, codes, if◌then◌else◌}
+use Rattle.std.specs.Option.{option_eq}
 use Rattle.clap.specs.Words.{App, Row, Rule, Text, first_of, new_app, new_rule, with_rule}
 use Rattle.clap.specs.Words.{with_subcommand}
-use Rattle.command_line.specs.Words.{default_start, last_start, number_of}
+use Rattle.command_line.specs.Options.{batch_of, start_of}
+use Rattle.command_line.specs.Words.{PlainCommand, Help, Replay, Dump}
 use Rattle.clap.specs.declared.builder.ArgAction.TheVariants.{Set}
+use Rattle.clap.specs.declared.builder.command.Command.{Command}
+use Rattle.clap.specs.declared.builder.command.Command.TheViews.{out-Command}
 
--- the list, which has to stand
-abbrev pub list_rule : Rule
-list_rule = record (new_rule (codes "list")) { required = true; action = Some Set }
+-- a word that has to stand, by its place
+abbrev pub place_rule : Text → Rule
+place_rule name = record (new_rule name) { required = true; action = Some Set }
 
--- the option for the beginning of the clock
-abbrev pub start_rule : Rule
-start_rule = record (new_rule (codes "start")) { long = Some (codes "start"); action = Some Set }
+-- an option, of this name behind `--`
+abbrev pub option_rule : Text → Rule
+option_rule name = record (new_rule name) { long = Some name; action = Some Set }
 
 -- a run of a script
 abbrev pub replay_app : App
-replay_app = with_rule (with_rule (new_app (codes "replay")) list_rule) start_rule
+replay_app = with_rule
+    (with_rule
+    (with_rule (with_rule (new_app (codes "replay")) (place_rule (codes "list")))
+    (option_rule (codes "store"))) (option_rule (codes "batch"))) (option_rule (codes "start"))
+
+-- a dump of a store
+abbrev pub dump_app : App
+dump_app = with_rule (with_rule (new_app (codes "dump")) (place_rule (codes "list")))
+    (place_rule (codes "store"))
 
 -- the program's name and its settings, before its commands
 abbrev pub bare_app : App
@@ -31,13 +45,25 @@ bare_app =
 
 -- the program
 abbrev pub program_app : App
-program_app = with_subcommand bare_app replay_app.top
+program_app = with_subcommand (with_subcommand bare_app replay_app.top) dump_app.top
 
--- the value that was found under a name, among the matches of the command that was met
-abbrev pub found_in : Text → Option (Text × List Row) → Option Text
-found_in name met = option_and_then (λ command. first_of name command.1) met
+-- the command has an option that is one of its commands' too
+abbrev pub has_globals : Command → Bool
+has_globals command = (out-Command command).has_globals
 
--- the beginning of the clock that a value stands for, and the usual one where there is none
-abbrev pub start_by : Option Text → Option ℕ
-start_by None = Some default_start
-start_by (Some text) = number_of last_start text
+-- the value of this name that was found among the matches of this command
+abbrev pub found_in : (command name : Text) → Option (Text × List Row) → Option Text
+found_in command name met = option_and_then
+    (λ matches. if bytes_eq matches.0 command then first_of name matches.1 else None) met
+
+-- what was found is this run or this dump
+abbrev pub is_found : PlainCommand → Option (Text × List Row) → Bool
+is_found Help met = false
+is_found (Replay list store batch start) met =
+    option_eq bytes_eq (found_in (codes "replay") (codes "list") met) (Some list)
+    && (option_eq bytes_eq (found_in (codes "replay") (codes "store") met) store
+    && ((batch_of (found_in (codes "replay") (codes "batch") met) == batch)
+    && (start_of (found_in (codes "replay") (codes "start") met) == start)))
+is_found (Dump list store) met =
+    option_eq bytes_eq (found_in (codes "dump") (codes "list") met) (Some list)
+    && option_eq bytes_eq (found_in (codes "dump") (codes "store") met) (Some store)

@@ -5,7 +5,8 @@ ghost use Rattle.command_line.specs.Plain.{plain_command};
 ghost use Rattle.command_line.specs.Words as spec;
 
 use crate::matches::confirms;
-use crate::options::{DEFAULT_START, read_options};
+use crate::options::{are_options, batch_of, start_of, value_named};
+use crate::paths::is_path;
 use agent_base::NoMemory;
 use std::alloc::Global;
 
@@ -18,21 +19,32 @@ pub enum Command<'a> {
     Replay {
         /// The path of the suffix list.
         list: &'a str,
+        /// The path of the store, where the run is not over an empty one in memory.
+        store: Option<&'a str>,
+        /// How many lines make a batch, whose replies wait until its changes are in the store.
+        batch: u16,
         /// Where the clock begins, in seconds since 1970.
         start: u64,
+    },
+    /// The rows of a store.
+    Dump {
+        /// The path of the suffix list.
+        list: &'a str,
+        /// The path of the store.
+        store: &'a str,
     },
 }
 
 /// The command that words are, without the program's name; and `None` where they are none.
 ///
-/// Words that are a run are taken apart by the crate `clap` besides, which reads the same from
-/// them, and refuses them only for want of memory.
+/// Words that are a run or a dump are taken apart by the crate `clap` besides, which reads the same
+/// from them, and refuses them only for want of memory.
 pub fn read_words<'a>(alloc: Global, words: &'a [String]) -> Result<Option<Command<'a>>, NoMemory>
     ensures value { IfOk result
         (λ c. option_map plain_command c ≡ spec.command_of (map string_bytes words.now)) }
-    ensures start { IfOk result (λ c. IfSome (option_map plain_command c) spec.StartsInTime) }
+    ensures range { IfOk result (λ c. IfSome (option_map plain_command c) spec.IsInRange) }
     ensures refused { OnErr result
-        (IfSome (spec.command_of (map string_bytes words.now)) spec.IsReplay) }
+        (IfSome (spec.command_of (map string_bytes words.now)) spec.ReadsList) }
     ensures command { OnErr result (IsSome (spec.command_of (map string_bytes words.now))) }
 {
     match command_in(words) {
@@ -48,7 +60,7 @@ fn command_in(words: &[String]) -> Option<Command<'_>>
     match words {
         [] => None,
         [word] => help(word),
-        [word, path, rest @ ..] => run(word, path, rest),
+        [word, list, rest @ ..] => under_list(word, list, rest),
     }
 }
 
@@ -62,37 +74,39 @@ fn help<'a>(word: &str) -> Option<Command<'a>>
     }
 }
 
-fn run<'a>(word: &str, path: &'a str, rest: &[String]) -> Option<Command<'a>>
+fn under_list<'a>(word: &str, list: &'a str, rest: &'a [String]) -> Option<Command<'a>>
     ensures { option_map plain_command result
-        ≡ spec.command_of (word.now ∷ path.now ∷ map string_bytes rest.now) }
+        ≡ spec.command_of (word.now ∷ list.now ∷ map string_bytes rest.now) }
 {
-    if word != "replay" {
-        return None;
+    if word == "replay" {
+        return replay(list, rest);
     }
-    replay(path, rest)
+    if word == "dump" {
+        return dump(list, rest);
+    }
+    None
 }
 
-fn replay<'a>(path: &'a str, rest: &[String]) -> Option<Command<'a>>
+fn replay<'a>(list: &'a str, rest: &'a [String]) -> Option<Command<'a>>
     ensures { option_map plain_command result
-        ≡ spec.replay_of path.now (map string_bytes rest.now) }
+        ≡ spec.replay_of list.now (map string_bytes rest.now) }
 {
-    if !is_path(path) {
+    if !is_path(list) || !are_options(rest) {
         return None;
     }
-    match read_options(rest) {
-        Some(options) => Some(Command::Replay {
-            list: path,
-            start: options.start.unwrap_or(DEFAULT_START),
-        }),
-        None => None,
-    }
+    Some(Command::Replay {
+        list,
+        store: value_named(rest, "--store"),
+        batch: batch_of(value_named(rest, "--batch")),
+        start: start_of(value_named(rest, "--start")),
+    })
 }
 
-fn is_path(word: &str) -> bool
-    ensures { result ≡ spec.is_path word.now }
+fn dump<'a>(list: &'a str, rest: &'a [String]) -> Option<Command<'a>>
+    ensures { option_map plain_command result ≡ spec.dump_of list.now (map string_bytes rest.now) }
 {
-    match word.as_bytes() {
-        [] => false,
-        [first, ..] => *first != b'-',
+    match rest {
+        [store] if is_path(list) && is_path(store) => Some(Command::Dump { list, store }),
+        _ => None,
     }
 }

@@ -5,5 +5,6 @@ mod commands;
 mod matches;
 mod numbers;
 mod options;
+mod paths;
 
 pub use commands::{Command, read_words};

@@ -1,79 +1,92 @@
-//! The words of a run, taken apart by `clap`.
-ghost use Rattle.std.specs.Prelude.{◌≡◌, ◌==◌, Some, IfErr, IfOk, bytes_eq, codes, false};
+//! The words of a run or of a dump, taken apart by `clap`.
+ghost use Rattle.std.specs.Prelude.{◌≡◌, Some, IfErr, IfOk, bytes_eq, false};
 ghost use Rattle.std.specs.Prelude.{map, option_map, string_bytes, true};
-ghost use Rattle.std.specs.Option.{option_map_or};
-ghost use Rattle.clap.specs.Words.{app_of, kind_of, subcommand_of, subcommand_rows_of, takes};
-ghost use Rattle.command_line.specs.Program.{found_in, program_app, start_by};
+ghost use Rattle.std.specs.Option.{option_eq};
+ghost use Rattle.clap.specs.Words.{app_of, kind_of, rule_of, subcommand_of, subcommand_rows_of};
+ghost use Rattle.clap.specs.Words.{takes};
+ghost use Rattle.command_line.specs.Program.{dump_app, found_in, has_globals, option_rule};
+ghost use Rattle.command_line.specs.Program.{place_rule, program_app, replay_app};
+ghost use Rattle.command_line.specs.Program as spec;
 ghost use Rattle.command_line.specs.Plain.{plain_command};
-ghost use Rattle.command_line.specs.Words.{IsReplay, Replay, command_of};
+ghost use Rattle.command_line.specs.Words.{ReadsList, command_of};
 
 use crate::commands::Command;
-use crate::numbers::number;
-use crate::options::{DEFAULT_START, LAST_START};
+use crate::options::{batch_of, start_of};
 use clap::error::ErrorKind;
 use clap::{Arg, ArgAction, ArgMatches, Error};
 use std::alloc::{AllocError, Global};
 
 /// Whether `clap` reads the same from the words. Want of memory alone stands against it, and only
-/// at a run: the usage line is asked for without `clap`.
+/// at a run or a dump: the usage line is asked for without `clap`.
 pub fn confirms(alloc: Global, words: &[String], command: Command<'_>) -> bool
     requires { command_of (map string_bytes words.now) ≡ Some (plain_command command) }
-    ensures { result ≡ false → IsReplay (plain_command command.entry) }
+    ensures { result ≡ false → ReadsList (plain_command command.entry) }
 {
     match command {
         Command::Help => true,
-        Command::Replay { list, start } => reads(alloc, words, list, start).unwrap_or(false),
+        Command::Replay { .. } | Command::Dump { .. } => {
+            reads(alloc, words, command).unwrap_or(false)
+        }
     }
 }
 
-// Whether `clap` reads this run from the words: it does, or refuses them for want of memory.
-fn reads(alloc: Global, words: &[String], list: &str, start: u64) -> Result<bool, Error>
-    requires { command_of (map string_bytes words.now) ≡ Some (Replay list.now start) }
+// Whether `clap` reads this command from the words: it does, or refuses them for want of memory.
+fn reads(alloc: Global, words: &[String], command: Command<'_>) -> Result<bool, Error>
+    requires value { command_of (map string_bytes words.now) ≡ Some (plain_command command) }
+    requires list { ReadsList (plain_command command) }
+    ensures finds { spec.is_found (plain_command command.entry)
+        (subcommand_of program_app (map string_bytes words.now)) ≡ true }
     ensures same { IfOk result (λ same. same ≡ true) }
     ensures refused { IfErr result (λ why. kind_of why ≡ ErrorKind.OutOfMemory) }
 {
     match matches_of(alloc, words) {
-        Ok(matches) => Ok(has_list(&matches, list) && has_start(&matches, start)),
+        Ok(matches) => Ok(is_found(&matches, command)),
         Err(why) => Err(why),
     }
 }
 
-fn has_list(matches: &ArgMatches<'_>, list: &str) -> bool
-    ensures { result ≡ option_map_or (bytes_eq list.now)
-        (found_in (codes "list") (subcommand_rows_of matches.now)) false }
+fn is_found(matches: &ArgMatches<'_>, command: Command<'_>) -> bool
+    ensures { result
+        ≡ spec.is_found (plain_command command.entry) (subcommand_rows_of matches.now) }
 {
-    match value_of(matches, "list") {
-        Some(text) => list == text,
-        None => false,
+    match command {
+        Command::Help => false,
+        Command::Replay {
+            list,
+            store,
+            batch,
+            start,
+        } => {
+            is_same(value_of(matches, "replay", "list"), Some(list))
+                && is_same(value_of(matches, "replay", "store"), store)
+                && batch_of(value_of(matches, "replay", "batch")) == batch
+                && start_of(value_of(matches, "replay", "start")) == start
+        }
+        Command::Dump { list, store } => {
+            is_same(value_of(matches, "dump", "list"), Some(list))
+                && is_same(value_of(matches, "dump", "store"), Some(store))
+        }
     }
 }
 
-fn has_start(matches: &ArgMatches<'_>, start: u64) -> bool
-    ensures { result ≡ option_map_or (λ n. start == n)
-        (start_by (found_in (codes "start") (subcommand_rows_of matches.now))) false }
+fn is_same(found: Option<&str>, text: Option<&str>) -> bool
+    ensures { result ≡ option_eq bytes_eq (option_map (λ t. t.now) found.entry)
+        (option_map (λ t. t.now) text.entry) }
 {
-    match start_of(matches) {
-        Some(n) => start == n,
-        None => false,
+    match (found, text) {
+        (Some(found), Some(text)) => found == text,
+        (None, None) => true,
+        _ => false,
     }
 }
 
-fn start_of(matches: &ArgMatches<'_>) -> Option<u64>
-    ensures { result ≡ start_by (found_in (codes "start") (subcommand_rows_of matches.now)) }
-{
-    match value_of(matches, "start") {
-        Some(text) => number(text, LAST_START),
-        None => Some(DEFAULT_START),
-    }
-}
-
-fn value_of<'a>(matches: &ArgMatches<'a>, name: &str) -> Option<&'a str>
+fn value_of<'a>(matches: &ArgMatches<'a>, command: &str, name: &str) -> Option<&'a str>
     ensures { option_map (λ text. text.now) result
-        ≡ found_in name.now (subcommand_rows_of matches.now) }
+        ≡ found_in command.now name.now (subcommand_rows_of matches.now) }
 {
     match matches.subcommand() {
-        Some((_, inner)) => inner.get_str(name),
-        None => None,
+        Some((met, inner)) if met == command => inner.get_str(name),
+        _ => None,
     }
 }
 
@@ -89,20 +102,46 @@ fn matches_of<'a>(alloc: Global, words: &'a [String]) -> Result<ArgMatches<'a>, 
 fn program<'a>(alloc: Global) -> Result<clap::Command<'a>, AllocError>
     ensures { IfOk result (λ program. app_of program ≡ program_app) }
 {
-    let replay = clap::Command::new(alloc, "replay")
-        .arg(
-            Arg::new(alloc, "list")
-                .required(true)
-                .action(ArgAction::Set),
-        )?
-        .arg(
-            Arg::new(alloc, "start")
-                .long("start")
-                .action(ArgAction::Set),
-        )?;
+    let replay = replay(alloc)?;
+    let dump = dump(alloc)?;
     clap::Command::new(alloc, "cuvandil")
         .no_binary_name(true)
         .disable_help_flag(true)
         .disable_help_subcommand(true)
-        .subcommand(replay)
+        .subcommand(replay)?
+        .subcommand(dump)
+}
+
+fn replay<'a>(alloc: Global) -> Result<clap::Command<'a>, AllocError>
+    ensures shape { IfOk result (λ command. app_of command ≡ replay_app) }
+    ensures own { IfOk result (λ command. has_globals command ≡ false) }
+{
+    clap::Command::new(alloc, "replay")
+        .arg(place(alloc, "list"))?
+        .arg(option(alloc, "store"))?
+        .arg(option(alloc, "batch"))?
+        .arg(option(alloc, "start"))
+}
+
+fn dump<'a>(alloc: Global) -> Result<clap::Command<'a>, AllocError>
+    ensures shape { IfOk result (λ command. app_of command ≡ dump_app) }
+    ensures own { IfOk result (λ command. has_globals command ≡ false) }
+{
+    clap::Command::new(alloc, "dump")
+        .arg(place(alloc, "list"))?
+        .arg(place(alloc, "store"))
+}
+
+fn place<'a>(alloc: Global, name: &'a str) -> Arg<'a>
+    ensures rule { rule_of result ≡ place_rule name.entry.now }
+    ensures own { result.global ≡ false }
+{
+    Arg::new(alloc, name).required(true).action(ArgAction::Set)
+}
+
+fn option<'a>(alloc: Global, name: &'a str) -> Arg<'a>
+    ensures rule { rule_of result ≡ option_rule name.entry.now }
+    ensures own { result.global ≡ false }
+{
+    Arg::new(alloc, name).long(name).action(ArgAction::Set)
 }

@@ -1,25 +1,29 @@
 //! Numbers of the command line.
 ghost use Rattle.std.specs.Prelude.{◌≡◌};
 ghost use Rattle.std.specs.List.{list_all};
-ghost use Rattle.command_line.specs.Words as spec;
+ghost use Rattle.command_line.specs.Options as spec;
 
-/// The number of a text of 1 to 12 digits, up to the last.
-pub fn number(text: &str, last: u64) -> Option<u64>
-    ensures { result ≡ spec.number_of last text.now }
+/// The number of a text of 1 to 12 digits, from the first to the last.
+pub fn number(text: &str, first: u64, last: u64) -> Option<u64>
+    ensures { result ≡ spec.number_of first last text.now }
 {
     if !is_number(text.as_bytes()) {
         return None;
     }
     match text.parse::<u64>() {
-        Ok(n) => up_to(last, n),
+        Ok(n) => within(first, last, n),
         Err(_) => None,
     }
 }
 
-fn up_to(last: u64, n: u64) -> Option<u64>
-    ensures { result ≡ spec.up_to last n }
+fn within(first: u64, last: u64, n: u64) -> Option<u64>
+    ensures { result ≡ spec.within first last n }
 {
-    if n <= last { Some(n) } else { None }
+    if first <= n && n <= last {
+        Some(n)
+    } else {
+        None
+    }
 }
 
 fn is_number(text: &[u8]) -> bool

@@ -1,36 +1,41 @@
-//! The options behind the other words.
-ghost use Rattle.std.specs.Prelude.{◌≡◌, map, string_bytes};
+//! The options behind the other words: names and values by turns.
+ghost use Rattle.std.specs.Prelude.{◌≡◌, ◌&&◌, is_some, map, not, option_map, string_bytes};
+ghost use Rattle.command_line.specs.Options as spec;
 ghost use Rattle.command_line.specs.Walk as walk;
-ghost use Rattle.command_line.specs.Words as spec;
 
 use crate::numbers::number;
+use crate::paths::is_path;
+
+/// The fewest lines of a batch.
+const FIRST_BATCH: u64 = 1;
+
+/// The most lines of a batch.
+const LAST_BATCH: u64 = 256;
+
+/// How many lines a batch has where no option says so.
+const DEFAULT_BATCH: u16 = 1;
+
+/// The first moment at which a clock may begin: 1970-01-01 00:00:00 UTC.
+const FIRST_START: u64 = 0;
 
 /// The last moment at which a clock may begin: 9999-12-31 23:59:59 UTC, in seconds since 1970.
-pub const LAST_START: u64 = 253_402_300_799;
+const LAST_START: u64 = 253_402_300_799;
 
 /// The moment at which a clock begins where no option says so: 2026-01-01 00:00:00 UTC.
-pub const DEFAULT_START: u64 = 1_767_225_600;
+const DEFAULT_START: u64 = 1_767_225_600;
 
-/// The options that were given.
-#[derive(Debug, Clone, Copy, PartialEq, Eq)]
-pub struct Options {
-    pub start: Option<u64>,
-}
-
-/// The options of these words, names and values by turns.
-pub fn read_options(words: &[String]) -> Option<Options>
-    ensures { result ≡ spec.options_of (map string_bytes words.now) }
+/// Whether the words are options of a run, each at most once.
+pub fn are_options(words: &[String]) -> bool
+    ensures { result ≡ is_some (spec.options_of (map string_bytes words.now)) }
 {
-    let mut options = Options { start: None };
     let mut rest = words;
     'pairs: loop {
         match rest {
-            [] => return Some(options),
-            [_] => return None,
+            [] => return true,
+            [_] => return false,
             [name, value, later @ ..] => {
-                match with_option(options, name, value) {
-                    Some(more) => options = more,
-                    None => return None,
+                if !is_new_option(name, value, later) {
+                    return false;
                 }
                 rest = later;
             }
@@ -38,23 +43,65 @@ pub fn read_options(words: &[String]) -> Option<Options>
     }
 }
 
-fn with_option(options: Options, name: &str, value: &str) -> Option<Options>
-    ensures { result ≡ walk.with_option options name.now value.now }
+fn is_new_option(name: &str, value: &str, later: &[String]) -> bool
+    ensures { result ≡ (spec.is_option (name.now, value.now)
+        && not (is_some (walk.value_in name.now (map string_bytes later.now)))) }
 {
-    if name != "--start" {
-        return None;
+    is_option(name, value) && value_named(later, name).is_none()
+}
+
+/// The value of the first option of a name.
+pub fn value_named<'a>(words: &'a [String], name: &str) -> Option<&'a str>
+    ensures { option_map (λ text. text.now) result
+        ≡ walk.value_in name.now (map string_bytes words.now) }
+{
+    let mut rest = words;
+    'pairs: loop {
+        match rest {
+            [] | [_] => return None,
+            [other, value, later @ ..] => {
+                if other.as_str() == name {
+                    return Some(value);
+                }
+                rest = later;
+            }
+        }
     }
-    match number(value, LAST_START) {
-        Some(start) => with_start(options, start),
+}
+
+fn is_option(name: &str, value: &str) -> bool
+    ensures { result ≡ spec.is_option (name.now, value.now) }
+{
+    (name == "--store" && is_path(value))
+        || (name == "--batch" && batch(value).is_some())
+        || (name == "--start" && start(value).is_some())
+}
+
+/// The lines of a batch that a value says.
+pub fn batch_of(value: Option<&str>) -> u16
+    ensures { result ≡ spec.batch_of (option_map (λ text. text.now) value.entry) }
+{
+    value.and_then(batch).unwrap_or(DEFAULT_BATCH)
+}
+
+/// The beginning of the clock that a value says.
+pub fn start_of(value: Option<&str>) -> u64
+    ensures { result ≡ spec.start_of (option_map (λ text. text.now) value.entry) }
+{
+    value.and_then(start).unwrap_or(DEFAULT_START)
+}
+
+fn batch(text: &str) -> Option<u16>
+    ensures { result ≡ spec.number_of spec.first_batch spec.last_batch text.now }
+{
+    match number(text, FIRST_BATCH, LAST_BATCH) {
+        Some(n) => Some(n as u16),
         None => None,
     }
 }
 
-fn with_start(options: Options, start: u64) -> Option<Options>
-    ensures { result ≡ walk.with_start options start }
+fn start(text: &str) -> Option<u64>
+    ensures { result ≡ spec.number_of spec.first_start spec.last_start text.now }
 {
-    match options.start {
-        Some(_) => None,
-        None => Some(Options { start: Some(start) }),
-    }
+    number(text, FIRST_START, LAST_START)
 }

@@ -1,22 +1,20 @@
-use Rattle.std.proofs.Common.{◌≡◌, ◌==◌, false, true, ap, map, string_bytes, ◌∙◌}
-use Rattle.std.specs.Prelude.{bytes_eq, codes}
-use Rattle.std.specs.Option.{option_map_or}
-use Rattle.command_line.specs.Program.{found_in, start_by}
-use Rattle.command_line.proofs.RunLemmas.{run_read}
+use Rattle.std.proofs.Common.{ap, map, string_bytes, ◌∙◌}
+use Rattle.command_line.specs.Plain.{plain_command}
+use Rattle.command_line.specs.Program.{is_found}
+use Rattle.command_line.proofs.ConfirmLemmas.{command_read}
 use Rattle.command_line.proofs.matches.reads.Goals as goal
-use Rattle.command_line.proofs.matches.reads.Goals.{then-has_list, else-has_list}
 
-pub returns-after-has_list-clause-same : goal.returns-after-has_list-clause-same
-returns-after-has_list-clause-same c =
-    let read = run_read (map string_bytes c.args.words.now) c.args.list.now c.args.start c.requires in
-    let list : c.has_list.result ≡ true =
-    c.has_list.ensures ∙ ap (λ met. option_map_or (bytes_eq c.args.list.now) (found_in (codes "list") met) false) c.in-Ok.ensures.found ∙ read.has_list in
-    elim c.if-has_list.branch [
-      | then-has_list w ↦
-          w.result-is ∙ w.has_start.ensures
-          ∙ ap (λ met. option_map_or (λ n. c.args.start == n) (start_by (found_in (codes "start") met)) false) c.in-Ok.ensures.found ∙ read.has_start
-      | else-has_list w ↦ w.result-is ∙ list
-    ]
+pub returns-in-Ok-clause-finds : goal.returns-in-Ok-clause-finds
+returns-in-Ok-clause-finds c = (command_read (map string_bytes c.args.words.now) (plain_command c.args.command) c.requires.value c.requires.list).finds
+
+pub returns-in-Ok-clause-same : goal.returns-in-Ok-clause-same
+returns-in-Ok-clause-same c =
+    c.is_found.ensures ∙ ap (is_found (plain_command c.args.command)) c.in-Ok.ensures.found
+    ∙ (command_read (map string_bytes c.args.words.now) (plain_command c.args.command) c.requires.value c.requires.list).finds
+
+pub returns-in-Err-clause-finds : goal.returns-in-Err-clause-finds
+returns-in-Err-clause-finds c = (command_read (map string_bytes c.args.words.now) (plain_command c.args.command) c.requires.value c.requires.list).finds
 
 pub returns-in-Err-clause-refused : goal.returns-in-Err-clause-refused
-returns-in-Err-clause-refused c = c.in-Err.ensures.refused (run_read (map string_bytes c.args.words.now) c.args.list.now c.args.start c.requires).taken
+returns-in-Err-clause-refused c =
+    c.in-Err.ensures.refused (command_read (map string_bytes c.args.words.now) (plain_command c.args.command) c.requires.value c.requires.list).takes_them

@@ -1,0 +1,76 @@
+-- The forms of words that are a command, and what is so of each.
+use Rattle.std.proofs.Common.{◌≡◌, ℕ, ◌≤◌, Bool, true, false, cond, ◌&&◌, List, [], ◌∷◌, Option, Some, None, IfSome, option_and_then, option_map, unwrap_or, refl, subst, sym}
+use Rattle.std.specs.Prelude.{bytes_eq, codes}
+use Rattle.std.proofs.lemmas.Bool.{and_parts, leb-true}
+use Rattle.std.proofs.lemmas.Slice.Eq.{bytes_eq-Decides}
+use Rattle.clap.specs.Words.{Text}
+use Rattle.command_line.specs.Options.{Pair, default_batch, default_start, first_batch, first_start, is_path, last_batch, last_start, number_of, options_of, value_named}
+use Rattle.command_line.specs.Words.{Dump, Help, IsInRange, PlainCommand, command_of, dump_of, replay_of, run_of}
+use Rattle.command_line.proofs.NumberLemmas.{number_in_range}
+
+-- what is so of the usage line, of each run and of each dump is so of each command
+pub record IsSoOfAll (So : List Text → PlainCommand → Type 0) : Type 0 where
+  pub help : So (codes "--help" ∷ []) Help
+  pub run : (list : Text) (words : List Text) (options : List Pair) → is_path list ≡ true → options_of words ≡ Some options → So (codes "replay" ∷ list ∷ words) (run_of list options)
+  pub dump : (list store : Text) → is_path list ≡ true → is_path store ≡ true → So (codes "dump" ∷ list ∷ store ∷ []) (Dump list store)
+
+module _ (So : List Text → PlainCommand → Type 0) (all : IsSoOfAll So) where
+  replay_is : (list : Text) (words : List Text) → IfSome (replay_of list words) (So (codes "replay" ∷ list ∷ words))
+  replay_is list words = at (is_path list) (options_of words) refl refl
+    where
+      at : (path : Bool) (options : Option (List Pair)) → is_path list ≡ path → options_of words ≡ options
+          → IfSome (cond path (option_map (run_of list) options) None) (So (codes "replay" ∷ list ∷ words))
+      at true (Some options) path are = all.run list words options path are
+      at true None path are = tt
+      at false options path are = tt
+
+  dump_is : (list : Text) (words : List Text) → IfSome (dump_of list words) (So (codes "dump" ∷ list ∷ words))
+  dump_is list [] = tt
+  dump_is list (store ∷ []) = at (is_path list && is_path store) refl
+    where
+      at : (paths : Bool) → (is_path list && is_path store) ≡ paths → IfSome (cond paths (Some (Dump list store)) None) (So (codes "dump" ∷ list ∷ store ∷ []))
+      at true paths =
+          let parts = and_parts (is_path list) (is_path store) paths in
+          all.dump list store parts.0 parts.1
+      at false paths = tt
+  dump_is list (store ∷ more ∷ words) = tt
+
+  pub command_is : (words : List Text) → IfSome (command_of words) (So words)
+  command_is [] = tt
+  command_is (word ∷ []) = at (bytes_eq word (codes "--help")) refl
+    where
+      at : (b : Bool) → bytes_eq word (codes "--help") ≡ b → IfSome (cond b (Some Help) None) (So (word ∷ []))
+      at true same = subst (λ w. So (w ∷ []) Help) (sym ((bytes_eq-Decides word (codes "--help")).0 same)) all.help
+      at false same = tt
+  command_is (word ∷ list ∷ words) = at (bytes_eq word (codes "replay")) (bytes_eq word (codes "dump")) refl refl
+    where
+      at : (replay dump : Bool) → bytes_eq word (codes "replay") ≡ replay → bytes_eq word (codes "dump") ≡ dump
+          → IfSome (cond replay (replay_of list words) (cond dump (dump_of list words) None)) (So (word ∷ list ∷ words))
+      at true dump same other = subst (λ w. IfSome (replay_of list words) (So (w ∷ list ∷ words))) (sym ((bytes_eq-Decides word (codes "replay")).0 same)) (replay_is list words)
+      at false true other same = subst (λ w. IfSome (dump_of list words) (So (w ∷ list ∷ words))) (sym ((bytes_eq-Decides word (codes "dump")).0 same)) (dump_is list words)
+      at false false other none = tt
+
+-- ---- the ranges of a run
+
+-- a number that a value says, or the usual one, is in its range
+value_in_range : (first last usual : ℕ) (value : Option Text) → first ≤ usual → usual ≤ last
+    → (first ≤ unwrap_or (option_and_then (number_of first last) value) usual) × (unwrap_or (option_and_then (number_of first last) value) usual ≤ last)
+value_in_range first last usual None low high = (low, high)
+value_in_range first last usual (Some text) low high = at (number_of first last text) (number_in_range first last text)
+  where
+    at : (n : Option ℕ) → IfSome n (λ n. (first ≤ n) × (n ≤ last)) → (first ≤ unwrap_or n usual) × (unwrap_or n usual ≤ last)
+    at None is = (low, high)
+    at (Some n) is = is
+
+run_in_range : (list : Text) (options : List Pair) → IsInRange (run_of list options)
+run_in_range list options =
+    let batch = value_in_range first_batch last_batch default_batch (value_named (codes "--batch") options) (leb-true first_batch default_batch refl) (leb-true default_batch last_batch refl) in
+    let start = value_in_range first_start last_start default_start (value_named (codes "--start") options) (leb-true first_start default_start refl) (leb-true default_start last_start refl) in
+    (batch.0, batch.1, start.1)
+
+pub command_in_range : (words : List Text) → IfSome (command_of words) IsInRange
+command_in_range words = command_is (λ words command. IsInRange command) (record {
+  help = tt;
+  run = λ list words options path are. run_in_range list options;
+  dump = λ list store path other. tt;
+}) words

@@ -1,0 +1,61 @@
+-- `clap` takes the words of a run and of a dump, and finds that command.
+use Rattle.std.proofs.Common.{◌≡◌, ◌==◌, ◌&&◌, true, List, [], ◌∷◌, Option, Some, None, IfSome, codes, map, refl, ap, ap₂, subst, ◌∙◌}
+use Rattle.std.specs.Prelude.{bytes_eq}
+use Rattle.std.specs.Option.{option_eq}
+use Rattle.std.proofs.lemmas.Bool.{eq-eqb}
+use Rattle.std.proofs.lemmas.Slice.Eq.{bytes_eq-Decides}
+use Rattle.clap.specs.Words.{Row, Text, subcommand_of, takes}
+use Rattle.command_line.specs.Options.{Pair, batch_of, is_path, options_of, start_of, value_named}
+use Rattle.command_line.specs.Program.{is_found, program_app}
+use Rattle.command_line.specs.Words.{Dump, PlainCommand, ReadsList, command_of, run_of}
+use Rattle.command_line.proofs.ClapLemmas.{IsTaken, value_row}
+use Rattle.command_line.proofs.CommandLemmas.{command_is}
+use Rattle.command_line.proofs.DumpLemmas.{dump_taken}
+use Rattle.command_line.proofs.OptionLemmas.{batch_option, path_plain, start_option, store_option}
+use Rattle.command_line.proofs.RunLemmas.{option_found, option_row, run_taken}
+
+-- the words are taken, and what is found is this command
+pub record IsConfirmed (words : List Text) (command : PlainCommand) : Type 0 where
+  pub takes_them : takes program_app words ≡ true
+  pub finds : is_found command (subcommand_of program_app words) ≡ true
+
+same_text : (text : Option Text) → option_eq bytes_eq text text ≡ true
+same_text None = refl
+same_text (Some text) = (bytes_eq-Decides text text).1 refl
+
+-- what is found where the options are these
+run_is_found : (list : Text) (words : List Text) (options : List Pair) → options_of words ≡ Some options
+    → is_found (run_of list options) (Some (codes "replay", value_row (codes "list") list ∷ map option_row options)) ≡ true
+run_is_found list words options are =
+    let store = option_found list (codes "--store") (codes "store") words options store_option are in
+    let batch = option_found list (codes "--batch") (codes "batch") words options batch_option are in
+    let start = option_found list (codes "--start") (codes "start") words options start_option are in
+    ap₂ (λ x y. x && y) (same_text (Some list))
+    (ap₂ (λ x y. x && y) (ap (λ v. option_eq bytes_eq v (value_named (codes "--store") options)) store ∙ same_text (value_named (codes "--store") options))
+    (ap₂ (λ x y. x && y) (ap (λ v. batch_of v == batch_of (value_named (codes "--batch") options)) batch ∙ eq-eqb (batch_of (value_named (codes "--batch") options)) _ refl)
+    (ap (λ v. start_of v == start_of (value_named (codes "--start") options)) start ∙ eq-eqb (start_of (value_named (codes "--start") options)) _ refl)))
+
+confirmed : (name : Text) (words : List Text) (found : Text × List Row) (command : PlainCommand) → IsTaken name words found → is_found command (Some found) ≡ true → IsConfirmed (name ∷ words) command
+confirmed name words found command is same = record { takes_them = is.takes_them; finds = ap (is_found command) is.finds ∙ same }
+
+run_confirmed : (list : Text) (words : List Text) (options : List Pair) → is_path list ≡ true → options_of words ≡ Some options → IsConfirmed (codes "replay" ∷ list ∷ words) (run_of list options)
+run_confirmed list words options path are =
+    confirmed (codes "replay") (list ∷ words) (codes "replay", value_row (codes "list") list ∷ map option_row options) (run_of list options)
+    (run_taken list words options (path_plain list path) are) (run_is_found list words options are)
+
+dump_confirmed : (list store : Text) → is_path list ≡ true → is_path store ≡ true → IsConfirmed (codes "dump" ∷ list ∷ store ∷ []) (Dump list store)
+dump_confirmed list store path other =
+    confirmed (codes "dump") (list ∷ store ∷ []) (codes "dump", value_row (codes "list") list ∷ value_row (codes "store") store ∷ []) (Dump list store)
+    (dump_taken list store (path_plain list path) (path_plain store other))
+    (ap₂ (λ x y. x && y) (same_text (Some list)) (same_text (Some store)))
+
+command_confirmed : (words : List Text) → IfSome (command_of words) (λ command. ReadsList command → IsConfirmed words command)
+command_confirmed words = command_is (λ words command. ReadsList command → IsConfirmed words command) (record {
+  help = λ reads. absurd reads;
+  run = λ list words options path are reads. run_confirmed list words options path are;
+  dump = λ list store path other reads. dump_confirmed list store path other;
+}) words
+
+pub command_read : (words : List Text) (command : PlainCommand) → command_of words ≡ Some command → ReadsList command → IsConfirmed words command
+command_read words command is =
+    subst (λ (found : Option PlainCommand). IfSome found (λ command. ReadsList command → IsConfirmed words command)) is (command_confirmed words)

@@ -5,20 +5,21 @@ use Rattle.unwinding.specs.Epochs.{acknowledged_replies}
 use Rattle.unwinding.specs.World.{replies}
 use Rattle.unwinding.proofs.Fronts.{length_replies}
 use Rattle.suffix_list.specs.Suffix.{Rule}
-use Rattle.script_lines.specs.Script.{PlainAction}
+use Rattle.script_actions.specs.Action.{PlainAction}
 use Rattle.agent_model.specs.Isolation.{lines_alone, replies_to, text_of, transcript}
 use Rattle.agent_model.specs.TheMachine.{machine}
 use Rattle.durable_model.specs.Histories.{HasIsolatedHistories, history_replies, history_run, reopened_world}
 use Rattle.durable_model.specs.Saved.{nothing_saved}
-use Rattle.durable_model.proofs.NothingLemmas.{nothing_opens, nothing_valid}
-use Rattle.printed_model.specs.Histories.{PlainStep, HasOneText, HasSameLines, HasSiteLines, IsHistoryOf, begins_at, down_reply, history_text, restart_reply}
+use Rattle.durable_model.proofs.NothingLemmas.{nothing_opens}
+use Rattle.script_actions.specs.Action.{PlainStep}
+use Rattle.printed_model.specs.Histories.{HasOneText, HasSameLines, HasSiteLines, IsHistoryOf, begins_at, down_reply, history_text, restart_reply}
 
 pub site_lines : HasIsolatedHistories → HasSiteLines
-site_lines law rules start history site = law rules restart_reply down_reply (λ kept. refl) (λ step. refl) site start nothing_saved nothing_valid history
+site_lines law rules start saved valid history site = law rules restart_reply down_reply (λ kept. refl) (λ step. refl) site start saved valid history
 
 pub same_lines : HasSiteLines → HasSameLines
-same_lines law rules other_rules start other_start history other site same =
-    law rules start history site ∙ ap (λ given. lines_alone site (history_run site given)) same ∙ sym (law other_rules other_start other site)
+same_lines law rules other_rules start other_start saved other_saved valid other_valid history other site same =
+    law rules start saved valid history site ∙ ap (λ given. lines_alone site (history_run site given)) same ∙ sym (law other_rules other_start other_saved other_valid other site)
 
 -- ---- no line reopens
 

@@ -2,31 +2,23 @@
 -- Source: none; these are the words of the promise.
 -- Our own choice: the reply to a line that met a device fault is `down`, and the reply to a restart
 -- tells how many durable changes it found. Both are of no site.
-use Rattle.std.specs.Prelude.{◌≡◌, ℕ, true, List, [], ◌∷◌, ◌++◌, map, None, codes}
-use Rattle.unwinding.specs.Admissible.{Step, Acts, Reopens, History, IsAdmissible, Stretch}
+use Rattle.std.specs.Prelude.{◌≡◌, ◌≢◌, ◌⊎◌, ℕ, true, false, List, [], ◌++◌, ◌∷◌, map, None}
+use Rattle.std.specs.Prelude.{codes}
+use Rattle.unwinding.specs.Admissible.{Acts, Reopens, History, IsAdmissible, Stretch}
 use Rattle.unwinding.specs.Admissible.{history_steps}
 use Rattle.suffix_list.specs.Suffix.{Rule}
 use Rattle.origin_site.specs.Site.{PlainSite}
-use Rattle.script_lines.specs.Script.{PlainAction}
+use Rattle.script_actions.specs.Action.{PlainAction, PlainStep}
 use Rattle.reply_lines.specs.Reply.{Kept, Plain}
-use Rattle.agent_model.specs.ActionNames.{action_name}
+use Rattle.script_actions.specs.ActionNames.{step_name}
 use Rattle.agent_model.specs.Isolation.{lines_alone, lines_of_site, text_of, transcript}
 use Rattle.agent_model.specs.TheMachine.{machine}
 use Rattle.durable_model.specs.Histories.{AgentOpening, AgentReply, history_replies, history_run}
 use Rattle.durable_model.specs.Histories.{history_script, opened_at}
 use Rattle.durable_model.specs.Keeping.{keeping}
-use Rattle.durable_model.specs.Saved.{nothing_saved}
+use Rattle.durable_model.specs.Saved.{IsValid, Saved, nothing_saved}
 
 -- ---- what is printed
-
--- a line that acts, or opens the store again
-abbrev pub PlainStep : Type 0
-PlainStep = Step PlainAction
-
--- the name of a line
-abbrev pub step_name : PlainStep → List ℕ
-step_name (Acts action) = action_name action
-step_name Reopens = codes "restart"
 
 -- the reply to a restart that found so many durable changes
 abbrev pub restart_reply : ℕ → AgentReply
@@ -60,6 +52,11 @@ history_downs history = closed_downs history.closed ++ history.open_end.downs
 abbrev pub EndsUp : History PlainAction → Type 0
 EndsUp history = (history.open_end.downs ≡ []) × (history.committed ≡ true)
 
+-- at the end the agent was down: a line of the last epoch was answered `down`, or what waited was
+-- not committed
+abbrev pub EndsDown : History PlainAction → Type 0
+EndsDown history = (history.open_end.downs ≢ []) ⊎ (history.committed ≡ false)
+
 -- ---- the history of a run
 
 -- A history of exactly these lines, in batches of so many, that a run from this opening may have.
@@ -77,19 +74,20 @@ begins_at start = opened_at start nothing_saved
 -- ---- the promise
 
 -- the printed lines of each site are those of its own machine, which is given the site's local
--- script alone, wherever the clock begins and whatever the run's history is
+-- script alone, wherever the clock begins, whatever the store had and the run's history is
 abbrev pub HasSiteLines : Type 0
-HasSiteLines = (rules : List Rule) (start : ℕ) (history : History PlainAction) (site : PlainSite)
-    → let opening = begins_at start in
+HasSiteLines = (rules : List Rule) (start : ℕ) (saved : Saved) → IsValid saved
+    → (history : History PlainAction) (site : PlainSite)
+    → let opening = opened_at start saved in
     lines_of_site site (printed_replies rules opening history)
     ≡ lines_alone site (history_run site (history_script rules site opening history))
 
 -- two runs that give a site the same local script print the same lines of that site
 abbrev pub HasSameLines : Type 0
-HasSameLines = (rules other_rules : List Rule) (start other_start : ℕ)
-    (history other : History PlainAction) (site : PlainSite)
-    → let opening = begins_at start in
-    let other_opening = begins_at other_start in
+HasSameLines = (rules other_rules : List Rule) (start other_start : ℕ) (saved other_saved : Saved)
+    → IsValid saved → IsValid other_saved → (history other : History PlainAction) (site : PlainSite)
+    → let opening = opened_at start saved in
+    let other_opening = opened_at other_start other_saved in
     history_script rules site opening history
     ≡ history_script other_rules site other_opening other
     → lines_of_site site (printed_replies rules opening history)

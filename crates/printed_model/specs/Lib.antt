@@ -1,2 +1,3 @@
 -- What contracts cite.
 pub mod Histories
+pub mod Left

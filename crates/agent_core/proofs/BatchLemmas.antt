@@ -10,7 +10,7 @@ use Rattle.unwinding.specs.World.{after_sides, outcome}
 use Rattle.unwinding.specs.Durable.{durable_change, line_changes, main_changes}
 use Rattle.suffix_list.specs.Suffix.{Rule}
 use Rattle.origin_site.specs.Site.{PlainSite}
-use Rattle.script_lines.specs.Script.{PlainAction}
+use Rattle.script_actions.specs.Action.{PlainAction}
 use Rattle.row_changes.specs.Appended.{HasTexts}
 use Rattle.row_changes.specs.Body.{changes_bytes, rows_bytes}
 use Rattle.row_changes.specs.Change.{PlainChange}

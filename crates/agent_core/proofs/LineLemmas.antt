@@ -11,7 +11,7 @@ use Rattle.open_store.specs.Commits.{HasRoomFor}
 use Rattle.open_store.specs.Standing.{IsReady, IsRoomier}
 use Rattle.suffix_list.specs.ListText.{RuleList}
 use Rattle.suffix_list.specs.Suffix.{Rule}
-use Rattle.script_lines.specs.Script.{PlainAction}
+use Rattle.script_actions.specs.Action.{PlainAction}
 use Rattle.reply_lines.specs.Reply.{PlainReply}
 use Rattle.agent_model.specs.Isolation.{printed}
 use Rattle.agent_model.specs.Rest.{last_moment}

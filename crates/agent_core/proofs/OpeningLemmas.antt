@@ -1,9 +1,12 @@
 -- What the opening of a journal gives to an agent.
 use Rattle.std.proofs.Common.{◌≡◌, ⊎_elim, ℕ, ◌<◌, true, false, List, length, Some, sym, subst}
+use Rattle.std.specs.Prelude.{Result, Ok, Err, IsErrOf}
 use Rattle.std.proofs.lemmas.Bool.{cases_lt}
 use Rattle.disk_model.specs.Disk.{IsSettled, View}
 use Rattle.journal.specs.Journal.{JournalView, Stands}
-use Rattle.journal.specs.Opening.{FileMeans, IsWithin, limit}
+use Rattle.journal.specs.Opening.{FileMeans, HasNoFault, IsWithin, Opens, limit}
+use Rattle.journal.specs.declared.open_fault.OpenFault.{OpenFault}
+use Rattle.journal.specs.declared.open_fault.OpenFault.TheVariants as fault
 use Rattle.journal.specs.Region.{Runs}
 use Rattle.journal.specs.Store.{Frame}
 use Rattle.suffix_list.specs.ListText.{RuleList}
@@ -75,3 +78,25 @@ module _ (by rules : List Rule) (under digest : List ℕ) (same : by ≡ rules)
   found_under view had parts last is found =
       subst (λ (p : Parts). IsFound rules digest view (saved_of p) last) (sym is)
       (both (λ r t. IsFound r t view (saved_of had) last) by rules under digest same like found)
+
+-- an opening that answers no device fault had no call that failed
+pub never_failed : {T : Type 0} (result : Result T OpenFault) (v w : View) → Opens result v w
+    → (IsErrOf result fault.DeviceFault → ⊥) → HasNoFault v w
+never_failed result v w opens other = ⊎_elim
+    (λ (fails : IsErrOf result fault.DeviceFault). absurd (other fails))
+    (λ (none : HasNoFault v w). none) opens.only
+
+pub opened_well : {T : Type 0} (result : Result T OpenFault) (value : T) (v w : View)
+    → result ≡ Ok value → Opens result v w → HasNoFault v w
+opened_well result value v w is opens = never_failed result v w opens apart
+  where
+    apart : result ≡ Err fault.DeviceFault → ⊥
+    apart fails = cc
+
+pub refused_well : {T : Type 0} (result : Result T OpenFault) (why : OpenFault) (v w : View)
+    → result ≡ Err why → Opens result v w → (why ≡ fault.DeviceFault → ⊥) → HasNoFault v w
+refused_well result why v w is opens other =
+    never_failed result v w opens (λ fails. other (same fails))
+  where
+    same : result ≡ Err fault.DeviceFault → why ≡ fault.DeviceFault
+    same fails = cc

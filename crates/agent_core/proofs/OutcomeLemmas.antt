@@ -8,7 +8,7 @@ use Rattle.journal.specs.Journal.{JournalView}
 use Rattle.journal.specs.Opening.{HasNoFault}
 use Rattle.journal.specs.Region.{StandsFor}
 use Rattle.suffix_list.specs.Suffix.{Rule}
-use Rattle.script_lines.specs.Script.{PlainAction}
+use Rattle.script_actions.specs.Action.{PlainAction}
 use Rattle.reply_lines.specs.declared.reply.Reply.{Reply}
 use Rattle.agent_model.specs.Lines.{AgentWorld}
 use Rattle.durable_model.specs.Keeping.{AgentDurable}

@@ -1,9 +1,9 @@
 -- The address that a line of a script names is read, since every `Address` is.
 use Rattle.origin_site.specs.Plain.{plain_address}
 use Rattle.origin_site.specs.declared.address.Address.{Address}
-use Rattle.script_lines.specs.Plain.{action_of}
-use Rattle.script_lines.specs.declared.action.Action.{Action}
-use Rattle.script_lines.specs.declared.action.Action.TheVariants as action
+use Rattle.script_actions.specs.Plain.{action_of}
+use Rattle.script_actions.specs.declared.action.Action.{Action}
+use Rattle.script_actions.specs.declared.action.Action.TheVariants as action
 use Rattle.spelled_model.specs.Addresses.{IsReadAction, IsReadAddress}
 
 read_address : (a : Address) → IsReadAddress (plain_address a)

@@ -7,7 +7,7 @@ use Rattle.reply_lines.specs.Reply.{PlainReply}
 use Rattle.unwinding.specs.Durable.{line_changes}
 use Rattle.unwinding.specs.World.{line_reply, world_step}
 use Rattle.suffix_list.specs.Suffix.{Rule}
-use Rattle.script_lines.specs.Script.{PlainAction}
+use Rattle.script_actions.specs.Action.{PlainAction}
 use Rattle.agent_model.specs.Isolation.{printed}
 use Rattle.agent_model.specs.Lines.{AgentWorld}
 use Rattle.agent_model.specs.TheMachine.{machine}

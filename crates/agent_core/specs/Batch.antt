@@ -3,7 +3,7 @@
 use Rattle.std.specs.Prelude.{◌≡◌, ℕ, ◌+◌, List, [], ◌∷◌, ◌++◌, length}
 use Rattle.unwinding.specs.Durable.{line_changes}
 use Rattle.unwinding.specs.World.{line_reply, world_step}
-use Rattle.script_lines.specs.Script.{PlainAction}
+use Rattle.script_actions.specs.Action.{PlainAction}
 use Rattle.reply_lines.specs.Reply.{PlainReply}
 use Rattle.agent_model.specs.Isolation.{printed}
 use Rattle.agent_model.specs.TheMachine.{machine}

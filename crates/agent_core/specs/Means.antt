@@ -13,7 +13,7 @@ use Rattle.journal.specs.Region.{StandsFor}
 use Rattle.journal.specs.declared.open_fault.OpenFault.{OpenFault}
 use Rattle.journal.specs.declared.open_fault.OpenFault.TheVariants as fault
 use Rattle.suffix_list.specs.Suffix.{Rule}
-use Rattle.script_lines.specs.Script.{PlainAction}
+use Rattle.script_actions.specs.Action.{PlainAction}
 use Rattle.reply_lines.specs.Plain.{reply_of}
 use Rattle.agent_model.specs.Isolation.{printed}
 use Rattle.agent_model.specs.TheMachine.{machine}

@@ -4,15 +4,16 @@ ghost use Rattle.std.specs.Prelude.{IsErrOf, MatchResult, OnErr, OnOk, length, t
 ghost use Rattle.unwinding.specs.Course.{AtBase};
 ghost use Rattle.unwinding.specs.CourseSteps.{reopened};
 ghost use Rattle.agent_base.specs.Counts.{Rose};
-ghost use Rattle.disk_model.specs.Disk.{HasFailed, IsPowered, IsSettled, LeavesOnly, View};
-ghost use Rattle.journal.specs.Opening.{FileMeans, IsExcused, IsOfFile, IsOpening, IsRefusal};
+ghost use Rattle.disk_model.specs.Disk.{HasFailed, IsPowered, IsSettled, LeavesOnly, Makes, View};
+ghost use Rattle.journal.specs.Opening.{FileMeans, HasNoFault, IsExcused, IsOfFile, IsOpening};
+ghost use Rattle.journal.specs.Opening.{IsRefusal, opening_calls};
 ghost use Rattle.journal.specs.declared.open_fault.OpenFault.{OpenFault};
-ghost use Rattle.script_lines.specs.Plain.{action_of};
+ghost use Rattle.script_actions.specs.Plain.{action_of};
 ghost use Rattle.agent_model.specs.Lines.{Rest, no_places};
 ghost use Rattle.agent_model.specs.Rest.{last_moment};
 ghost use Rattle.agent_model.specs.TheMachine.{machine};
 ghost use Rattle.durable_model.specs.Keeping.{durable_of, keeping};
-ghost use Rattle.durable_model.specs.Saved.{Saved, nothing_saved};
+ghost use Rattle.durable_model.specs.Saved.{IsValid, Saved, nothing_saved};
 ghost use Rattle.row_store.specs.Bodies.{Refuses, Takes};
 ghost use Rattle.suffix_list.specs.ListText.{RuleList};
 ghost use Rattle.row_store.specs.Stored.{HasNoSession, saved_of};
@@ -35,7 +36,7 @@ use durable_model::durable_states;
 use journal::{DeviceFault, OpenFault};
 use open_store::Store;
 use row_store::{Parts, Rows, written};
-use script_lines::Action;
+use script_actions::Action;
 use spelled_model::spelled_lines;
 use std::alloc::Global;
 use std::marker::Model;
@@ -174,7 +175,7 @@ impl<'l, D: Disk + Drop> Agent<'l, D> {
         requires batch { (1 ≤ options.batch) × (options.batch ≤ 256) }
 
         // It stands for the world that a restart opens with what the store stands for.
-        ensures seen { IfOk result (λ a. (base : Saved)
+        ensures seen { IfOk result (λ a. (base : Saved) × IsValid base
             × (let at : Rest = record { now = options.start; places = no_places } in
             let s = reopened (machine list.now.rules) keeping at (durable_of base) in
             IsSeen a (D.view a.disk) s × AtBase s.base (may_of a (D.view a.disk))
@@ -200,6 +201,13 @@ impl<'l, D: Disk + Drop> Agent<'l, D> {
         ensures device { IfErr result (λ r. r.why ≡ OpenFault.DeviceFault
             → Rose (D.view disk).faults (D.view r.disk).faults
             × HasFailed (D.view disk) (D.view r.disk)) }
+        ensures others { MatchResult result (λ a. HasNoFault (D.view disk) (D.view a.disk))
+            (λ r. (r.why ≡ OpenFault.DeviceFault → ⊥)
+            → HasNoFault (D.view disk) (D.view r.disk)) }
+        ensures calls { (c : List ℕ) → (D.view disk).contents ≡ Some c
+            → MatchResult result
+            (λ a. Makes (opening_calls c) result (D.view disk) (D.view a.disk))
+            (λ r. Makes (opening_calls c) result (D.view disk) (D.view r.disk)) }
 
         // A cut at any moment leaves the file as it was, or of an unborn file an unborn one or a
         // store without frames.

@@ -43,8 +43,10 @@ impl OpenBatch {
     pub fn new(alloc: Global, size: u16) -> OpenBatch
         ensures size { result.size ≡ size }
         ensures body { result.body ≡ [] }
+        ensures limit { result.limit ≡ 0 }
         ensures changes { result.changes ≡ 0 }
         ensures held { result.held ≡ [] }
+        ensures spare { result.spare ≡ 0 }
     {
         OpenBatch {
             size,
@@ -100,6 +102,7 @@ impl OpenBatch {
         ensures body { self.new.body ≡ self.old.body }
         ensures limit { self.new.limit ≡ self.old.limit }
         ensures size { self.new.size ≡ self.old.size }
+        ensures spare { self.new.spare + 1 ≡ self.old.spare }
     {
         self.held.push_reserved(reply);
         if has_change {
@@ -113,6 +116,8 @@ impl OpenBatch {
         ensures body { self.new.body ≡ [] }
         ensures changes { self.new.changes ≡ 0 }
         ensures size { self.new.size ≡ self.old.size }
+        ensures limit { self.new.limit ≡ self.old.limit }
+        ensures spare { self.new.spare ≡ self.old.spare + length self.old.held }
     {
         self.held.clear();
         self.body.clear();
@@ -126,6 +131,8 @@ impl OpenBatch {
         ensures body { self.new.body ≡ [] }
         ensures changes { self.new.changes ≡ 0 }
         ensures size { self.new.size ≡ self.old.size }
+        ensures limit { self.new.limit ≡ self.old.limit }
+        ensures spare { self.new.spare ≡ 0 }
     {
         let none = Vec::new(*self.held.allocator());
         self.body.clear();

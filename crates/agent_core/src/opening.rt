@@ -1,9 +1,9 @@
 //! Opens the store on a disk, and reads what is durable.
 ghost use Rattle.std.specs.Prelude.{◌≡◌, ◌⊎◌, ℕ, IfErr, IfOk, IsErrOf, List, MatchResult, Some};
 ghost use Rattle.std.specs.Prelude.{true};
-ghost use Rattle.disk_model.specs.Disk.{IsSettled, LeavesOnly};
+ghost use Rattle.disk_model.specs.Disk.{IsSettled, LeavesOnly, Makes};
 ghost use Rattle.journal.specs.Opening.{FileMeans, IsExcused, IsOfFile, IsOpening, IsRefusal};
-ghost use Rattle.journal.specs.Opening.{IsWithin, Opens};
+ghost use Rattle.journal.specs.Opening.{IsWithin, Opens, opening_calls};
 ghost use Rattle.journal.specs.declared.open_fault.OpenFault.{OpenFault};
 ghost use Rattle.open_store.specs.Reopens.{Reopens};
 ghost use Rattle.durable_model.specs.Saved.{Saved, nothing_saved};
@@ -46,6 +46,8 @@ pub fn open<D: Disk>(alloc: Global, disk: &mut D, list: &SuffixList) -> Result<O
     ensures unchanged { (why : OpenFault) → IsErrOf result why → IsOfFile why
         → (D.view disk.new).contents ≡ (D.view disk.old).contents }
     ensures device { Opens result (D.view disk.old) (D.view disk.new) }
+    ensures calls { (c : List ℕ) → (D.view disk.old).contents ≡ Some c
+        → Makes (opening_calls c) result (D.view disk.old) (D.view disk.new) }
     ensures any_moment { IsSettled (D.view disk.old) → (c : List ℕ)
         → (D.view disk.old).contents ≡ Some c
         → LeavesOnly (D.view disk.old) (D.view disk.new) (IsOpening list.now.digest c) }

@@ -1,6 +1,6 @@
 //! A line runs in memory, and waits in the open batch.
 ghost use Rattle.std.specs.Prelude.{◌≡◌, ◌≤◌, ◌<◌, length, OnErr, OnOk};
-ghost use Rattle.script_lines.specs.Plain.{action_of};
+ghost use Rattle.script_actions.specs.Plain.{action_of};
 ghost use Rattle.agent_core.specs.Batch.{HasNotRun, HasRun};
 ghost use Rattle.open_store.specs.Commits.{HasRoomFor};
 ghost use Rattle.open_store.specs.Standing.{IsRoomier};
@@ -10,7 +10,7 @@ use agent_base::NoMemory;
 use agent_memory::Memory;
 use disk_model::Disk;
 use open_store::Store;
-use script_lines::Action;
+use script_actions::Action;
 
 // The least limit of a body that is not empty.
 const LEAST: usize = 4096;

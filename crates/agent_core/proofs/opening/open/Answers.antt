@@ -39,3 +39,13 @@ returns-in-Err-clause-means g c file d n is within means =
     c.in-Err.ensures.means file d n is within
     (means_under c.new-rows.result.rules c.args.list.now.rules c.digest.result
     c.args.list.now.digest c.new-rows.ensures.rules c.digest.ensures.value file d n means)
+
+pub returns-in-Ok-clause-calls : goal.returns-in-Ok-clause-calls
+returns-in-Ok-clause-calls g c file is =
+    let makes = c.in-Ok.ensures.calls file is in
+    record { later = makes.later; most = makes.most; all = makes.all }
+
+pub returns-in-Err-clause-calls : goal.returns-in-Err-clause-calls
+returns-in-Err-clause-calls g c file is =
+    let makes = c.in-Err.ensures.calls file is in
+    record { later = makes.later; most = makes.most; all = tt }

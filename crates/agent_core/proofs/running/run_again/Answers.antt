@@ -1,6 +1,6 @@
 -- A line that runs at the second try.
 use Rattle.std.proofs.lemmas.Result.{on_err_weaker, on_ok_weaker}
-use Rattle.script_lines.specs.Plain.{action_of}
+use Rattle.script_actions.specs.Plain.{action_of}
 use Rattle.agent_core.proofs.RoomLemmas.{room_less}
 use Rattle.agent_core.proofs.RunLemmas.{at_err, not_run_then, run_after, unchanged_run}
 use Rattle.agent_core.proofs.running.run_again.Goals as goal

@@ -1,6 +1,6 @@
 -- A line runs at the first try, or once more room was made.
 use Rattle.std.proofs.lemmas.Result.{on_err_weaker, on_ok_weaker}
-use Rattle.script_lines.specs.Plain.{action_of}
+use Rattle.script_actions.specs.Plain.{action_of}
 use Rattle.agent_core.proofs.RoomLemmas.{room_less, roomier_then}
 use Rattle.agent_core.proofs.RunLemmas.{at_err, not_run_then, run_after, unchanged_run}
 use Rattle.agent_core.proofs.running.run_line.Goals as goal

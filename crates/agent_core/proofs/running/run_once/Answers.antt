@@ -1,6 +1,6 @@
 -- A line runs, and its reply and its durable change wait in the batch.
 use Rattle.std.proofs.Common.{ap, arith, length, refl}
-use Rattle.script_lines.specs.Plain.{action_of}
+use Rattle.script_actions.specs.Plain.{action_of}
 use Rattle.agent_core.specs.Batch.{PlainBatch}
 use Rattle.agent_core.proofs.RunLemmas.{at_err, ran_not, ran_once}
 use Rattle.agent_core.proofs.running.run_once.Goals as goal

@@ -1,7 +1,7 @@
 -- A line runs and waits, or it is the last of its batch, which is committed; or it changes nothing.
 use Rattle.std.proofs.Common.{ap, ◌∙◌}
 use Rattle.journal.specs.Journal.{JournalView}
-use Rattle.script_lines.specs.Plain.{action_of}
+use Rattle.script_actions.specs.Plain.{action_of}
 use Rattle.agent_core.proofs.LineLemmas.{held_down, line_ends, line_held, line_leaves, memory_down, not_full, power_is, still_standing, up_moments, wanting}
 use Rattle.agent_core.proofs.OutcomeLemmas.{device_before, device_none}
 use Rattle.agent_core.proofs.ReadLemmas.{action_read}

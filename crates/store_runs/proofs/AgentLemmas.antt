@@ -1,7 +1,7 @@
 -- What each answer of an agent makes of the text that waits and of every course.
-use Rattle.std.proofs.Common.{◌≡◌, ◌⊎◌, inl, inr, ⊎_elim, ℕ, true, false, List, [], ◌++◌, Some, map, refl, sym, ap, subst, ◌∙◌, append-nil, Vec, Global}
-use Rattle.std.proofs.lemmas.Bool.{true≢false}
-use Rattle.std.specs.Prelude.{Result, Ok, Err}
+use Rattle.std.proofs.Common.{◌≡◌, ◌⊎◌, inl, inr, ⊎_elim, ℕ, true, false, List, [], ◌∷◌, ◌++◌, Some, map, refl, sym, ap, subst, ◌∙◌, Vec, Global}
+use Rattle.std.proofs.lemmas.Bool.{cases_Bool, true≢false}
+use Rattle.std.specs.Prelude.{Result, Ok, Err, IfErr, IsErrAnd}
 use Rattle.unwinding.specs.Admissible.{Acts, Reopens}
 use Rattle.unwinding.specs.CourseSteps.{committed, holding, reopened}
 use Rattle.disk_model.specs.Disk.{HasFailed, IsNextCut, View, WasOff}
@@ -9,7 +9,7 @@ use Rattle.journal.specs.Opening.{HasNoFault}
 use Rattle.journal.specs.declared.open_fault.OpenFault.{OpenFault}
 use Rattle.journal.specs.declared.open_fault.OpenFault.TheVariants as fault
 use Rattle.suffix_list.specs.Suffix.{Rule}
-use Rattle.script_lines.specs.Script.{PlainAction}
+use Rattle.script_actions.specs.Action.{PlainAction, PlainStep}
 use Rattle.reply_lines.specs.Plain.{reply_of}
 use Rattle.reply_lines.specs.Reply.{reply_text}
 use Rattle.reply_lines.specs.declared.reply.Reply.{Reply}
@@ -23,11 +23,14 @@ use Rattle.agent_core.specs.declared.agent.Power.{Power}
 use Rattle.agent_core.specs.declared.agent.Power.TheVariants.{Up, Down as PowerDown, Spoilt}
 use Rattle.agent_core.specs.declared.outcome.Outcome.{Outcome}
 use Rattle.agent_core.specs.declared.outcome.Outcome.TheVariants.{Replies, Held, Down, NoMemory}
-use Rattle.store_runs.specs.Courses.{EndsWith, IsQuiet, Stepped}
+use Rattle.store_runs.specs.Courses.{Steps}
+use Rattle.store_runs.specs.Calls.{Called, Ends, IsQuiet, StaysOrRose, Stops}
 use Rattle.printed_model.specs.Histories.{down_reply, restart_reply}
 use Rattle.store_runs.specs.Waiting.{replies_text}
-use Rattle.store_runs.specs.declared.ending.Ending.TheVariants.{Done, Device}
-use Rattle.store_runs.proofs.CourseLemmas.{down_line, down_restart, held_line, replied_line, restart_line}
+use Rattle.store_runs.specs.Endings.{ending_of}
+use Rattle.store_runs.specs.declared.ending.Ending.{Ending}
+use Rattle.store_runs.specs.declared.ending.Ending.TheVariants.{Done, Device, Memory}
+use Rattle.store_runs.proofs.CourseLemmas.{down_line, down_restart, held_line, replied_line, restart_line, same_stands, spoilt_stands}
 use Rattle.store_runs.proofs.TextLemmas.{text_printed}
 
 -- ---- a disk that cannot fail
@@ -53,7 +56,7 @@ up_after_line : (rules : List Rule) (a : AgentSeen) (l : PlainAction) → (after
 unfolding holding
 up_after_line rules a l = refl
 
-up_after_commit : (rules : List Rule) (a : AgentSeen) → (after_commit rules a).up ≡ true
+pub up_after_commit : (rules : List Rule) (a : AgentSeen) → (after_commit rules a).up ≡ true
 unfolding committed
 up_after_commit rules a = refl
 
@@ -67,18 +70,42 @@ is_down NoMemory = ⊥
 not_down : (o : Outcome) → (is_down o → ⊥) → o ≡ Down → ⊥
 not_down o other same = other (subst is_down (sym same) tt)
 
--- ---- the text of an answer
+-- ---- what an answer says of lines and of their text
 
-abbrev pub ShowsLine : PlainAction → Outcome → (before now : List ℕ) → Type 0
-ShowsLine l (Replies given) before now = now ≡ before ++ replies_text (map reply_of given.items)
-ShowsLine l Held before now = now ≡ before
-ShowsLine l Down before now = now ≡ before ++ reply_text (printed (down_reply (Acts l)))
-ShowsLine l NoMemory before now = ⊥
+-- a call after which the run goes on
+abbrev pub goes_on : Outcome → Type 0
+goes_on (Replies given) = Unit {0}
+goes_on Held = Unit {0}
+goes_on Down = Unit {0}
+goes_on NoMemory = ⊥
 
-abbrev pub ShowsRestart : Result ℕ OpenFault → (before now : List ℕ) → Type 0
-ShowsRestart (Ok kept) before now = now ≡ before ++ reply_text (printed (restart_reply kept))
-ShowsRestart (Err fault.DeviceFault) before now = now ≡ before ++ reply_text (printed (down_reply Reopens))
-ShowsRestart (Err other) before now = ⊥
+-- the lines that ran, and their text
+abbrev pub line_ran : PlainAction → Outcome → List PlainStep
+line_ran l (Replies given) = Acts l ∷ []
+line_ran l Held = Acts l ∷ []
+line_ran l Down = Acts l ∷ []
+line_ran l NoMemory = []
+
+abbrev pub line_text : PlainAction → Outcome → List ℕ
+line_text l (Replies given) = replies_text (map reply_of given.items)
+line_text l Held = []
+line_text l Down = reply_text (printed (down_reply (Acts l)))
+line_text l NoMemory = []
+
+abbrev pub restart_goes_on : Result ℕ OpenFault → Type 0
+restart_goes_on (Ok kept) = Unit {0}
+restart_goes_on (Err fault.DeviceFault) = Unit {0}
+restart_goes_on (Err other) = ⊥
+
+abbrev pub restart_ran : Result ℕ OpenFault → List PlainStep
+restart_ran (Ok kept) = Reopens ∷ []
+restart_ran (Err fault.DeviceFault) = Reopens ∷ []
+restart_ran (Err other) = []
+
+abbrev pub restart_text : Result ℕ OpenFault → List ℕ
+restart_text (Ok kept) = reply_text (printed (restart_reply kept))
+restart_text (Err fault.DeviceFault) = reply_text (printed (down_reply Reopens))
+restart_text (Err other) = []
 
 -- a restart that found the store met no fault
 restart_cuts : (kept : ℕ) (old new : View) → RestartDevice (Ok kept) old new → new.cuts ≡ old.cuts
@@ -104,94 +131,190 @@ tells_still tell old new Spoilt is up off = ap (λ v. (tell v.disk).tells) (off 
     spoilt_up : Spoilt ≡ Up → ⊥
     spoilt_up e = cc
 
+-- a `?` that hands want of memory on stops the run
+pub wanting_stops : {T : Type 0} (r : Result T Ending) (P : Ending → Type 0) → IsErrAnd r (λ e. e ≡ Memory) → P Memory → IfErr r P
+wanting_stops (Ok x) P err stops = absurd err
+wanting_stops (Err e) P err stops = subst P (sym err) stops
+
+-- ---- counts of faults
+
+device_counts : (outcome : Outcome) (old new : View) → OutcomeDevice 4 outcome old new → StaysOrRose old.faults new.faults
+device_counts (Replies given) old new device = inl (device.others (not_down (Replies given) (λ wrong. wrong))).faults
+device_counts Held old new device = inl (device.others (not_down Held (λ wrong. wrong))).faults
+device_counts Down old new device = inr (device.down refl).0
+device_counts NoMemory old new device = inl (device.others (not_down NoMemory (λ wrong. wrong))).faults
+
+restart_counts : (result : Result ℕ OpenFault) (old new : View) → RestartDevice result old new → StaysOrRose old.faults new.faults
+restart_counts result old new device = ⊎_elim (λ is. inr (device.counted is)) (λ none. inl none.0) device.others
+
 module _ {D : Type 0} (tell : D → View) (old new : AgentView D) where
-  pub line_steps : (l : PlainAction) (outcome : Outcome) (before now : List ℕ)
+  -- the count of a call that leaves an agent that is not up as it is
+  call_counts : (outcome : Outcome) (a : AgentSeen) → IsSeen old (tell old.disk) a → (old.power ≡ Up → OutcomeDevice 4 outcome (tell old.disk) (tell new.disk)) → ((old.power ≡ Up → ⊥) → new ≡ old)
+      → StaysOrRose (tell old.disk).faults (tell new.disk).faults
+  call_counts outcome a seen device off = ⊎_elim
+      (λ up. device_counts outcome (tell old.disk) (tell new.disk) (device (seen.up.0 up)))
+      (λ down. inl (ap (λ v. (tell v.disk).faults) (off (λ power. true≢false (sym (seen.up.1 power) ∙ down)))))
+      (cases_Bool a.up)
+
+  pub line_called : (l : PlainAction) (outcome : Outcome)
       → ((a : AgentSeen) → IsSeen old (tell old.disk) a → Fits a
       → (b : AgentSeen) × IsSeen new (tell new.disk) b × LineMeans old.memory.rules old.batch l a (may_of old (tell old.disk)) b (may_of new (tell new.disk)) outcome)
-      → (old.power ≡ Up → OutcomeDevice 4 outcome (tell old.disk) (tell new.disk)) → ShowsLine l outcome before now → Stepped tell old new (Acts l) before now
-  line_steps l (Replies given) before now means device shows told some a seen fits =
+      → (old.power ≡ Up → OutcomeDevice 4 outcome (tell old.disk) (tell new.disk)) → ((old.power ≡ Up → ⊥) → new ≡ old) → Called tell old new (goes_on outcome) (line_ran l outcome) (line_text l outcome)
+  line_called l (Replies given) means device off told some a seen fits =
       let all = means a seen fits in
       let b = all.0 in
       let m = all.2 in
-      let ran = after_line old.memory.rules a l in (
+      let ran = after_line old.memory.rules a l in
+      let up : b.up ≡ true = ap (λ s. s.up) m.2.1 ∙ up_after_commit old.memory.rules ran in
+      let text : text_of ran.held ≡ replies_text (map reply_of given.items) = text_printed ran.held ∙ ap replies_text (sym m.2.0) in (
         b,
         all.1,
-        record {
-          text = text_of ran.held;
-          waits = shows ∙ ap (λ t. before ++ t) (ap replies_text m.2.0 ∙ sym (text_printed ran.held));
-          quiet = λ q. stays_quiet a b (tell old.disk) (tell new.disk) (ap (λ s. s.up) m.2.1 ∙ up_after_commit old.memory.rules ran) ((device (seen.up.0 q.0)).others (not_down (Replies given) (λ wrong. wrong))) q;
-          steps = replied_line old.memory.rules old.batch l (IsQuiet a (tell old.disk)) a b (may_of old (tell old.disk)) (may_of new (tell new.disk)) m.0 m.1 m.2.1 m.2.2;
-        },
+        subst (λ t. Steps old.memory.rules old.batch (Acts l ∷ []) (IsQuiet a (tell old.disk)) a (may_of old (tell old.disk)) b (may_of new (tell new.disk)) t) text
+            (replied_line old.memory.rules old.batch l (IsQuiet a (tell old.disk)) a b (may_of old (tell old.disk)) (may_of new (tell new.disk)) m.0 m.1 m.2.1 m.2.2),
+        (λ on. record {
+          quiet = λ q. stays_quiet a b (tell old.disk) (tell new.disk) up ((device (seen.up.0 q.0)).others (not_down (Replies given) (λ wrong. wrong))) q;
+          counts = call_counts (Replies given) a seen device off;
+          down = λ down. absurd (true≢false (sym up ∙ down));
+        }),
       )
-  line_steps l Held before now means device shows told some a seen fits =
+  line_called l Held means device off told some a seen fits =
       let all = means a seen fits in
       let b = all.0 in
-      let m = all.2 in (
+      let m = all.2 in
+      let up : b.up ≡ true = ap (λ s. s.up) m.2 ∙ up_after_line old.memory.rules a l in (
         b,
         all.1,
-        record {
-          text = [];
-          waits = shows ∙ sym (append-nil before);
-          quiet = λ q. stays_quiet a b (tell old.disk) (tell new.disk) (ap (λ s. s.up) m.2 ∙ up_after_line old.memory.rules a l) ((device (seen.up.0 q.0)).others (not_down Held (λ wrong. wrong))) q;
-          steps = held_line old.memory.rules old.batch l (IsQuiet a (tell old.disk)) a b (may_of old (tell old.disk)) (may_of new (tell new.disk)) m.0 m.1 m.2 m.3;
-        },
+        held_line old.memory.rules old.batch l (IsQuiet a (tell old.disk)) a b (may_of old (tell old.disk)) (may_of new (tell new.disk)) m.0 m.1 m.2 m.3,
+        (λ on. record {
+          quiet = λ q. stays_quiet a b (tell old.disk) (tell new.disk) up ((device (seen.up.0 q.0)).others (not_down Held (λ wrong. wrong))) q;
+          counts = call_counts Held a seen device off;
+          down = λ down. absurd (true≢false (sym up ∙ down));
+        }),
       )
-  line_steps l Down before now means device shows told some a seen fits =
+  line_called l Down means device off told some a seen fits =
       let all = means a seen fits in
       let b = all.0 in
       let loud : IsQuiet a (tell old.disk) → ⊥ = λ q. never_fails a (tell old.disk) (tell new.disk) q ((device (seen.up.0 q.0)).down refl).1 in (
         b,
         all.1,
-        record {
-          text = reply_text (printed (down_reply (Acts l)));
-          waits = shows;
+        down_line old.memory.rules old.batch l (IsQuiet a (tell old.disk)) a b (may_of old (tell old.disk)) (may_of new (tell new.disk)) loud all.2,
+        (λ on. record {
           quiet = λ q. absurd (loud q);
-          steps = down_line old.memory.rules old.batch l (IsQuiet a (tell old.disk)) a b (may_of old (tell old.disk)) (may_of new (tell new.disk)) loud all.2;
-        },
+          counts = call_counts Down a seen device off;
+          down = λ down. ⊎_elim (λ up. inr ((device (seen.up.0 up)).down refl).0) (λ was. inl was) (cases_Bool a.up);
+        }),
       )
-  line_steps l NoMemory before now means device shows told some a seen fits = absurd shows
+  line_called l NoMemory means device off told some a seen fits =
+      let all = means a seen fits in (
+        all.0,
+        all.1,
+        same_stands old.memory.rules old.batch (IsQuiet a (tell old.disk)) a all.0 (may_of old (tell old.disk)) (may_of new (tell new.disk)) all.2,
+        (λ on. absurd on),
+      )
 
-  pub restart_steps : (result : Result ℕ OpenFault) (before now : List ℕ)
+  pub restart_called : (result : Result ℕ OpenFault)
       → ((tell old.disk).tells ≡ true → (a : AgentSeen) → IsSeen old (tell old.disk) a
       → (b : AgentSeen) × IsSeen new (tell new.disk) b × RestartMeans old.memory.rules a (may_of old (tell old.disk)) b (may_of new (tell new.disk)) result)
-      → RestartDevice result (tell old.disk) (tell new.disk) → ShowsRestart result before now → Stepped tell old new Reopens before now
-  restart_steps (Ok kept) before now means device shows told some a seen fits =
+      → RestartDevice result (tell old.disk) (tell new.disk) → Called tell old new (restart_goes_on result) (restart_ran result) (restart_text result)
+  restart_called (Ok kept) means device told some a seen fits =
       let all = means told a seen in
       let b = all.0 in
-      let m = all.2 in (
+      let m = all.2 in
+      let up : b.up ≡ true = ap (λ s. s.up) m.2 ∙ up_reopened old.memory.rules a m.0 in (
         b,
         all.1,
-        record {
-          text = reply_text (printed (restart_reply kept));
-          waits = shows;
-          quiet = λ q. (ap (λ s. s.up) m.2 ∙ up_reopened old.memory.rules a m.0, device.on, restart_cuts kept (tell old.disk) (tell new.disk) device ∙ q.2);
-          steps = restart_line old.memory.rules old.batch kept m.0 (IsQuiet a (tell old.disk)) a b (may_of old (tell old.disk)) (may_of new (tell new.disk)) some m.1 m.2 m.3;
-        },
+        restart_line old.memory.rules old.batch kept m.0 (IsQuiet a (tell old.disk)) a b (may_of old (tell old.disk)) (may_of new (tell new.disk)) some m.1 m.2 m.3,
+        (λ on. record {
+          quiet = λ q. (up, device.on, restart_cuts kept (tell old.disk) (tell new.disk) device ∙ q.2);
+          counts = restart_counts (Ok kept) (tell old.disk) (tell new.disk) device;
+          down = λ down. absurd (true≢false (sym up ∙ down));
+        }),
       )
-  restart_steps (Err fault.DeviceFault) before now means device shows told some a seen fits =
+  restart_called (Err fault.DeviceFault) means device told some a seen fits =
       let all = means told a seen in
       let b = all.0 in
       let loud : IsQuiet a (tell old.disk) → ⊥ = λ q. never_reopens a (tell old.disk) (tell new.disk) q (device.failed refl) in (
         b,
         all.1,
-        record {
-          text = reply_text (printed (down_reply Reopens));
-          waits = shows;
-          quiet = λ q. absurd (loud q);
-          steps = down_restart old.memory.rules old.batch (IsQuiet a (tell old.disk)) a b (may_of old (tell old.disk)) (may_of new (tell new.disk)) loud all.2;
-        },
+        down_restart old.memory.rules old.batch (IsQuiet a (tell old.disk)) a b (may_of old (tell old.disk)) (may_of new (tell new.disk)) loud all.2,
+        (λ on. record { quiet = λ q. absurd (loud q); counts = restart_counts (Err fault.DeviceFault) (tell old.disk) (tell new.disk) device; down = λ down. inr (device.counted refl) }),
       )
-  restart_steps (Err fault.NoMemory) before now means device shows told some a seen fits = absurd shows
-  restart_steps (Err (fault.NotAStore offset)) before now means device shows told some a seen fits = absurd shows
-  restart_steps (Err (fault.OtherList kept given)) before now means device shows told some a seen fits = absurd shows
-  restart_steps (Err (fault.TooLarge len)) before now means device shows told some a seen fits = absurd shows
+  restart_called (Err fault.NoMemory) means device told some a seen fits =
+      let all = means told a seen in (
+        all.0,
+        all.1,
+        spoilt_stands old.memory.rules old.batch (IsQuiet a (tell old.disk)) a all.0 (may_of old (tell old.disk)) (may_of new (tell new.disk)) all.2,
+        (λ on. absurd on),
+      )
+  restart_called (Err (fault.NotAStore offset)) means device told some a seen fits = absurd (means told a seen).2
+  restart_called (Err (fault.OtherList kept given)) means device told some a seen fits = absurd (means told a seen).2
+  restart_called (Err (fault.TooLarge len)) means device told some a seen fits = absurd (means told a seen).2
 
-  pub replies_end : (given : Vec Reply Global) (before now : List ℕ)
-      → ((a : AgentSeen) → IsSeen old (tell old.disk) a → (b : AgentSeen) × IsSeen new (tell new.disk) b × FlushMeans old.memory.rules a (may_of old (tell old.disk)) b (may_of new (tell new.disk)) (Replies given))
-      → now ≡ before ++ replies_text (map reply_of given.items) → (a : AgentSeen) → IsSeen old (tell old.disk) a → EndsWith a (tell old.disk) Done before now
-  replies_end given before now means shows a seen =
-      let m = (means a seen).2 in
-      (m.0, shows ∙ ap (λ t. before ++ t) (ap replies_text m.1.0 ∙ sym (text_printed a.held)))
+  -- no line ran
+  pub memory_stops : (step : PlainStep) → Called tell old new ⊥ [] [] → Stops tell old new step Memory
+  memory_stops step called = ([], inl refl, ([], called))
 
-  pub down_ends : (before now : List ℕ) → (old.power ≡ Up → OutcomeDevice 4 Down (tell old.disk) (tell new.disk)) → now ≡ before → (a : AgentSeen) → IsSeen old (tell old.disk) a → EndsWith a (tell old.disk) Device before now
-  down_ends before now device is a seen = (is, λ q. never_fails a (tell old.disk) (tell new.disk) q ((device (seen.up.0 q.0)).down refl).1)
+  -- a restart that was refused stops the run
+  pub restart_stops : (why : OpenFault) → (why ≡ fault.DeviceFault → ⊥)
+      → ((tell old.disk).tells ≡ true → (a : AgentSeen) → IsSeen old (tell old.disk) a
+      → (b : AgentSeen) × IsSeen new (tell new.disk) b × RestartMeans old.memory.rules a (may_of old (tell old.disk)) b (may_of new (tell new.disk)) (Err why))
+      → RestartDevice (Err why) (tell old.disk) (tell new.disk) → Stops tell old new Reopens (ending_of why)
+  restart_stops fault.DeviceFault other means device = absurd (other refl)
+  restart_stops fault.NoMemory other means device = memory_stops Reopens (restart_called (Err fault.NoMemory) means device)
+  restart_stops (fault.NotAStore offset) other means device = (tt, λ told a seen. (means told a seen).2)
+  restart_stops (fault.OtherList kept given) other means device = (tt, λ told a seen. (means told a seen).2)
+  restart_stops (fault.TooLarge len) other means device = (tt, λ told a seen. (means told a seen).2)
+
+  -- a line ran, and its text has no room to wait
+  pub stops_ran : (step : PlainStep) (text : List ℕ) → Called tell old new (Unit {0}) (step ∷ []) text → Stops tell old new step Memory
+  stops_ran step text called = (step ∷ [], inr refl, (text, λ told some a seen fits. let all = called told some a seen fits in (all.0, all.1, all.2, λ on. absurd on)))
+
+  -- the last commit, by what it is answered
+  module _ (outcome : Outcome)
+      (means : (a : AgentSeen) → IsSeen old (tell old.disk) a → (b : AgentSeen) × IsSeen new (tell new.disk) b × FlushMeans old.memory.rules a (may_of old (tell old.disk)) b (may_of new (tell new.disk)) outcome)
+      (before now : List ℕ) where
+    pub replies_end : (given : Vec Reply Global) → outcome ≡ Replies given → now ≡ before ++ replies_text (map reply_of given.items) → Ends tell old new Done before now
+    replies_end given is shows a seen =
+        let all = means a seen in
+        let m : FlushMeans old.memory.rules a (may_of old (tell old.disk)) all.0 (may_of new (tell new.disk)) (Replies given) = subst (λ o. FlushMeans old.memory.rules a (may_of old (tell old.disk)) all.0 (may_of new (tell new.disk)) o) is all.2 in (
+          all.0,
+          all.1,
+          ((m.0, m.1.1, m.1.2), shows ∙ ap (λ t. before ++ t) (ap replies_text m.1.0 ∙ sym (text_printed a.held))),
+        )
+
+    pub replies_lost : (given : Vec Reply Global) → outcome ≡ Replies given → now ≡ before → Ends tell old new Memory before now
+    replies_lost given is shows a seen =
+        let all = means a seen in
+        let m : FlushMeans old.memory.rules a (may_of old (tell old.disk)) all.0 (may_of new (tell new.disk)) (Replies given) = subst (λ o. FlushMeans old.memory.rules a (may_of old (tell old.disk)) all.0 (may_of new (tell new.disk)) o) is all.2 in (
+          all.0,
+          all.1,
+          (inl (m.0, m.1.1, m.1.2), shows),
+        )
+
+    pub down_ends : outcome ≡ Down → (old.power ≡ Up → OutcomeDevice 4 outcome (tell old.disk) (tell new.disk)) → ((old.power ≡ Up → ⊥) → new ≡ old) → now ≡ before → Ends tell old new Device before now
+    down_ends is device off shows a seen =
+        let all = means a seen in
+        let m : FlushMeans old.memory.rules a (may_of old (tell old.disk)) all.0 (may_of new (tell new.disk)) Down = subst (λ o. FlushMeans old.memory.rules a (may_of old (tell old.disk)) all.0 (may_of new (tell new.disk)) o) is all.2 in (
+          all.0,
+          all.1,
+          (
+            m,
+            shows,
+            (λ q. never_fails a (tell old.disk) (tell new.disk) q ((device (seen.up.0 q.0)).down is).1),
+            (call_counts outcome a seen device off, λ up. ((device (seen.up.0 up)).down is).0),
+          ),
+        )
+
+    pub held_ends : outcome ≡ Held → Ends tell old new Memory before now
+    held_ends is a seen =
+        let all = means a seen in
+        absurd (subst (λ o. FlushMeans old.memory.rules a (may_of old (tell old.disk)) all.0 (may_of new (tell new.disk)) o) is all.2)
+
+    pub memory_ends : outcome ≡ NoMemory → now ≡ before → Ends tell old new Memory before now
+    memory_ends is shows a seen =
+        let all = means a seen in
+        let m : FlushMeans old.memory.rules a (may_of old (tell old.disk)) all.0 (may_of new (tell new.disk)) NoMemory = subst (λ o. FlushMeans old.memory.rules a (may_of old (tell old.disk)) all.0 (may_of new (tell new.disk)) o) is all.2 in (
+          all.0,
+          all.1,
+          (inr m, shows),
+        )

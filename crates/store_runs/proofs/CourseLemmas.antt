@@ -5,21 +5,21 @@ use Rattle.unwinding.specs.Course.{AtBase, Course, IsAt, answer_all, course_step
 use Rattle.unwinding.specs.CourseSteps.{GoesDown, last_opening, reopened, stands}
 use Rattle.unwinding.specs.Epochs.{acknowledged_replies}
 use Rattle.unwinding.proofs.CourseCounts.{on_count}
-use Rattle.unwinding.proofs.CourseLines.{on_down, on_held, on_replies, tried_keeps}
+use Rattle.unwinding.proofs.CourseLines.{on_down, on_held, on_quiet_down, on_replies, tried_keeps}
 use Rattle.unwinding.proofs.CourseRestarts.{on_opened, on_reopened}
 use Rattle.unwinding.proofs.CourseScript.{steps_answered, steps_down, steps_reopened, steps_wait}
 use Rattle.unwinding.proofs.CourseSums.{holding_stands}
 use Rattle.unwinding.proofs.Transcripts.{transcript_answered, transcript_down, transcript_reopened, transcript_wait}
 use Rattle.suffix_list.specs.Suffix.{Rule}
-use Rattle.script_lines.specs.Script.{PlainAction}
+use Rattle.script_actions.specs.Action.{PlainAction}
 use Rattle.reply_lines.specs.Reply.{reply_text}
 use Rattle.agent_model.specs.Isolation.{printed, text_of}
 use Rattle.agent_model.specs.TheMachine.{machine}
 use Rattle.durable_model.specs.Histories.{AgentOpening}
 use Rattle.durable_model.specs.Keeping.{AgentDurable, keeping}
-use Rattle.agent_core.specs.Means.{AgentMay, Fits, after_commit, after_line}
+use Rattle.agent_core.specs.Means.{AgentMay, Fits, Same, after_commit, after_line}
 use Rattle.agent_core.specs.Seen.{AgentSeen}
-use Rattle.store_runs.specs.Courses.{On, Steps, downs_on, text_on}
+use Rattle.store_runs.specs.Courses.{Adds, On, Steps, downs_on, text_on}
 use Rattle.printed_model.specs.Histories.{closed_downs, down_reply, restart_reply}
 use Rattle.store_runs.proofs.TextLemmas.{text_append, text_one}
 
@@ -43,7 +43,7 @@ module _ (rules : List Rule) (batch : ℕ) where
   on_begun x a may some is base = on_opened (machine rules) keeping batch x a may some is base
 
   -- the line waits
-  pub held_line : (l : PlainAction) (Quiet : Type 0) (a b : AgentSeen) (may may' : AgentMay) → a.up ≡ true → length a.held + 1 < batch → b ≡ after_line rules a l → AtBase b.base may' → Steps rules batch (Acts l) Quiet a may b may' []
+  pub held_line : (l : PlainAction) (Quiet : Type 0) (a b : AgentSeen) (may may' : AgentMay) → a.up ≡ true → length a.held + 1 < batch → b ≡ after_line rules a l → AtBase b.base may' → Steps rules batch (Acts l ∷ []) Quiet a may b may' []
   unfolding On text_on downs_on
   held_line l Quiet a b may may' up less is base x r on = (
     wait r l,
@@ -57,7 +57,7 @@ module _ (rules : List Rule) (batch : ℕ) where
 
   -- the line and all that waited are answered
   pub replied_line : (l : PlainAction) (Quiet : Type 0) (a b : AgentSeen) (may may' : AgentMay) → a.up ≡ true → length a.held + 1 ≡ batch → b ≡ after_commit rules (after_line rules a l) → AtBase b.base may'
-      → Steps rules batch (Acts l) Quiet a may b may' (text_of (after_line rules a l).held)
+      → Steps rules batch (Acts l ∷ []) Quiet a may b may' (text_of (after_line rules a l).held)
   unfolding On text_on downs_on
   replied_line l Quiet a b may may' up full is base x r on =
       let m = machine rules in
@@ -79,7 +79,7 @@ module _ (rules : List Rule) (batch : ℕ) where
   -- the line is answered `down`
   pub down_line : (l : PlainAction) (Quiet : Type 0) (a b : AgentSeen) (may may' : AgentMay) → (Quiet → ⊥)
       → GoesDown (machine rules) keeping a b may may' (λ d n. ((a.up ≡ true) × (length a.held + 1 ≡ batch)) × IsAt (after_commit rules (after_line rules a l)).base d n)
-      → Steps rules batch (Acts l) Quiet a may b may' (reply_text (printed (down_reply (Acts l))))
+      → Steps rules batch (Acts l ∷ []) Quiet a may b may' (reply_text (printed (down_reply (Acts l))))
   unfolding On text_on downs_on
   down_line l Quiet a b may may' loud goes x r on = (
     down_one r (Acts l),
@@ -94,7 +94,7 @@ module _ (rules : List Rule) (batch : ℕ) where
   )
 
   pub down_restart : (Quiet : Type 0) (a b : AgentSeen) (may may' : AgentMay) → (Quiet → ⊥) → GoesDown (machine rules) keeping a b may may' (λ d n. ⊥)
-      → Steps rules batch Reopens Quiet a may b may' (reply_text (printed (down_reply Reopens)))
+      → Steps rules batch (Reopens ∷ []) Quiet a may b may' (reply_text (printed (down_reply Reopens)))
   unfolding On text_on downs_on
   down_restart Quiet a b may may' loud goes x r on = (
     down_one r Reopens,
@@ -110,7 +110,7 @@ module _ (rules : List Rule) (batch : ℕ) where
 
   -- the store is opened again
   pub restart_line : (kept : ℕ) (d : AgentDurable) (Quiet : Type 0) (a b : AgentSeen) (may may' : AgentMay) → 0 < batch → may d kept → b ≡ reopened (machine rules) keeping a.world.rest d → AtBase b.base may'
-      → Steps rules batch Reopens Quiet a may b may' (reply_text (printed (restart_reply kept)))
+      → Steps rules batch (Reopens ∷ []) Quiet a may b may' (reply_text (printed (restart_reply kept)))
   unfolding On text_on downs_on
   restart_line kept d Quiet a b may may' some left is base x r on = (
     reopen r kept,
@@ -123,6 +123,32 @@ module _ (rules : List Rule) (batch : ℕ) where
       downs = λ q. append-nil _ ∙ closed_downs_more r.closed (stretch_of r kept);
     },
   )
+
+  -- no line runs, and the course goes on by nothing
+  adds_nothing : (x : AgentOpening) (r : Course PlainAction) (Quiet : Type 0) → Adds rules x r r [] Quiet []
+  adds_nothing x r Quiet = record { steps = sym (append-nil _); prints = sym (append-nil _); downs = λ q. refl }
+
+  -- memory was wanting, and the agent is as it was
+  pub same_stands : (Quiet : Type 0) (a b : AgentSeen) (may may' : AgentMay) → Same a may b may' → Steps rules batch [] Quiet a may b may' []
+  unfolding On
+  same_stands Quiet a b may may' same x r on = (
+    r,
+    record {
+      admissible = on.admissible;
+      batches = on.batches;
+      whole = on.whole;
+      short = on.short;
+      rest = ap (λ s. keeping.rest_again s.world.rest) same.0 ∙ on.rest;
+      up = λ up. ((on.up (sym (ap (λ s. s.up) same.0) ∙ up)).0, same.0 ∙ (on.up (sym (ap (λ s. s.up) same.0) ∙ up)).1);
+      images = λ d n left. on.images d n (same.1 d n left);
+    },
+    adds_nothing x r Quiet,
+  )
+
+  -- memory was wanting at a restart, and the agent is not up
+  pub spoilt_stands : (Quiet : Type 0) (a b : AgentSeen) (may may' : AgentMay) → GoesDown (machine rules) keeping a b may may' (λ d n. ⊥) → Steps rules batch [] Quiet a may b may' []
+  unfolding On
+  spoilt_stands Quiet a b may may' goes x r on = (r, on_quiet_down (machine rules) keeping batch x r a b may may' on goes, adds_nothing x r Quiet)
 
   -- what waits is answered at the end
   pub text_answered : (x : AgentOpening) (r : Course PlainAction) (a : AgentSeen) (may : AgentMay) → On rules batch x r a may → a.up ≡ true → text_on rules x (answer_all r) ≡ text_on rules x r ++ text_of a.held

@@ -2,6 +2,8 @@ pub mod PrefixLemmas
 pub mod TextLemmas
 pub mod CourseLemmas
 pub mod LoopLemmas
+pub mod StopLemmas
 pub mod AgentLemmas
-pub mod MemoryLemmas
+pub mod DiskLemmas
+pub mod CountLemmas
 pub mod EndLemmas

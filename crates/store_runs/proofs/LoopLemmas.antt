@@ -1,42 +1,47 @@
 -- What the loop over the lines keeps, and how it ends.
-use Rattle.std.proofs.Common.{◌≡◌, ℕ, ◌+◌, ◌<◌, ◌≤◌, ◌^◌, true, false, List, [], ◌∷◌, ◌++◌, Option, take, drop, length, get_or, refl, sym, ap, subst, ⊎_elim, ◌∙◌, append-nil, arith}
+use Rattle.std.proofs.Common.{◌≡◌, ℕ, ◌+◌, ◌<◌, ◌≤◌, ◌^◌, true, false, List, [], ◌∷◌, ◌++◌, Option, take, drop, length, get_or, inr, refl, sym, ap, subst, ⊎_elim, ◌∙◌, append-nil, arith}
 use Rattle.std.proofs.lemmas.List.{length-map, length-take-le, map-append, take-append-drop, take_more}
 use Rattle.unwinding.specs.Admissible.{History}
-use Rattle.unwinding.specs.Course.{AtBase, answer_all, empty_course}
-use Rattle.unwinding.specs.CourseSteps.{history_of, reopened}
+use Rattle.unwinding.specs.Course.{AtBase, IsAt, answer_all, empty_course, executed_lines}
+use Rattle.unwinding.specs.CourseSteps.{base_of, committed, history_of, last_opening, reopened}
 use Rattle.unwinding.proofs.CourseRestarts.{ends_answered, ends_lost}
 use Rattle.unwinding.proofs.CourseScript.{steps_answered}
+use Rattle.unwinding.proofs.CourseSums.{base_is, committed_stands}
 use Rattle.agent_base.specs.Streams.{Takes, TakesPrefix}
 use Rattle.suffix_list.specs.Suffix.{Rule}
-use Rattle.script_lines.specs.Script.{PlainAction}
+use Rattle.script_actions.specs.Action.{PlainAction, PlainStep}
+use Rattle.script_actions.specs.Plain.{step_of}
+use Rattle.script_actions.specs.declared.step.Line.{Line}
 use Rattle.agent_model.specs.Isolation.{text_of}
 use Rattle.agent_model.specs.TheMachine.{machine}
 use Rattle.durable_model.specs.Histories.{AgentOpening, history_replies}
 use Rattle.durable_model.specs.Keeping.{keeping}
 use Rattle.disk_model.specs.Disk.{View}
-use Rattle.agent_core.specs.Means.{AgentMay, Fits}
+use Rattle.agent_core.specs.Means.{AgentMay, Fails, Fits, Same, after_commit}
 use Rattle.agent_core.specs.Seen.{AgentSeen}
-use Rattle.store_runs.specs.Courses.{EndsWith, IsQuiet, On, OnCourse, StepMeans, Steps, downs_on, text_on}
-use Rattle.printed_model.specs.Histories.{PlainStep, IsHistoryOf, history_text}
-use Rattle.store_runs.specs.Runs.{Stopped, WritesLines, just_opened}
-use Rattle.store_runs.specs.Steps.{step_of, steps_of}
+use Rattle.printed_model.specs.Histories.{IsHistoryOf, history_text}
+use Rattle.printed_model.proofs.LeftLemmas.{left_of_answered, left_of_executed, left_of_kept}
+use Rattle.store_runs.specs.Calls.{Commits, EndsWith, IsQuiet}
+use Rattle.store_runs.specs.Courses.{Leaves, On, OnCourse, Steps, downs_on, text_on}
+use Rattle.store_runs.specs.Openings.{just_opened}
+use Rattle.store_runs.specs.Runs.{Stopped, WritesLines}
+use Rattle.store_runs.specs.Steps.{steps_of}
 use Rattle.store_runs.specs.Waiting.{Ended, TakesFront}
 use Rattle.store_runs.specs.declared.ending.Ending.{Ending}
-use Rattle.store_runs.specs.declared.ending.Ending.TheVariants.{Done, Write, Device, Memory}
-use Rattle.store_runs.specs.declared.step.Step.{Step}
+use Rattle.store_runs.specs.declared.ending.Ending.TheVariants.{Done, Device, Store, Write, Memory}
 use Rattle.store_runs.proofs.CourseLemmas.{nothing_printed, on_begun, on_fits, on_up, text_answered}
-use Rattle.store_runs.proofs.PrefixLemmas.{front_end, front_more, front_none, front_part, front_then, prefix_all}
+use Rattle.store_runs.proofs.PrefixLemmas.{front_end, front_more, front_none, front_part, front_then, prefix_all, prefix_front, prefix_longer}
 
 -- ---- steps
 
-pub steps_more : (lines : List Step) (i : ℕ) (d : Step) → i < length lines → steps_of (take (i + 1) lines) ≡ steps_of (take i lines) ++ step_of (get_or lines i d) ∷ []
-steps_more lines i d h = ap steps_of (take_more lines i d h) ∙ map-append step_of (take i lines) (get_or lines i d ∷ [])
+pub steps_more : (lines : List Line) (i : ℕ) (d : Line) → i < length lines → steps_of (take (i + 1) lines) ≡ steps_of (take i lines) ++ step_of (get_or lines i d).step ∷ []
+steps_more lines i d h = ap steps_of (take_more lines i d h) ∙ map-append (λ (l : Line). step_of l.step) (take i lines) (get_or lines i d ∷ [])
 
-pub steps_parts : (lines : List Step) (i : ℕ) → steps_of lines ≡ steps_of (take i lines) ++ steps_of (drop i lines)
-steps_parts lines i = ap steps_of (sym (take-append-drop i lines)) ∙ map-append step_of (take i lines) (drop i lines)
+pub steps_parts : (lines : List Line) (i : ℕ) → steps_of lines ≡ steps_of (take i lines) ++ steps_of (drop i lines)
+steps_parts lines i = ap steps_of (sym (take-append-drop i lines)) ∙ map-append (λ (l : Line). step_of l.step) (take i lines) (drop i lines)
 
-steps_few : (lines : List Step) (i : ℕ) → i ≤ length lines → length (steps_of (take i lines)) ≡ i
-steps_few lines i h = length-map (take i lines) step_of ∙ length-take-le i lines h
+steps_few : (lines : List Line) (i : ℕ) → i ≤ length lines → length (steps_of (take i lines)) ≡ i
+steps_few lines i h = length-map (take i lines) (λ (l : Line). step_of l.step) ∙ length-take-le i lines h
 
 -- an agent that was just opened is up
 pub opens_up : (rules : List Rule) (x : AgentOpening) → (just_opened rules x).up ≡ true
@@ -56,16 +61,16 @@ module _ (rules : List Rule) (batch : ℕ) (x : AgentOpening) (Quiet : Type 0) w
     text = subst (λ t. TakesFront out out t []) (sym (nothing_printed rules x)) (front_none out);
   }
 
-  -- one line more
-  pub course_more : (step : PlainStep) (Now : Type 0) (a b : AgentSeen) (may may' : AgentMay) (steps : List PlainStep) (first out : Option (List ℕ)) (waiting now text : List ℕ) → (Quiet → Now)
-      → OnCourse rules batch x a may steps Quiet first out waiting → Steps rules batch step Now a may b may' text → now ≡ waiting ++ text
-      → OnCourse rules batch x b may' (steps ++ step ∷ []) Quiet first out now
-  course_more step Now a b may may' steps first out waiting now text still on line is =
+  -- some lines more
+  pub course_more : (ran : List PlainStep) (Now : Type 0) (a b : AgentSeen) (may may' : AgentMay) (steps : List PlainStep) (first out : Option (List ℕ)) (waiting now text : List ℕ) → (Quiet → Now)
+      → OnCourse rules batch x a may steps Quiet first out waiting → Steps rules batch ran Now a may b may' text → now ≡ waiting ++ text
+      → OnCourse rules batch x b may' (steps ++ ran) Quiet first out now
+  course_more ran Now a b may may' steps first out waiting now text still on line is =
       let next = line x on.course on.on in
       record {
         course = next.0;
         on = next.1;
-        runs = next.2.steps ∙ ap (λ ss. ss ++ step ∷ []) on.runs;
+        runs = next.2.steps ∙ ap (λ ss. ss ++ ran) on.runs;
         downs = λ q. next.2.downs (still q) ∙ on.downs q;
         text =
             subst (λ t. TakesFront first out t now) (sym next.2.prints)
@@ -99,6 +104,10 @@ module _ (rules : List Rule) (batch : ℕ) (x : AgentOpening) (Quiet : Type 0) w
     unfolding history_replies text_on
     lost_text = refl
 
+    lost_leaves : Leaves rules batch x may lost
+    unfolding On
+    lost_leaves d n left = left_of_kept rules batch x on.course on.on.batches on.on.whole on.on.short d n (on.on.images d n left)
+
     -- or it was committed
     abbrev answered : History PlainAction
     answered = history_of (machine rules) keeping x true (answer_all on.course)
@@ -115,8 +124,24 @@ module _ (rules : List Rule) (batch : ℕ) (x : AgentOpening) (Quiet : Type 0) w
     unfolding history_replies text_on
     answered_text up = text_answered rules batch x on.course a may on.on up
 
+    -- what a commit leads to
+    committed_base : a.up ≡ true → (after_commit rules a).base ≡ base_of (machine rules) keeping (last_opening (machine rules) keeping x on.course) (executed_lines on.course)
+    committed_base up =
+        let o = last_opening (machine rules) keeping x on.course in
+        ap (λ s. (committed (machine rules) keeping s).base) (on_up rules batch x on.course a may on.on up).1 ∙ ap (λ s. s.base) (committed_stands (machine rules) keeping o on.course)
+        ∙ base_is (machine rules) keeping o (answer_all on.course)
+
+    answered_leaves : (b : AgentSeen) (may' : AgentMay) → Commits rules a b may' → Leaves rules batch x may' answered
+    answered_leaves b may' done d n left = left_of_answered rules batch x on.course d n (on_up rules batch x on.course a may on.on done.0).0
+        (subst (λ base. IsAt base d n) (ap (λ s. s.base) done.1 ∙ committed_base done.0) (done.2 d n left))
+
+    tried_leaves : (b : AgentSeen) (may' : AgentMay) → Fails rules a a b may may' (a.up ≡ true) → Leaves rules batch x may' lost
+    tried_leaves b may' goes d n left = ⊎_elim (lost_leaves d n)
+        (λ tried. left_of_executed rules batch x on.course d n (on_up rules batch x on.course a may on.on tried.0).0 (subst (λ base. IsAt base d n) (committed_base tried.0) tried.1))
+        (goes.images d n left)
+
     -- the run was stopped after these lines, and a part of what waits was written
-    pub course_stopped : (all rest : List PlainStep) (later : Option (List ℕ)) → all ≡ steps ++ rest → TakesPrefix out later waiting → Stopped rules batch x Quiet all first later
+    pub course_stopped : (all rest : List PlainStep) (later : Option (List ℕ)) → all ≡ steps ++ rest → TakesPrefix out later waiting → Stopped rules batch x Quiet all first later (Leaves rules batch x may)
     course_stopped all rest later parts took = record {
       front = steps;
       rest = rest;
@@ -124,73 +149,116 @@ module _ (rules : List Rule) (batch : ℕ) (x : AgentOpening) (Quiet : Type 0) w
       history = lost;
       «is» = lost_is;
       text = subst (TakesPrefix first later) (sym lost_text) (front_part first out later (text_on rules x on.course) waiting on.text took);
+      left = lost_leaves;
     }
 
-    -- memory was wanting
-    pub course_memory : (all rest : List PlainStep) (later : Option (List ℕ)) (ending : Ending) (count rose : ℕ) → all ≡ steps ++ rest → Ended Memory ending out later count rose waiting
-        → WritesLines ending rules batch x Quiet all first later
-    course_memory all rest later ending count rose parts ended = ⊎_elim
-        (λ ok. subst (λ s. WritesLines s rules batch x Quiet all first later) (sym ok.0) (course_stopped all rest later parts (prefix_all out later waiting ok.1.0)))
-        (λ fault. subst (λ s. WritesLines s rules batch x Quiet all first later) (sym fault.0) (course_stopped all rest later parts fault.1.0))
+    -- memory was wanting, and a part of what should wait does
+    pub course_memory : (all rest : List PlainStep) (later : Option (List ℕ)) (shown more : List ℕ) (ending : Ending) (count rose : ℕ) → all ≡ steps ++ rest → waiting ≡ shown ++ more → Ended Memory ending out later count rose shown
+        → WritesLines ending rules batch x Quiet all first later (Leaves rules batch x may)
+    course_memory all rest later shown more ending count rose parts is ended = ⊎_elim
+        (λ ok. subst (λ s. WritesLines s rules batch x Quiet all first later (Leaves rules batch x may)) (sym ok.0) (course_stopped all rest later parts (subst (TakesPrefix out later) (sym is) (prefix_front out later shown more ok.1.0))))
+        (λ fault. subst (λ s. WritesLines s rules batch x Quiet all first later (Leaves rules batch x may)) (sym fault.0) (course_stopped all rest later parts (subst (TakesPrefix out later) (sym is) (prefix_longer out later shown more fault.1.0))))
         ended
 
     no_rest : steps ≡ steps ++ []
     no_rest = sym (append-nil steps)
 
-    -- the lines that waited were answered, and all that waits was written or a part
-    done_ended : (ending : Ending) (now : List ℕ) (later : Option (List ℕ)) (count rose : ℕ) → (a.up ≡ true) × (now ≡ waiting ++ text_of a.held) → Ended Done ending out later count rose now
-        → WritesLines ending rules batch x Quiet steps first later
-    done_ended ending now later count rose (up, is) ended =
-        let text = text_on rules x on.course ++ text_of a.held in
-        let front : TakesFront first out text now = subst (TakesFront first out text) (sym is) (front_more first out out (text_on rules x on.course) waiting on.text (text_of a.held)) in
+    -- the lines that waited were committed, and a part of the text was written
+    answered_stopped : (b : AgentSeen) (may' : AgentMay) (later : Option (List ℕ)) → Commits rules a b may' → TakesPrefix out later (waiting ++ text_of a.held) → Stopped rules batch x Quiet steps first later (Leaves rules batch x may')
+    answered_stopped b may' later done took = record {
+      front = steps;
+      rest = [];
+      parts = no_rest;
+      history = answered;
+      «is» = answered_is done.0;
+      text =
+          subst (TakesPrefix first later) (sym (answered_text done.0))
+          (front_part first out later (text_on rules x on.course ++ text_of a.held) (waiting ++ text_of a.held) (front_more first out out (text_on rules x on.course) waiting on.text (text_of a.held)) took);
+      left = answered_leaves b may' done;
+    }
+
+    -- they were, and all that waits was written or a part
+    done_ended : (b : AgentSeen) (may' : AgentMay) (ending : Ending) (now : List ℕ) (later : Option (List ℕ)) (count rose : ℕ) → Commits rules a b may' → now ≡ waiting ++ text_of a.held → Ended Done ending out later count rose now
+        → WritesLines ending rules batch x Quiet steps first later (Leaves rules batch x may')
+    done_ended b may' ending now later count rose done is ended =
+        let front : TakesFront first out (text_on rules x on.course ++ text_of a.held) (waiting ++ text_of a.held) = front_more first out out (text_on rules x on.course) waiting on.text (text_of a.held) in
         ⊎_elim
-        (λ ok. subst (λ s. WritesLines s rules batch x Quiet steps first later) (sym ok.0) (
-          record { history = answered; «is» = answered_is up; text = subst (Takes first later) (sym (answered_text up)) (front_end first out later text now front ok.1.0) },
-          ((on_up rules batch x on.course a may on.on up).0, refl),
+        (λ ok. subst (λ s. WritesLines s rules batch x Quiet steps first later (Leaves rules batch x may')) (sym ok.0) (
+          record {
+            history = answered;
+            «is» = answered_is done.0;
+            text = subst (Takes first later) (sym (answered_text done.0)) (front_end first out later (text_on rules x on.course ++ text_of a.held) (waiting ++ text_of a.held) front (subst (Takes out later) is ok.1.0));
+            left = answered_leaves b may' done;
+          },
+          ((on_up rules batch x on.course a may on.on done.0).0, refl),
         ))
-        (λ fault. subst (λ s. WritesLines s rules batch x Quiet steps first later) (sym fault.0) (record {
-          front = steps;
-          rest = [];
-          parts = no_rest;
-          history = answered;
-          «is» = answered_is up;
-          text = subst (TakesPrefix first later) (sym (answered_text up)) (front_part first out later text now front fault.1.0);
-        }))
+        (λ fault. subst (λ s. WritesLines s rules batch x Quiet steps first later (Leaves rules batch x may')) (sym fault.0) (answered_stopped b may' later done (subst (TakesPrefix out later) is fault.1.0)))
+        ended
+
+    -- they were, and memory was wanting for their text
+    answered_memory : (b : AgentSeen) (may' : AgentMay) (ending : Ending) (later : Option (List ℕ)) (count rose : ℕ) → Commits rules a b may' → Ended Memory ending out later count rose waiting
+        → WritesLines ending rules batch x Quiet steps first later (Leaves rules batch x may')
+    answered_memory b may' ending later count rose done ended = ⊎_elim
+        (λ ok. subst (λ s. WritesLines s rules batch x Quiet steps first later (Leaves rules batch x may')) (sym ok.0) (answered_stopped b may' later done (prefix_front out later waiting (text_of a.held) ok.1.0)))
+        (λ fault. subst (λ s. WritesLines s rules batch x Quiet steps first later (Leaves rules batch x may')) (sym fault.0) (answered_stopped b may' later done (prefix_longer out later waiting (text_of a.held) fault.1.0)))
         ended
 
     -- the last commit failed
-    device_ended : (ending : Ending) (later : Option (List ℕ)) (count rose : ℕ) → (Quiet → ⊥) → Ended Device ending out later count rose waiting
-        → WritesLines ending rules batch x Quiet steps first later
-    device_ended ending later count rose loud ended = ⊎_elim
-        (λ ok. subst (λ s. WritesLines s rules batch x Quiet steps first later) (sym ok.0) (
+    device_ended : (b : AgentSeen) (may' : AgentMay) (ending : Ending) (later : Option (List ℕ)) (count rose : ℕ) → (Quiet → ⊥) → Fails rules a a b may may' (a.up ≡ true) → Ended Device ending out later count rose waiting
+        → WritesLines ending rules batch x Quiet steps first later (Leaves rules batch x may')
+    device_ended b may' ending later count rose loud goes ended = ⊎_elim
+        (λ ok. subst (λ s. WritesLines s rules batch x Quiet steps first later (Leaves rules batch x may')) (sym ok.0) (
+          record {
+            history = lost;
+            «is» = lost_is;
+            text = subst (Takes first later) (sym lost_text) (front_end first out later (text_on rules x on.course) waiting on.text ok.1.0);
+            left = tried_leaves b may' goes;
+          },
+          inr refl,
           loud,
-          record { history = lost; «is» = lost_is; text = subst (Takes first later) (sym lost_text) (front_end first out later (text_on rules x on.course) waiting on.text ok.1.0) },
         ))
-        (λ fault. subst (λ s. WritesLines s rules batch x Quiet steps first later) (sym fault.0) (course_stopped steps [] later no_rest fault.1.0))
+        (λ fault. subst (λ s. WritesLines s rules batch x Quiet steps first later (Leaves rules batch x may')) (sym fault.0) (record {
+          front = steps;
+          rest = [];
+          parts = no_rest;
+          history = lost;
+          «is» = lost_is;
+          text = subst (TakesPrefix first later) (sym lost_text) (front_part first out later (text_on rules x on.course) waiting on.text fault.1.0);
+          left = tried_leaves b may' goes;
+        }))
+        ended
+
+    -- memory was wanting, and the agent is as it was
+    same_memory : (b : AgentSeen) (may' : AgentMay) (ending : Ending) (later : Option (List ℕ)) (count rose : ℕ) → Same a may b may' → Ended Memory ending out later count rose waiting
+        → WritesLines ending rules batch x Quiet steps first later (Leaves rules batch x may')
+    same_memory b may' ending later count rose same ended =
+        let stopped : TakesPrefix out later waiting → Stopped rules batch x Quiet steps first later (Leaves rules batch x may') = λ took. record {
+          front = steps;
+          rest = [];
+          parts = no_rest;
+          history = lost;
+          «is» = lost_is;
+          text = subst (TakesPrefix first later) (sym lost_text) (front_part first out later (text_on rules x on.course) waiting on.text took);
+          left = λ d n left. lost_leaves d n (same.1 d n left);
+        } in
+        ⊎_elim
+        (λ ok. subst (λ s. WritesLines s rules batch x Quiet steps first later (Leaves rules batch x may')) (sym ok.0) (stopped (prefix_all out later waiting ok.1.0)))
+        (λ fault. subst (λ s. WritesLines s rules batch x Quiet steps first later (Leaves rules batch x may')) (sym fault.0) (stopped fault.1.0))
         ended
 
     -- the end of the lines
-    pub course_ends : (old : View) (asking ending : Ending) (now : List ℕ) (later : Option (List ℕ)) (count rose : ℕ) → (Quiet → IsQuiet a old) → EndsWith a old asking waiting now
-        → Ended asking ending out later count rose now → WritesLines ending rules batch x Quiet steps first later
-    course_ends old Done ending now later count rose still ends ended = done_ended ending now later count rose ends ended
-    course_ends old Device ending now later count rose still ends ended = device_ended ending later count rose (λ q. ends.1 (still q)) (subst (Ended Device ending out later count rose) ends.0 ended)
-    course_ends old Memory ending now later count rose still ends ended = course_memory steps [] later ending count rose no_rest (subst (Ended Memory ending out later count rose) ends ended)
-    course_ends old Write ending now later count rose still ends ended = absurd ends
-
--- one line more of those that are given
-pub line_more : (rules mine : List Rule) (batch size : ℕ) (x : AgentOpening) (Quiet : Type 0) (lines : List Step) (i : ℕ) (item : Step) (a b : AgentSeen) (may may' : AgentMay) (old new : View) (first out : Option (List ℕ)) (waiting now : List ℕ)
-    → i < length lines → item ≡ get_or lines i item → mine ≡ rules → size ≡ batch → (Quiet → IsQuiet a old) → OnCourse rules batch x a may (steps_of (take i lines)) Quiet first out waiting
-    → StepMeans mine size (step_of item) a b old new may may' waiting now → OnCourse rules batch x b may' (steps_of (take (i + 1) lines)) Quiet first out now
-line_more rules mine batch size x Quiet lines i item a b may may' old new first out waiting now within is_item is_rules is_batch still on means =
-    let line : Steps rules batch (step_of item) (IsQuiet a old) a may b may' means.text =
-    subst (λ n. Steps rules n (step_of item) (IsQuiet a old) a may b may' means.text) is_batch (subst (λ rs. Steps rs size (step_of item) (IsQuiet a old) a may b may' means.text) is_rules means.steps) in
-    let steps : steps_of (take i lines) ++ step_of item ∷ [] ≡ steps_of (take (i + 1) lines) =
-    ap (λ (l : Step). steps_of (take i lines) ++ step_of l ∷ []) is_item ∙ sym (steps_more lines i item within) in
-    subst (λ ss. OnCourse rules batch x b may' ss Quiet first out now) steps
-    (course_more rules batch x Quiet (step_of item) (IsQuiet a old) a b may may' (steps_of (take i lines)) first out waiting now means.text still on line means.waits)
+    pub course_ends : (b : AgentSeen) (may' : AgentMay) (old new : View) (asking ending : Ending) (now : List ℕ) (later : Option (List ℕ)) (count rose : ℕ) → (Quiet → IsQuiet a old) → EndsWith rules a b may may' old new asking waiting now
+        → Ended asking ending out later count rose now → WritesLines ending rules batch x Quiet steps first later (Leaves rules batch x may')
+    course_ends b may' old new Done ending now later count rose still ends ended = done_ended b may' ending now later count rose ends.0 ends.1 ended
+    course_ends b may' old new Device ending now later count rose still ends ended = device_ended b may' ending later count rose (λ q. ends.2 (still q)) ends.0 (subst (Ended Device ending out later count rose) ends.1 ended)
+    course_ends b may' old new Memory ending now later count rose still ends ended =
+        let waits : Ended Memory ending out later count rose waiting = subst (Ended Memory ending out later count rose) ends.1 ended in
+        ⊎_elim (λ done. answered_memory b may' ending later count rose done waits) (λ same. same_memory b may' ending later count rose same waits) ends.0
+    course_ends b may' old new Write ending now later count rose still ends ended = absurd ends
+    course_ends b may' old new (Store why) ending now later count rose still ends ended = absurd ends
 
 -- changes stay in range before each line
-pub lines_fit : (rules : List Rule) (batch : ℕ) (x : AgentOpening) (Quiet : Type 0) (lines : List Step) (i : ℕ) (a : AgentSeen) (may : AgentMay) (first out : Option (List ℕ)) (waiting : List ℕ) → i ≤ length lines → length lines + 2 < 2 ^ 64
+pub lines_fit : (rules : List Rule) (batch : ℕ) (x : AgentOpening) (Quiet : Type 0) (lines : List Line) (i : ℕ) (a : AgentSeen) (may : AgentMay) (first out : Option (List ℕ)) (waiting : List ℕ) → i ≤ length lines → length lines + 2 < 2 ^ 64
     → OnCourse rules batch x a may (steps_of (take i lines)) Quiet first out waiting → Fits a
 lines_fit rules batch x Quiet lines i a may first out waiting h fits on =
     course_fits rules batch x Quiet a may (steps_of (take i lines)) first out waiting on (omega (arith, steps_few lines i h, h, fits))

@@ -1,5 +1,6 @@
 -- What was taken in pieces, as a part of the whole.
 use Rattle.std.proofs.Common.{ℕ, ◌+◌, List, ◌++◌, Option, take, length, refl, sym, ap, subst, ◌∙◌, arith, length-append, append-nil, append_assoc, []}
+use Rattle.std.proofs.lemmas.List.{take-append-le}
 use Rattle.std.proofs.Math.Seq.{take-append-add, take-append_seam}
 use Rattle.agent_base.specs.Streams.{Takes, TakesPrefix}
 use Rattle.agent_base.proofs.Pieces.{takes_append, takes_none}
@@ -20,6 +21,14 @@ prefix_after a b c front piece takes (count, within, more) = (
   length front + count,
   omega (arith, length-append front piece),
   subst (Takes a c) (sym (take-append-add front piece count)) (takes_append a b c front (take count piece) takes more),
+)
+
+-- a part of a text is a part of a longer one
+pub prefix_longer : (a b : Option (List ℕ)) (text more : List ℕ) → TakesPrefix a b text → TakesPrefix a b (text ++ more)
+prefix_longer a b text more (count, within, takes) = (
+  count,
+  omega (arith, within, length-append text more),
+  subst (Takes a b) (sym (take-append-le count text more within)) takes,
 )
 
 -- ---- a text of which the front was taken, and the rest is held

@@ -1,6 +1,10 @@
 -- What contracts cite.
 pub mod Steps
+pub mod Endings
+pub mod Openings
 pub mod Runs
+pub mod Disks
 -- What private functions compute. No public clause rests on it.
 pub mod Waiting
 pub mod Courses
+pub mod Calls

@@ -1,18 +1,17 @@
 //! Runs of lines over an agent on a disk, over restarts and cuts of the power.
 //!
-//! [`run_lines`] runs lines over an agent and writes their replies. [`run_in_memory`] does so over
-//! a new store on a disk in memory. What a run writes is what is printed of a history, and by
+//! [`run_lines`] runs lines over an agent and writes their replies. [`run_on`] does so over the
+//! store on a disk, and hands the disk back; [`run_in_memory`] over a new store on a disk in
+//! memory. What a run writes is what is printed of a history, and by
 //! `printed_model::printed_histories` the lines of each site in it are those of its own machine.
 #![tactic(auto)]
 
+mod disks;
 mod ending;
 mod lines;
-mod memory;
 mod replies;
-mod step;
 mod waiting;
 
+pub use disks::{Finished, run_in_memory, run_on};
 pub use ending::Ending;
 pub use lines::run_lines;
-pub use memory::run_in_memory;
-pub use step::Step;

@@ -1,21 +1,27 @@
 //! Lines, run one by one over an agent. Their replies wait in memory, and are written together.
-ghost use Rattle.std.specs.Prelude.{◌≡◌, ◌<◌, ◌+◌, ◌^◌, length, OnErr, OnOk};
+ghost use Rattle.std.specs.Prelude.{◌≡◌, ◌<◌, ◌+◌, ◌^◌, IfErr, OnErr, OnOk, length};
 ghost use Rattle.unwinding.specs.Admissible.{Acts, Reopens};
+ghost use Rattle.agent_base.specs.Counts.{Rose};
 ghost use Rattle.durable_model.specs.Histories.{AgentOpening};
-ghost use Rattle.script_lines.specs.Plain.{action_of};
+ghost use Rattle.script_actions.specs.Plain.{action_of, step_of};
 ghost use Rattle.agent_core.specs.Seen.{AgentSeen, IsSeen};
-ghost use Rattle.store_runs.specs.Courses.{EndsWith, GoesOn, IsEnd, Stepped};
-ghost use Rattle.store_runs.specs.Runs.{HasNoCuts, IsOpenedAt, WriteCounts, WritesLines};
-ghost use Rattle.store_runs.specs.Steps.{step_of, steps_of};
+ghost use Rattle.store_runs.specs.Calls.{Ends, IsEnd, Stepped, Stops};
+ghost use Rattle.store_runs.specs.Endings.{IsStoreEnding, TellsPower, WriteCounts};
+ghost use Rattle.store_runs.specs.Openings.{GoesOn, IsOpenedAt};
+ghost use Rattle.store_runs.specs.Runs.{HasNoCuts, LeavesHistory};
+ghost use Rattle.store_runs.specs.Openings.{list_of};
+ghost use Rattle.store_runs.specs.Runs.{WritesLines};
+ghost use Rattle.store_runs.specs.Steps.{steps_of};
 
+use crate::Ending;
+use crate::ending::refused;
 use crate::replies::{down, restarted};
 use crate::waiting::{end, hold, hold_all, write_many};
-use crate::{Ending, Step};
 use agent_base::{NoMemory, Sink};
 use agent_core::{Agent, Outcome};
 use disk_model::Disk;
 use journal::OpenFault;
-use script_lines::Action;
+use script_actions::{Action, Line, Step};
 use std::alloc::Global;
 
 /// Runs the lines over an agent, and writes the replies to `out`.
@@ -25,7 +31,7 @@ use std::alloc::Global;
 pub fn run_lines<D: Disk + Drop, O: Sink>(
     alloc: Global,
     agent: &mut Agent<'_, D>,
-    lines: &[Step],
+    lines: &[Line],
     out: &mut O,
 ) -> Ending
     requires fits { length lines.now + 2 < 2 ^ 64 }
@@ -34,15 +40,26 @@ pub fn run_lines<D: Disk + Drop, O: Sink>(
         → IsOpenedAt agent.old (D.view agent.old.disk) opening
         → WritesLines result agent.old.memory.rules agent.old.batch opening
         (HasNoCuts (D.view agent.old.disk)) (steps_of lines.now)
-        (O.taken out.old) (O.taken out.new) }
+        (O.taken out.old) (O.taken out.new)
+        (LeavesHistory (list_of agent.old) agent.old.batch opening
+        (D.view agent.new.disk).may_leave) }
+    ensures power { (opening : AgentOpening)
+        → IsOpenedAt agent.old (D.view agent.old.disk) opening
+        → TellsPower result agent.new.power }
+    ensures device { (opening : AgentOpening)
+        → IsOpenedAt agent.old (D.view agent.old.disk) opening → result ≡ Ending.Device
+        → Rose (D.view agent.old.disk).faults (D.view agent.new.disk).faults }
+    ensures store { IsStoreEnding result }
+    ensures goes_on { GoesOn D.view agent.old agent.new }
     ensures write { WriteCounts result (O.faults out.old) (O.faults out.new) }
 {
     let mut text = Vec::new(alloc);
     let mut waiting = Vec::new(alloc);
     for line in lines {
-        let Ok(()) = step(agent, line, &mut text, &mut waiting) else {
-            return end(out, &waiting, Ending::Memory);
-        };
+        match step(agent, &line.step, &mut text, &mut waiting) {
+            Ok(()) => {}
+            Err(ending) => return end(out, &waiting, ending),
+        }
         let Ok(()) = write_many(out, &mut waiting) else {
             return Ending::Write;
         };
@@ -57,9 +74,10 @@ fn step<D: Disk + Drop>(
     step: &Step,
     text: &mut Vec<u8>,
     waiting: &mut Vec<u8>,
-) -> Result<(), NoMemory>
+) -> Result<(), Ending>
     ensures stepped { OnOk result (Stepped D.view agent.old agent.new (step_of step.now)
         waiting.old.items waiting.new.items) }
+    ensures stops { IfErr result (Stops D.view agent.old agent.new (step_of step.now)) }
     ensures goes_on { GoesOn D.view agent.old agent.new }
     ensures unchanged { OnErr result (waiting.new.items ≡ waiting.old.items) }
 {
@@ -76,18 +94,19 @@ fn act<D: Disk + Drop>(
     action: &Action,
     text: &mut Vec<u8>,
     waiting: &mut Vec<u8>,
-) -> Result<(), NoMemory>
+) -> Result<(), Ending>
     requires { step_of step.now ≡ Acts (action_of action.now) }
     ensures stepped { OnOk result (Stepped D.view agent.old agent.new (step_of step.now)
         waiting.old.items waiting.new.items) }
+    ensures stops { IfErr result (Stops D.view agent.old agent.new (step_of step.now)) }
     ensures goes_on { GoesOn D.view agent.old agent.new }
     ensures unchanged { OnErr result (waiting.new.items ≡ waiting.old.items) }
 {
     match agent.line(action) {
-        Outcome::Replies(replies) => hold_all(&replies, text, waiting),
+        Outcome::Replies(replies) => Ok(hold_all(&replies, text, waiting)?),
         Outcome::Held => Ok(()),
-        Outcome::Down => hold(&down(step), text, waiting),
-        Outcome::NoMemory => Err(NoMemory),
+        Outcome::Down => Ok(hold(&down(step), text, waiting)?),
+        Outcome::NoMemory => Err(Ending::Memory),
     }
 }
 
@@ -98,17 +117,20 @@ fn reopen<D: Disk + Drop>(
     step: &Step,
     text: &mut Vec<u8>,
     waiting: &mut Vec<u8>,
-) -> Result<(), NoMemory>
+) -> Result<(), Ending>
     requires { step_of step.now ≡ Reopens }
     ensures stepped { OnOk result (Stepped D.view agent.old agent.new (step_of step.now)
         waiting.old.items waiting.new.items) }
+    ensures stops { IfErr result (Stops D.view agent.old agent.new (step_of step.now)) }
     ensures goes_on { GoesOn D.view agent.old agent.new }
     ensures unchanged { OnErr result (waiting.new.items ≡ waiting.old.items) }
 {
     match agent.restart() {
-        Ok(kept) => hold(&restarted(kept), text, waiting),
-        Err(OpenFault::DeviceFault) => hold(&down(step), text, waiting),
-        Err(_) => Err(NoMemory),
+        Ok(kept) => Ok(hold(&restarted(kept), text, waiting)?),
+        Err(why) => match why {
+            OpenFault::DeviceFault => Ok(hold(&down(step), text, waiting)?),
+            _ => Err(refused(why)),
+        },
     }
 }
 
@@ -119,8 +141,8 @@ fn last_commit<D: Disk + Drop>(
     text: &mut Vec<u8>,
     waiting: &mut Vec<u8>,
 ) -> Ending
-    ensures ends { (a : AgentSeen) → IsSeen agent.old (D.view agent.old.disk) a
-        → EndsWith a (D.view agent.old.disk) result waiting.old.items waiting.new.items }
+    ensures ends { Ends D.view agent.old agent.new result waiting.old.items waiting.new.items }
+    ensures goes_on { GoesOn D.view agent.old agent.new }
     ensures ending { IsEnd result }
 {
     match agent.flush() {
@@ -129,6 +151,7 @@ fn last_commit<D: Disk + Drop>(
             Err(NoMemory) => Ending::Memory,
         },
         Outcome::Down => Ending::Device,
-        Outcome::Held | Outcome::NoMemory => Ending::Memory,
+        Outcome::Held => Ending::Memory,
+        Outcome::NoMemory => Ending::Memory,
     }
 }

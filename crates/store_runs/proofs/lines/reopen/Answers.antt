@@ -1,44 +1,61 @@
 use Rattle.std.proofs.Common.{◌++◌, sym, ap, subst, ◌∙◌}
-use Rattle.std.proofs.lemmas.Result.{on_ok_weaker}
 use Rattle.std.specs.Prelude.{Ok, Err}
 use Rattle.journal.specs.declared.open_fault.OpenFault.TheVariants as fault
 use Rattle.reply_lines.specs.Reply.{reply_text}
 use Rattle.agent_model.specs.Isolation.{printed}
-use Rattle.store_runs.specs.Courses.{Stepped}
+use Rattle.unwinding.specs.Admissible.{Reopens}
 use Rattle.printed_model.specs.Histories.{down_reply}
-use Rattle.store_runs.proofs.AgentLemmas.{restart_steps}
+use Rattle.store_runs.specs.Calls.{Stepped, Stops}
+use Rattle.store_runs.specs.Endings.{ending_of}
+use Rattle.store_runs.specs.declared.ending.Ending.TheVariants.{Memory}
+use Rattle.store_runs.proofs.AgentLemmas.{restart_called, restart_stops, restart_text, stops_ran, wanting_stops}
 use Rattle.store_runs.proofs.lines.reopen.Goals as goal
 
-pub returns-in-Ok-clause-stepped : goal.returns-in-Ok-clause-stepped
-returns-in-Ok-clause-stepped g c =
+pub returns-in_ok-hold-in-Ok-clause-stepped : goal.returns-in_ok-hold-in-Ok-clause-stepped
+returns-in_ok-hold-in-Ok-clause-stepped g c =
     let old = c.args.agent.now in
     let new = c.restart.new.self in
     let before = c.args.waiting.now.items in
     let now = c.hold.new.waiting.items in
-    on_ok_weaker c.hold.result
-    (λ text. subst (λ step. Stepped g.D.Disk.view old new step before now) (sym c.requires)
-    (restart_steps g.D.Disk.view old new (Ok c.in-Ok.kept) before now c.in-Ok.ensures.means c.in-Ok.ensures.device
-    (text ∙ ap (λ reply. before ++ reply_text reply) c.restarted.ensures)))
-    c.hold.ensures.text
+    let all : Stepped g.D.Disk.view old new Reopens before now = (
+      restart_text (Ok c.in-Ok.kept),
+      c.in_ok-hold-in-Ok.ensures.text ∙ ap (λ reply. before ++ reply_text reply) c.restarted.ensures,
+      restart_called g.D.Disk.view old new (Ok c.in-Ok.kept) c.in-Ok.ensures.means c.in-Ok.ensures.device,
+    ) in
+    subst (λ step. Stepped g.D.Disk.view old new step before now) (sym c.requires) all
 
-pub returns-in-Err-DeviceFault-clause-stepped : goal.returns-in-Err-DeviceFault-clause-stepped
-returns-in-Err-DeviceFault-clause-stepped g c =
+pub returns-in_err-hold-in-Ok-clause-stops : goal.returns-in_err-hold-in-Ok-clause-stops
+returns-in_err-hold-in-Ok-clause-stops g c =
+    let old = c.args.agent.now in
+    let new = c.restart.new.self in
+    let stops : Stops g.D.Disk.view old new Reopens Memory = stops_ran g.D.Disk.view old new Reopens (restart_text (Ok c.in-Ok.kept))
+    (restart_called g.D.Disk.view old new (Ok c.in-Ok.kept) c.in-Ok.ensures.means c.in-Ok.ensures.device) in
+    wanting_stops c.from_residual.result (Stops g.D.Disk.view old new _) c.from_residual.ensures.1 (subst (λ step. Stops g.D.Disk.view old new step Memory) (sym c.requires) stops)
+
+pub returns-in_ok-hold-in-DeviceFault-clause-stepped : goal.returns-in_ok-hold-in-DeviceFault-clause-stepped
+returns-in_ok-hold-in-DeviceFault-clause-stepped g c =
     let old = c.args.agent.now in
     let new = c.restart.new.self in
     let before = c.args.waiting.now.items in
-    let now = c.hold-in-Err-DeviceFault.new.waiting.items in
-    on_ok_weaker c.hold-in-Err-DeviceFault.result
-    (λ text. subst (λ step. Stepped g.D.Disk.view old new step before now) (sym c.requires)
-    (restart_steps g.D.Disk.view old new (Err fault.DeviceFault) before now
-    (rw c.in-Err-DeviceFault.field-0-is at c.in-Err-DeviceFault.ensures.means) (rw c.in-Err-DeviceFault.field-0-is at c.in-Err-DeviceFault.ensures.device)
-    (text ∙ ap (λ reply. before ++ reply_text reply) (c.down.ensures ∙ ap (λ step. printed (down_reply step)) c.requires))))
-    c.hold-in-Err-DeviceFault.ensures.text
+    let now = c.hold-in-DeviceFault.new.waiting.items in
+    let all : Stepped g.D.Disk.view old new Reopens before now = (
+      restart_text (Err fault.DeviceFault),
+      c.in_ok-hold-in-DeviceFault.ensures.text ∙ ap (λ reply. before ++ reply_text reply) (c.down.ensures ∙ ap (λ step. printed (down_reply step)) c.requires),
+      restart_called g.D.Disk.view old new (Err fault.DeviceFault) (rw c.in-DeviceFault.is at c.in-Err.ensures.means) (rw c.in-DeviceFault.is at c.in-Err.ensures.device),
+    ) in
+    subst (λ step. Stepped g.D.Disk.view old new step before now) (sym c.requires) all
 
-pub returns-in-Ok-clause-goes_on : goal.returns-in-Ok-clause-goes_on
-returns-in-Ok-clause-goes_on g c = (c.restart.ensures.rules.0, c.restart.ensures.rules.2, c.restart.ensures.device.tells)
+pub returns-in_err-hold-in-DeviceFault-clause-stops : goal.returns-in_err-hold-in-DeviceFault-clause-stops
+returns-in_err-hold-in-DeviceFault-clause-stops g c =
+    let old = c.args.agent.now in
+    let new = c.restart.new.self in
+    let stops : Stops g.D.Disk.view old new Reopens Memory = stops_ran g.D.Disk.view old new Reopens (restart_text (Err fault.DeviceFault))
+    (restart_called g.D.Disk.view old new (Err fault.DeviceFault) (rw c.in-DeviceFault.is at c.in-Err.ensures.means) (rw c.in-DeviceFault.is at c.in-Err.ensures.device)) in
+    wanting_stops c.from_residual-in_err-hold-in-DeviceFault.result (Stops g.D.Disk.view old new _) c.from_residual-in_err-hold-in-DeviceFault.ensures.1 (subst (λ step. Stops g.D.Disk.view old new step Memory) (sym c.requires) stops)
 
-pub returns-in-Err-DeviceFault-clause-goes_on : goal.returns-in-Err-DeviceFault-clause-goes_on
-returns-in-Err-DeviceFault-clause-goes_on g c = (c.restart.ensures.rules.0, c.restart.ensures.rules.2, c.restart.ensures.device.tells)
-
-pub returns-in-Err-clause-goes_on : goal.returns-in-Err-clause-goes_on
-returns-in-Err-clause-goes_on g c = (c.restart.ensures.rules.0, c.restart.ensures.rules.2, c.restart.ensures.device.tells)
+pub returns-in_default-clause-stops : goal.returns-in_default-clause-stops
+returns-in_default-clause-stops g c =
+    let old = c.args.agent.now in
+    let new = c.restart.new.self in
+    let stops : Stops g.D.Disk.view old new Reopens (ending_of c.in-Err.why) = restart_stops g.D.Disk.view old new c.in-Err.why c.in_default.not-DeviceFault c.in-Err.ensures.means c.in-Err.ensures.device in
+    subst (λ step. Stops g.D.Disk.view old new step c.refused.result) (sym c.requires) (subst (Stops g.D.Disk.view old new Reopens) (sym c.refused.ensures) stops)

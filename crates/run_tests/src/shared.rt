@@ -1,0 +1,86 @@
+//! Lists, lines, cuts and outputs of the tests.
+ghost use Rattle.std.specs.Prelude.{◌≤◌, IfOk};
+ghost use Rattle.agent_model.specs.Rest.{last_moment};
+ghost use Rattle.disk_model.specs.Schedule.{AreFrom};
+
+use agent_base::{MemSink, MemSource, NoMemory};
+use agent_core::Options;
+use disk_model::Cut;
+use script_actions::Line;
+use script_lines::Script;
+use std::alloc::{AllocError, Global};
+use std::test::Fail;
+use suffix_list::SuffixList;
+
+/// The line that opens the store again.
+pub const RESTART: &str = "{\"do\":\"restart\"}";
+
+/// Batches of so many lines, from a moment of the year 2001 on.
+pub fn options(batch: u16) -> Options
+    ensures start { result.start ≤ last_moment }
+    ensures batch { (1 ≤ result.batch) × (result.batch ≤ 256) }
+{
+    Options {
+        start: 1_000_000_000,
+        batch: batch.max(1).min(256),
+    }
+}
+
+fn source_of(alloc: Global, text: &str) -> Result<MemSource, Fail> {
+    let bytes = Vec::from_slice(alloc, text.as_bytes())?;
+    Ok(MemSource::new(bytes, Vec::new(alloc)))
+}
+
+/// The list that a text is.
+pub fn list_of(alloc: Global, text: &str) -> Result<SuffixList, Fail> {
+    match SuffixList::read(alloc, &mut source_of(alloc, text)?) {
+        Ok(list) => Ok(list),
+        Err(_) => Err(Fail::from(AllocError)),
+    }
+}
+
+// Adds the line that a text is.
+fn add(alloc: Global, number: u32, text: &str, lines: &mut Vec<Line>) -> Result<(), Fail> {
+    let Ok(script) = Script::read(alloc, &mut source_of(alloc, text)?, false) else {
+        return Err(Fail::from(AllocError));
+    };
+    for line in script.lines {
+        lines.push(Line {
+            number,
+            step: line.step,
+        })?;
+    }
+    Ok(())
+}
+
+/// The lines that some texts are.
+pub fn lines_of(alloc: Global, texts: &[&str]) -> Result<Vec<Line>, Fail> {
+    let mut lines = Vec::new(alloc);
+    let mut number = 0u32;
+    for text in texts {
+        number = number.saturating_add(1);
+        add(alloc, number, text, &mut lines)?;
+    }
+    Ok(lines)
+}
+
+/// The cut of a case, in a call and with a pick that a disk can have.
+pub fn cuts_of(alloc: Global, cut: Option<Cut>) -> Result<Vec<Cut>, Fail>
+    ensures { IfOk result (λ cuts. AreFrom 1 cuts.items) }
+{
+    let mut cuts = Vec::new(alloc);
+    if let Some(cut) = cut {
+        if cut.call > 0 && cut.pick < 4 {
+            cuts.push(cut)?;
+        }
+    }
+    Ok(cuts)
+}
+
+/// An output with room for 10,000 bytes.
+pub fn sink(alloc: Global) -> Result<MemSink, Fail> {
+    match MemSink::new(alloc, 10_000, Vec::new(alloc)) {
+        Ok(sink) => Ok(sink),
+        Err(NoMemory) => Err(Fail::from(AllocError)),
+    }
+}

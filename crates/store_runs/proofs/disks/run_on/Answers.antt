@@ -1,0 +1,68 @@
+use Rattle.std.proofs.Common.{sym, ap, subst, ◌∙◌}
+use Rattle.agent_base.specs.Counts.{Rose}
+use Rattle.agent_base.proofs.Pieces.{takes_none}
+use Rattle.durable_model.specs.Histories.{opened_at}
+use Rattle.store_runs.specs.Disks.{WritesOn}
+use Rattle.store_runs.specs.Endings.{IsStoreEnding, WriteCounts}
+use Rattle.store_runs.specs.Steps.{steps_of}
+use Rattle.store_runs.proofs.DiskLemmas.{opened_here, opened_writes, refused_ends, refused_writes}
+use Rattle.store_runs.proofs.EndLemmas.{refused_device, refused_stays, refused_store}
+use Rattle.store_runs.proofs.disks.run_on.Goals as goal
+
+pub returns-in-Ok-clause-written : goal.returns-in-Ok-clause-written
+returns-in-Ok-clause-written g c = λ told.
+    let old = g.D.Disk.view c.args.disk in
+    let agent = c.in-Ok.agent in
+    let view = g.D.Disk.view agent.disk in
+    let list = c.args.list.now in
+    let start = c.args.options.start in
+    let batch = c.args.options.batch in
+    let before = g.O.Sink.taken c.args.out.now in
+    let after = g.O.Sink.taken c.run_lines-ending.new.out in
+    let steps = steps_of c.args.lines.now in
+    let seen = c.in-Ok.ensures.seen in
+    let base = seen.0 in
+    let under = c.in-Ok.ensures.rules in
+    let opened = opened_here list start batch old view agent base under.0 under.1 under.2 (c.in-Ok.ensures.tells ∙ told) c.requires.batch.0 seen.2.0 seen.2.1 in
+    subst (λ disk. WritesOn c.run_lines-ending.result list start batch old steps before after (g.D.Disk.view disk)) (sym c.into_disk.ensures)
+    (opened_writes list start batch old view agent base under.0 under.1 under.2 seen.1 c.run_lines-ending.result (g.D.Disk.view c.run_lines-ending.new.agent.disk) steps before after c.in-Ok.ensures.powered seen.2.2 (c.run_lines-ending.ensures.written (opened_at start base) opened))
+
+pub returns-in-Ok-clause-refused : goal.returns-in-Ok-clause-refused
+returns-in-Ok-clause-refused g c = λ why bytes contents of is. absurd (c.in-Ok.ensures.exactly why bytes contents of is)
+
+pub returns-in-Ok-clause-device : goal.returns-in-Ok-clause-device
+returns-in-Ok-clause-device g c = λ told device.
+    let old = g.D.Disk.view c.args.disk in
+    let agent = c.in-Ok.agent in
+    let view = g.D.Disk.view agent.disk in
+    let list = c.args.list.now in
+    let start = c.args.options.start in
+    let batch = c.args.options.batch in
+    let seen = c.in-Ok.ensures.seen in
+    let base = seen.0 in
+    let under = c.in-Ok.ensures.rules in
+    let opened = opened_here list start batch old view agent base under.0 under.1 under.2 (c.in-Ok.ensures.tells ∙ told) c.requires.batch.0 seen.2.0 seen.2.1 in
+    subst (λ disk. Rose old.faults (g.D.Disk.view disk).faults) (sym c.into_disk.ensures)
+    (subst (λ n. Rose n (g.D.Disk.view c.run_lines-ending.new.agent.disk).faults) c.in-Ok.ensures.others.faults (c.run_lines-ending.ensures.device (opened_at start base) opened device))
+
+pub returns-in-Ok-clause-tells : goal.returns-in-Ok-clause-tells
+returns-in-Ok-clause-tells g c = ap (λ disk. (g.D.Disk.view disk).tells) c.into_disk.ensures ∙ c.run_lines-ending.ensures.goes_on.tells ∙ c.in-Ok.ensures.tells
+
+pub returns-in-Err-clause-written : goal.returns-in-Err-clause-written
+returns-in-Err-clause-written g c = λ told.
+    refused_writes c.refused.result c.args.list.now c.args.options.start c.args.options.batch c.in-Err.refusal.why (g.D.Disk.view c.args.disk) (g.D.Disk.view c.in-Err.refusal.disk) (steps_of c.args.lines.now) (g.O.Sink.taken c.args.out.now) c.refused.ensures
+    c.in-Err.ensures.refused c.in-Err.ensures.device c.in-Err.ensures.unchanged c.in-Err.ensures.any_moment (g.met.D.Disk.lawful c.in-Err.refusal.disk)
+
+pub returns-in-Err-clause-refused : goal.returns-in-Err-clause-refused
+returns-in-Err-clause-refused g c = λ why bytes contents of is.
+    (takes_none (g.O.Sink.taken c.args.out.now), refused_ends c.in-Err.refusal.why why c.refused.result c.refused.ensures of (c.in-Err.ensures.exactly why bytes contents of is))
+
+pub returns-in-Err-clause-store : goal.returns-in-Err-clause-store
+returns-in-Err-clause-store g c = subst IsStoreEnding (sym c.refused.ensures) (refused_store c.in-Err.refusal.why)
+
+pub returns-in-Err-clause-device : goal.returns-in-Err-clause-device
+returns-in-Err-clause-device g c = λ told device.
+    (c.in-Err.ensures.device (refused_device c.in-Err.refusal.why (sym c.refused.ensures ∙ device))).0
+
+pub returns-in-Err-clause-write : goal.returns-in-Err-clause-write
+returns-in-Err-clause-write g c = subst (λ e. WriteCounts e (g.O.Sink.faults c.args.out.now) (g.O.Sink.faults c.args.out.now)) (sym c.refused.ensures) (refused_stays c.in-Err.refusal.why (g.O.Sink.faults c.args.out.now))

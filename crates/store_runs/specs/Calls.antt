@@ -1,0 +1,102 @@
+-- What each call of an agent makes of the courses that it stands on, and of faults. Only private
+-- functions see it.
+-- Source: none; these are the words of the general law.
+use Rattle.std.specs.Prelude.{◌≡◌, ◌⊎◌, ℕ, ◌<◌, true, false, List, [], ◌∷◌, ◌++◌, Some}
+use Rattle.unwinding.specs.Course.{AtBase}
+use Rattle.agent_base.specs.Counts.{Rose}
+use Rattle.disk_model.specs.Disk.{View}
+use Rattle.journal.specs.Opening.{IsOfFile}
+use Rattle.suffix_list.specs.Suffix.{Rule}
+use Rattle.script_actions.specs.Action.{PlainStep}
+use Rattle.agent_model.specs.Isolation.{text_of}
+use Rattle.agent_core.specs.AgentView.{AgentView, may_of}
+use Rattle.agent_core.specs.Means.{AgentMay, Fails, Fits, Same, after_commit}
+use Rattle.agent_core.specs.Seen.{AgentSeen, IsSeen}
+use Rattle.store_runs.specs.Courses.{Steps}
+use Rattle.store_runs.specs.declared.ending.Ending.{Ending}
+use Rattle.store_runs.specs.declared.ending.Ending.TheVariants.{Done, Device, Store, Write, Memory}
+
+-- no call of the disk can fail: the agent is up, the power is on, and no cut is to come
+abbrev pub IsQuiet : AgentSeen → View → Type 0
+IsQuiet a view = (a.up ≡ true) × (view.off ≡ false) × (view.cuts ≡ Some [])
+
+-- a count of faults stays or rises
+abbrev pub StaysOrRose : (before now : ℕ) → Type 0
+StaysOrRose before now = (now ≡ before) ⊎ Rose before now
+
+-- what an agent that goes on makes of faults: none where no call of the disk can fail, and its
+-- disk's count rises where it goes down
+pub record Faults (a b : AgentSeen) (old new : View) : Type 0 where
+  pub quiet : IsQuiet a old → IsQuiet b new
+  pub counts : StaysOrRose old.faults new.faults
+  pub down : b.up ≡ false → (a.up ≡ false) ⊎ Rose old.faults new.faults
+
+-- since a first count, faults stayed or rose, and they rose where the agent is not up
+abbrev pub IsCounted : (first now : ℕ) → AgentSeen → Type 0
+IsCounted first now a = StaysOrRose first now × (a.up ≡ false → Rose first now)
+
+-- a call of an agent whose disk tells its contents ran these lines, whose text is this; and it goes
+-- on, or the run stops
+abbrev pub Called : {D : Type 0} → (tell : D → View) → (old new : AgentView D) → (GoesOn : Type 0)
+    → List PlainStep → List ℕ → Type 0
+Called tell old new GoesOn ran text =
+    (tell old.disk).tells ≡ true → 0 < old.batch
+    → (a : AgentSeen) → IsSeen old (tell old.disk) a → Fits a
+    → (b : AgentSeen) × IsSeen new (tell new.disk) b
+    × Steps old.memory.rules old.batch ran (IsQuiet a (tell old.disk)) a
+    (may_of old (tell old.disk)) b (may_of new (tell new.disk)) text
+    × (GoesOn → Faults a b (tell old.disk) (tell new.disk))
+
+-- a line ran, and its text waits
+abbrev pub Stepped : {D : Type 0} → (tell : D → View) → (old new : AgentView D) → PlainStep
+    → (before now : List ℕ) → Type 0
+Stepped tell old new step before now =
+    (text : List ℕ) × (now ≡ before ++ text) × Called tell old new (Unit {0}) (step ∷ []) text
+
+-- The run stops at a line. Where memory was wanting, the line may have run, and its text does not
+-- wait. A disk that tells its contents has never a store that is refused.
+abbrev pub Stops : {D : Type 0} → (tell : D → View) → (old new : AgentView D) → PlainStep → Ending
+    → Type 0
+Stops tell old new step Memory =
+    (ran : List PlainStep) × ((ran ≡ []) ⊎ (ran ≡ step ∷ []))
+    × ((text : List ℕ) × Called tell old new ⊥ ran text)
+Stops tell old new step (Store why) =
+    IsOfFile why
+    × ((tell old.disk).tells ≡ true → (a : AgentSeen) → IsSeen old (tell old.disk) a → ⊥)
+Stops tell old new step other = ⊥
+
+-- ---- the end
+
+-- the endings of the last commit
+abbrev pub IsEnd : Ending → Type 0
+IsEnd Done = Unit {0}
+IsEnd Device = Unit {0}
+IsEnd Memory = Unit {0}
+IsEnd Write = ⊥
+IsEnd (Store why) = ⊥
+
+-- what was held was committed
+abbrev pub Commits : List Rule → (a b : AgentSeen) → AgentMay → Type 0
+Commits rules a b may' = (a.up ≡ true) × (b ≡ after_commit rules a) × AtBase b.base may'
+
+-- what the last commit gives out waits, too
+abbrev pub EndsWith : List Rule → (a b : AgentSeen) → (may may' : AgentMay) → (old new : View)
+    → Ending → (before now : List ℕ) → Type 0
+EndsWith rules a b may may' old new Done before now =
+    Commits rules a b may' × (now ≡ before ++ text_of a.held)
+EndsWith rules a b may may' old new Device before now =
+    Fails rules a a b may may' (a.up ≡ true) × (now ≡ before) × (IsQuiet a old → ⊥)
+    × (StaysOrRose old.faults new.faults × (a.up ≡ true → Rose old.faults new.faults))
+EndsWith rules a b may may' old new Memory before now =
+    (Commits rules a b may' ⊎ Same a may b may') × (now ≡ before)
+EndsWith rules a b may may' old new Write before now = ⊥
+EndsWith rules a b may may' old new (Store why) before now = ⊥
+
+-- the same of an agent
+abbrev pub Ends : {D : Type 0} → (tell : D → View) → (old new : AgentView D) → Ending
+    → (before now : List ℕ) → Type 0
+Ends tell old new ending before now =
+    (a : AgentSeen) → IsSeen old (tell old.disk) a
+    → (b : AgentSeen) × IsSeen new (tell new.disk) b
+    × EndsWith old.memory.rules a b (may_of old (tell old.disk)) (may_of new (tell new.disk))
+    (tell old.disk) (tell new.disk) ending before now

@@ -1,154 +1,139 @@
--- What follows of a run of a script from its parts.
-use Rattle.std.proofs.Common.{◌≡◌, ◌⊎◌, ℕ, List, [], Option, Some, None, ◌++◌, append-nil, refl, ap, ◌∙◌, sym, subst, inl, inr}
+-- What follows of a list that was read, or was not, for the command that named it.
+use Rattle.std.proofs.Common.{◌≡◌, ◌⊎◌, ℕ, Bool, true, List, Option, Some, None, refl, sym, subst, inl, inr, ◌∙◌, arith}
 use Rattle.std.specs.Prelude.{IfSome, IsOk, Ok}
 use Rattle.agent_base.specs.Counts.{Rose}
-use Rattle.agent_base.specs.Streams.{Gives}
-use Rattle.agent_base.proofs.Pieces.{takes_none}
-use Rattle.suffix_list.specs.Suffix.{Rule}
 use Rattle.suffix_list.specs.ListText.{RuleList, list_of}
-use Rattle.suffix_list.specs.declared.fault.ListFault.{ListFault}
-use Rattle.script_lines.specs.Script.{PlainAction, PlainScript}
-use Rattle.script_lines.specs.Grammar.{script_of_bytes}
-use Rattle.script_lines.specs.declared.script.ScriptFault.{ScriptFault}
-use Rattle.command_line.specs.Words.{Replay}
-use Rattle.replay.specs.BeforeAfter.{BeforeAfter, from_to}
+use Rattle.script_lines.specs.Script.{PlainScript}
+use Rattle.store_runs.specs.declared.ending.Ending.{Ending}
+use Rattle.command_line.specs.Words.{Dump, Replay}
+use Rattle.hosts.specs.Hosts.{LeavesOtherStores, LeavesStores, SameImages, raised}
+use Rattle.replay.specs.BeforeAfter.{BeforeAfter}
+use Rattle.replay.specs.Causes.{DeviceCounts, ListCause, ReadCause, ReadCounts, RoseByStore}
+use Rattle.replay.specs.Loop.{IsAfterList, IsListOf, ScriptCounts, StoreCounts}
+use Rattle.replay.specs.Runs.{ListRead, ReadAndRan, ScriptRead, WritesScript, Written}
+use Rattle.replay.specs.Stores.{Images, RanOverStore, RanStored}
 use Rattle.replay.specs.declared.status.Status.{Status}
-use Rattle.replay.specs.declared.status.Status.TheVariants.{Done, Usage, Script, List as ListStatus, Read, Write, Memory}
-use Rattle.replay.specs.Hosts.{HasLeft}
-use Rattle.replay.specs.Runs.{WritesText}
-use Rattle.replay.specs.Causes.{CanEnd, ListCause, ReadCause, ReadCounts, ReadsNoScript, ScriptCause, WriteCounts}
-use Rattle.replay.specs.Loop.{IsListOf, ListRefusal, ListUnread, ScriptAnswer, ScriptCounts, WritesLines}
+use Rattle.replay.specs.declared.status.Status.TheVariants.{Done, Usage, Script, List as ListStatus, Store, Read, Write, Device, Memory}
+use Rattle.replay.proofs.StatusLemmas.{written_weaker}
 
--- lines end with one of three statuses
-by_lines : (rules : List Rule) (start : ℕ) (actions : List PlainAction) (taken : BeforeAfter (Option (List ℕ))) (P : Status → Type 0) → P Done → P Write → P Memory → (status : Status) → WritesLines status rules start actions taken → P status
-by_lines rules start actions taken P done write memory Done written = done
-by_lines rules start actions taken P done write memory Write written = write
-by_lines rules start actions taken P done write memory Memory written = memory
-by_lines rules start actions taken P done write memory Usage written = absurd written
-by_lines rules start actions taken P done write memory (Script why) written = absurd written
-by_lines rules start actions taken P done write memory (ListStatus why) written = absurd written
-by_lines rules start actions taken P done write memory Read written = absurd written
+-- ---- the list was read
 
--- a script ends with one of five
-by_answer : (told : Option (List ℕ)) (P : Status → Type 0) → (ScriptAnswer Done told → P Done) → ((why : ScriptFault) → ScriptAnswer (Script why) told → P (Script why)) → P Read → (ScriptAnswer Write told → P Write) → P Memory
-    → (status : Status) → ScriptAnswer status told → P status
-by_answer told P done script read write memory Done answer = done answer
-by_answer told P done script read write memory Usage answer = absurd answer
-by_answer told P done script read write memory (Script why) answer = script why answer
-by_answer told P done script read write memory (ListStatus why) answer = absurd answer
-by_answer told P done script read write memory Read answer = read
-by_answer told P done script read write memory Write answer = write answer
-by_answer told P done script read write memory Memory answer = memory
+abbrev pub list_read : (list : RuleList) (told : Option (List ℕ)) → IsListOf told list → ListRead told
+list_read list told read = record { bytes = read.0; list = list; given = read.1.0; grammar = read.1.1 }
 
--- and a list that was not read with one of three
-by_refusal : (told : Option (List ℕ)) (faults : BeforeAfter ℕ) (P : Status → Type 0) → ((why : ListFault) → ListRefusal (ListStatus why) told faults → P (ListStatus why)) → (ListRefusal Read told faults → P Read) → (ListRefusal Memory told faults → P Memory)
-    → (status : Status) → ListRefusal status told faults → P status
-by_refusal told faults P list read memory Done why_so = absurd why_so
-by_refusal told faults P list read memory Usage why_so = absurd why_so
-by_refusal told faults P list read memory (Script why) why_so = absurd why_so
-by_refusal told faults P list read memory (ListStatus why) why_so = list why why_so
-by_refusal told faults P list read memory Read why_so = read why_so
-by_refusal told faults P list read memory Write why_so = absurd why_so
-by_refusal told faults P list read memory Memory why_so = memory why_so
-
--- the script that was read has no fault, if its bytes are told
-pub script_answered : (status : Status) (rules : List Rule) (start : ℕ) (actions : List PlainAction) (taken : BeforeAfter (Option (List ℕ))) (told : Option (List ℕ))
-    → WritesLines status rules start actions taken → IfSome told (λ bytes. IsOk (script_of_bytes bytes)) → ScriptAnswer status told
-script_answered status rules start actions taken told written ok = by_lines rules start actions taken (λ s. ScriptAnswer s told) ok ok tt status written
-
--- the bytes of a script that was read to its end have no fault
-pub script_fine : (before after : Option (List ℕ)) (bytes : List ℕ) (script : PlainScript) → Gives before after bytes → IfSome after (λ rest. rest ≡ []) → script_of_bytes bytes ≡ Ok script
-    → IfSome before (λ all. IsOk (script_of_bytes all))
-script_fine None after bytes script given ended grammar = tt
-script_fine (Some all) None bytes script given ended grammar = absurd given
-script_fine (Some all) (Some rest) bytes script given ended grammar =
-    let whole : all ≡ bytes = given ∙ ap (λ r. bytes ++ r) ended ∙ append-nil bytes in
-    subst IsOk (sym (ap script_of_bytes whole ∙ grammar)) refl
-
--- lines leave the script's count alone
-pub lines_counts : (status : Status) (rules : List Rule) (start : ℕ) (actions : List PlainAction) (taken : BeforeAfter (Option (List ℕ))) (script : BeforeAfter ℕ)
-    → WritesLines status rules start actions taken → script.after ≡ script.before → ScriptCounts status script
-lines_counts status rules start actions taken script written stays = by_lines rules start actions taken (λ s. ScriptCounts s script) stays stays stays status written
-
--- the bytes of a list that was read have no fault
-list_fine : (told : Option (List ℕ)) (list : RuleList) → IsListOf told list → IfSome told (λ bytes. IsOk (list_of bytes))
+-- its bytes have no fault
+pub list_fine : (told : Option (List ℕ)) (list : RuleList) → IsListOf told list → IfSome told (λ bytes. IsOk (list_of bytes))
 list_fine None list read = tt
 list_fine (Some own) list (bytes, (has, grammar)) =
     let same : list_of own ≡ Ok list = cc in
     subst IsOk (sym same) refl
 
--- where the list is told, it has no fault and the script's count rose
+-- what was written of a script was written under that list
+pub writes_under : (status : Status) (allowed : Bool) (told : Option (List ℕ)) (left taken : BeforeAfter (Option (List ℕ))) (list : RuleList) (Ran : Ending → RuleList → PlainScript → Type 0) → IsListOf told list
+    → Written status taken (λ e. (read : ScriptRead allowed left) × Ran e list read.script) → WritesScript status allowed told left taken Ran
+writes_under status allowed told left taken list Ran read written =
+    written_weaker status taken (λ e. (script : ScriptRead allowed left) × Ran e list script.script) (λ e. ReadAndRan allowed told left (Ran e)) (λ e ran. (list_read list told read, (ran.0, ran.1))) written
+
+pub later_list : (status : Status) (told : Option (List ℕ)) → IsAfterList status → IfSome told (λ bytes. IsOk (list_of bytes)) → ListCause status told
+later_list Done told later fine = fine
+later_list Usage told later fine = tt
+later_list (Script why) told later fine = fine
+later_list (ListStatus why) told later fine = absurd later
+later_list (Store why) told later fine = fine
+later_list Read told later fine = tt
+later_list Write told later fine = fine
+later_list Device told later fine = fine
+later_list Memory told later fine = tt
+
+-- nothing rose by a store that was never opened
+pub rose_by_none : (host stores : BeforeAfter ℕ) → host.after ≡ host.before → stores.after ≡ stores.before → RoseByStore host stores
+rose_by_none host stores h s = (0, h ∙ none host.before, s ∙ none stores.before)
+  where
+    none : (n : ℕ) → n ≡ raised 0 n
+    none n = omega arith
+
+pub script_read_counts : (status : Status) (host stores script : BeforeAfter ℕ) → host.after ≡ host.before → stores.after ≡ stores.before → ScriptCounts status script → ReadCounts status host stores script
+script_read_counts Done host stores script h s counts = (rose_by_none host stores h s, counts)
+script_read_counts Usage host stores script h s counts = (rose_by_none host stores h s, counts)
+script_read_counts (Script why) host stores script h s counts = (rose_by_none host stores h s, counts)
+script_read_counts (ListStatus why) host stores script h s counts = (rose_by_none host stores h s, counts)
+script_read_counts (Store why) host stores script h s counts = (rose_by_none host stores h s, counts)
+script_read_counts Read host stores script h s counts = (s, inr counts)
+script_read_counts Write host stores script h s counts = (rose_by_none host stores h s, counts)
+script_read_counts Device host stores script h s counts = (rose_by_none host stores h s, counts)
+script_read_counts Memory host stores script h s counts = (rose_by_none host stores h s, counts)
+
+-- where the list is told, it has no fault and this holds
 if_told : (A B : Type 0) (told : Option (List ℕ)) → IfSome told (λ bytes. IsOk (list_of bytes)) → A → IfSome told (λ bytes. B ⊎ (IsOk (list_of bytes) × A))
 if_told A B None fine rose = tt
 if_told A B (Some bytes) fine rose = inr (fine, rose)
 
--- where the list is told, a call on it failed
-if_first : (A : Type 0) (B : List ℕ → Type 0) (told : Option (List ℕ)) → IfSome told (λ bytes. A) → IfSome told (λ bytes. A ⊎ B bytes)
-if_first A B None rose = tt
-if_first A B (Some bytes) rose = inl rose
+module _ (told : Option (List ℕ)) (fine : IfSome told (λ bytes. IsOk (list_of bytes))) (host reads script : BeforeAfter ℕ) where
+  -- a script over a new store
+  pub script_read_cause : (status : Status) → ScriptCounts status script → ReadCause None status told host reads script
+  script_read_cause Done counts = tt
+  script_read_cause Usage counts = tt
+  script_read_cause (Script why) counts = tt
+  script_read_cause (ListStatus why) counts = tt
+  script_read_cause (Store why) counts = tt
+  script_read_cause Read counts = if_told _ (Rose reads.before reads.after) told fine (inl counts)
+  script_read_cause Write counts = tt
+  script_read_cause Device counts = tt
+  script_read_cause Memory counts = tt
 
--- ---- a list that was read, and the script after it
+  -- a script or a dump over the store of a path
+  pub store_read_cause : (path : List ℕ) (status : Status) (stores : BeforeAfter ℕ) → ReadCounts status host stores script → ReadCause (Some path) status told host reads script
+  store_read_cause path Done stores counts = tt
+  store_read_cause path Usage stores counts = tt
+  store_read_cause path (Script why) stores counts = tt
+  store_read_cause path (ListStatus why) stores counts = tt
+  store_read_cause path (Store why) stores counts = tt
+  store_read_cause path Read stores counts = if_told _ (Rose reads.before reads.after) told fine (either counts.1)
+    where
+      either : Rose host.before host.after ⊎ Rose script.before script.after → Rose script.before script.after ⊎ Rose host.before host.after
+      either (inl rose) = inr rose
+      either (inr rose) = inl rose
+  store_read_cause path Write stores counts = tt
+  store_read_cause path Device stores counts = tt
+  store_read_cause path Memory stores counts = tt
 
-module _ (path : List ℕ) (start : ℕ) where
-  pub read_ends : (status : Status) (told : Option (List ℕ)) → ScriptAnswer status told → CanEnd (Some (Replay path start)) status
-  read_ends status told answer = by_answer told (λ s. CanEnd (Some (Replay path start)) s) (λ a. tt) (λ why a. a.1) tt (λ a. tt) tt status answer
+-- the store of a path
+pub replay_device : (list store : List ℕ) (batch start : ℕ) (tells : Bool) (stores : BeforeAfter ℕ) (status : Status) → (tells ≡ true → StoreCounts status stores) → DeviceCounts (Some (Replay list (Some store) batch start)) tells status stores
+replay_device list store batch start tells stores Done rose = tt
+replay_device list store batch start tells stores Usage rose = tt
+replay_device list store batch start tells stores (Script why) rose = tt
+replay_device list store batch start tells stores (ListStatus why) rose = tt
+replay_device list store batch start tells stores (Store why) rose = tt
+replay_device list store batch start tells stores Read rose = tt
+replay_device list store batch start tells stores Write rose = tt
+replay_device list store batch start tells stores Device rose = rose
+replay_device list store batch start tells stores Memory rose = tt
 
-  pub read_script : (status : Status) (told : Option (List ℕ)) → ScriptAnswer status told → ScriptCause (Some (Replay path start)) status told
-  read_script status told answer = by_answer told (λ s. ScriptCause (Some (Replay path start)) s told) (λ a. a) (λ why a. a.0) tt (λ a. a) tt status answer
+pub dump_device : (list store : List ℕ) (tells : Bool) (stores : BeforeAfter ℕ) (status : Status) → StoreCounts status stores → DeviceCounts (Some (Dump list store)) tells status stores
+dump_device list store tells stores Done rose = tt
+dump_device list store tells stores Usage rose = tt
+dump_device list store tells stores (Script why) rose = tt
+dump_device list store tells stores (ListStatus why) rose = tt
+dump_device list store tells stores (Store why) rose = tt
+dump_device list store tells stores Read rose = tt
+dump_device list store tells stores Write rose = tt
+dump_device list store tells stores Device rose = rose
+dump_device list store tells stores Memory rose = tt
 
-  pub read_unread : (status : Status) (told : Option (List ℕ)) → ScriptAnswer status told → ReadsNoScript (Some (Replay path start)) status → ⊥
-  read_unread status told answer = by_answer told (λ s. ReadsNoScript (Some (Replay path start)) s → ⊥) (λ a is. is) (λ why a is. is) (λ is. is) (λ a is. is) (λ is. is) status answer
+-- ---- what the host told before the list was read
 
-pub read_list_cause : (status : Status) (before told : Option (List ℕ)) (list : RuleList) → ScriptAnswer status before → IsListOf told list → ListCause status told
-read_list_cause status before told list answer read =
-    let fine = list_fine told list read in
-    by_answer before (λ s. ListCause s told) (λ a. fine) (λ why a. fine) tt (λ a. fine) tt status answer
+module _ (start batch : ℕ) (taken : BeforeAfter (Option (List ℕ))) (old mid after : Images) (same : SameImages old mid) where
+  pub ran_before : (e : Ending) (list : RuleList) (steps : List _) → RanOverStore start batch taken mid after e list steps → RanOverStore start batch taken old after e list steps
+  ran_before e list steps ran = record { file = ran.file; found = same.no_more ran.file ran.found; wrote = ran.wrote; refused = ran.refused }
 
-pub read_counts : (status : Status) (host script : BeforeAfter ℕ) → host.after ≡ host.before → ScriptCounts status script → ReadCounts status host script
-read_counts Done host script stays counts = (stays, counts)
-read_counts Usage host script stays counts = (stays, counts)
-read_counts (Script why) host script stays counts = (stays, counts)
-read_counts (ListStatus why) host script stays counts = (stays, counts)
-read_counts Read host script stays counts = inr counts
-read_counts Write host script stays counts = (stays, counts)
-read_counts Memory host script stays counts = (stays, counts)
+  pub stored_before : (tells told : Bool) → told ≡ tells → (e : Ending) (list : RuleList) (script : PlainScript) → RanStored start batch taken told mid after e list script → RanStored start batch taken tells old after e list script
+  stored_before tells told is e list script ran tell = ran_before e list _ (ran (is ∙ tell))
 
-pub read_cause : (status : Status) (told : Option (List ℕ)) (list : RuleList) (reads script : BeforeAfter ℕ) → IsListOf told list → ScriptCounts status script → ReadCause status told reads script
-read_cause Done told list reads script read counts = tt
-read_cause Usage told list reads script read counts = tt
-read_cause (Script why) told list reads script read counts = tt
-read_cause (ListStatus why) told list reads script read counts = tt
-read_cause Read told list reads script read counts = if_told (Rose script.before script.after) (Rose reads.before reads.after) told (list_fine told list read) counts
-read_cause Write told list reads script read counts = tt
-read_cause Memory told list reads script read counts = tt
+pub others_before : (path : List ℕ) (old mid new : List ℕ → Images) → LeavesStores old mid → LeavesOtherStores path mid new → LeavesOtherStores path old new
+others_before path old mid new first then other apart = record {
+  no_more = λ file is. (first other).no_more file ((then other apart).no_more file is);
+  no_fewer = λ file is. (then other apart).no_fewer file ((first other).no_fewer file is);
+}
 
--- ---- a list that was not read
-
-module _ (path : List ℕ) (start : ℕ) where
-  pub refused_ends : (status : Status) (told : Option (List ℕ)) (faults : BeforeAfter ℕ) → ListRefusal status told faults → CanEnd (Some (Replay path start)) status
-  refused_ends status told faults why_so = by_refusal told faults (λ s. CanEnd (Some (Replay path start)) s) (λ why r. r.1) (λ r. tt) (λ r. tt) status why_so
-
-  pub refused_script : (status : Status) (told : Option (List ℕ)) (faults : BeforeAfter ℕ) → ListRefusal status told faults → (before : Option (List ℕ)) → ScriptCause (Some (Replay path start)) status before
-  refused_script status told faults why_so before = by_refusal told faults (λ s. ScriptCause (Some (Replay path start)) s before) (λ why r. tt) (λ r. tt) (λ r. tt) status why_so
-
-  pub refused_text : (status : Status) (told : Option (List ℕ)) (faults : BeforeAfter ℕ) → ListRefusal status told faults → (left taken : Option (List ℕ)) → WritesText start status told (from_to left left) (from_to taken taken)
-  refused_text status told faults why_so left taken =
-      by_refusal told faults (λ s. WritesText start s told (from_to left left) (from_to taken taken)) (λ why r. takes_none taken) (λ r. takes_none taken) (λ r. inl (takes_none taken)) status why_so
-
-  pub refused_list : (status : Status) (told : Option (List ℕ)) (faults : BeforeAfter ℕ) → ListRefusal status told faults → ListCause status told
-  refused_list status told faults why_so = by_refusal told faults (λ s. ListCause s told) (λ why r. r.0) (λ r. tt) (λ r. tt) status why_so
-
-  pub refused_counts : (status : Status) (told : Option (List ℕ)) (faults : BeforeAfter ℕ) → ListRefusal status told faults → (script : ℕ) → ReadCounts status faults (from_to script script)
-  refused_counts status told faults why_so script = by_refusal told faults (λ s. ReadCounts s faults (from_to script script)) (λ why r. (r.2, refl)) (λ r. inl r) (λ r. (r, refl)) status why_so
-
-  pub refused_write : (status : Status) (told : Option (List ℕ)) (faults : BeforeAfter ℕ) → ListRefusal status told faults → (out : ℕ) → WriteCounts status (from_to out out)
-  refused_write status told faults why_so out = by_refusal told faults (λ s. WriteCounts s (from_to out out)) (λ why r. refl) (λ r. refl) (λ r. refl) status why_so
-
-  pub refused_cause : (status : Status) (told : Option (List ℕ)) (reads script : BeforeAfter ℕ) → ListUnread status told reads → ReadCause status told reads script
-  refused_cause Done told reads script unread = tt
-  refused_cause Usage told reads script unread = tt
-  refused_cause (Script why) told reads script unread = tt
-  refused_cause (ListStatus why) told reads script unread = tt
-  refused_cause Read told reads script unread = if_first (Rose reads.before reads.after) (λ bytes. IsOk (list_of bytes) × Rose script.before script.after) told unread
-  refused_cause Write told reads script unread = tt
-  refused_cause Memory told reads script unread = tt
+pub others_left : (path : List ℕ) (old new : List ℕ → Images) → LeavesStores old new → LeavesOtherStores path old new
+others_left path old new all other apart = all other

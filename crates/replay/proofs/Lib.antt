@@ -1,7 +1,7 @@
 pub mod PrefixLemmas
-pub mod LoopLemmas
+pub mod StatusLemmas
 pub mod ScriptLemmas
-pub mod CommandLemmas
-pub mod HostLemmas
 pub mod CauseLemmas
-pub mod EndLemmas
+pub mod CommandLemmas
+pub mod ReplayLemmas
+pub mod DumpLemmas

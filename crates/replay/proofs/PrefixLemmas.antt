@@ -1,19 +1,12 @@
 -- What was taken in pieces, as a part of the whole.
-use Rattle.std.proofs.Common.{ℕ, ◌+◌, List, ◌++◌, Option, take, length, refl, sym, ap, subst, ◌∙◌, arith, length-append, append-nil, append_assoc, [], ◌≡◌}
-use Rattle.std.specs.Prelude.{OnErr, Result}
-use Rattle.std.proofs.lemmas.List.{take-append-le}
-use Rattle.std.proofs.lemmas.Result.{on_err_weaker}
-use Rattle.std.proofs.Math.Seq.{take-append-add, take-append_seam}
+use Rattle.std.proofs.Common.{◌≡◌, ℕ, ◌+◌, ◌<◌, List, ◌++◌, ◌∷◌, [], Option, drop, flat_map, get_or, take, length, sym, ap, subst, ◌∙◌, arith, length-append, append-nil, append_assoc}
+use Rattle.std.proofs.lemmas.Grind.{flat_map-append}
+use Rattle.std.proofs.lemmas.List.{take-append-drop, take-append-le, take_more}
+use Rattle.std.proofs.Math.Seq.{take-append-add}
 use Rattle.agent_base.specs.Streams.{Takes, TakesPrefix}
-use Rattle.agent_base.proofs.Pieces.{takes_append, takes_none}
-use Rattle.replay.specs.Loop.{TakesFront}
+use Rattle.agent_base.proofs.Pieces.{takes_append}
 
--- what was taken in front of a longer text is a prefix of it
-pub prefix_front : (a b : Option (List ℕ)) (front rest : List ℕ) → Takes a b front → TakesPrefix a b (front ++ rest)
-prefix_front a b front rest takes =
-    (length front, omega (arith, length-append front rest), subst (Takes a b) (sym (take-append_seam front rest)) takes)
-
--- a prefix of a piece, after what stands in front of it
+-- a part of a piece, after what stands in front of it
 pub prefix_then : (a b c : Option (List ℕ)) (front piece rest : List ℕ) → Takes a b front → TakesPrefix b c piece → TakesPrefix a c (front ++ (piece ++ rest))
 prefix_then a b c front piece rest takes (count, within, more) = (
   length front + count,
@@ -22,43 +15,10 @@ prefix_then a b c front piece rest takes (count, within, more) = (
       (takes_append a b c front (take count piece) takes more),
 )
 
--- a part of the last piece, after what stands in front of it
-pub prefix_after : (a b c : Option (List ℕ)) (front piece : List ℕ) → Takes a b front → TakesPrefix b c piece → TakesPrefix a c (front ++ piece)
-prefix_after a b c front piece takes prefix = subst (TakesPrefix a c) (ap (λ t. front ++ t) (append-nil piece)) (prefix_then a b c front piece [] takes prefix)
-
--- a part of the first piece is a part of the whole
-pub prefix_longer : (a b : Option (List ℕ)) (piece rest : List ℕ) → TakesPrefix a b piece → TakesPrefix a b (piece ++ rest)
-prefix_longer a b piece rest (count, within, takes) = (count, omega (arith, length-append piece rest), subst (Takes a b) (sym (take-append-le count piece rest within)) takes)
-
--- the same, where the piece was written behind the front
-pub text_prefix : {T E : Type 0} (result : Result T E) (a b c : Option (List ℕ)) (bytes text rest : List ℕ) → bytes ≡ text → Takes a b bytes → OnErr result (TakesPrefix b c rest) → OnErr result (TakesPrefix a c (text ++ rest))
-text_prefix result a b c bytes text rest is takes = on_err_weaker result (λ prefix. prefix_after a b c text rest (subst (Takes a b) is takes) prefix)
-
--- ---- a text of which the front was taken, and the rest is held
-
-module _ (a b c : Option (List ℕ)) (text held : List ℕ) (front : TakesFront a b text held) where
-  -- more is held behind it
-  pub front_more : (more : List ℕ) → TakesFront a b (text ++ more) (held ++ more)
-  front_more more = (front.0, (front.1.0, ap (λ t. t ++ more) front.1.1 ∙ append_assoc front.0 held more))
-
-  -- some of what is held was taken
-  pub front_then : (rest : List ℕ) → TakesFront b c held rest → TakesFront a c text rest
-  front_then rest next = (
-    front.0 ++ next.0,
-    (
-      takes_append a b c front.0 next.0 front.1.0 next.1.0,
-      front.1.1 ∙ ap (λ t. front.0 ++ t) next.1.1 ∙ sym (append_assoc front.0 next.0 rest),
-    ),
-  )
-
-  -- all that is held was taken
-  pub front_end : Takes b c held → Takes a c text
-  front_end takes = subst (Takes a c) (sym front.1.1) (takes_append a b c front.0 held front.1.0 takes)
-
-  -- a part of what is held was taken
-  pub front_part : TakesPrefix b c held → TakesPrefix a c text
-  front_part prefix = subst (TakesPrefix a c) (sym front.1.1) (prefix_after a b c front.0 held front.1.0 prefix)
-
--- nothing was taken, and nothing is held
-pub front_none : (a : Option (List ℕ)) → TakesFront a a [] []
-front_none a = ([], (takes_none a, refl))
+-- a text of pieces up to one, that one, and the rest
+pub pieces_at : {X : Type 0} (f : X → List ℕ) (xs : List X) (i : ℕ) (d : X) → i < length xs → flat_map f xs ≡ flat_map f (take i xs) ++ (f (get_or xs i d) ++ flat_map f (drop (i + 1) xs))
+pieces_at f xs i d within =
+    ap (flat_map f) (sym (take-append-drop (i + 1) xs))
+    ∙ flat_map-append f (take (i + 1) xs) (drop (i + 1) xs)
+    ∙ ap (λ t. t ++ flat_map f (drop (i + 1) xs)) (ap (flat_map f) (take_more xs i d within) ∙ flat_map-append f (take i xs) (get_or xs i d ∷ []) ∙ ap (λ t. flat_map f (take i xs) ++ t) (append-nil (f (get_or xs i d))))
+    ∙ append_assoc (flat_map f (take i xs)) (f (get_or xs i d)) (flat_map f (drop (i + 1) xs))

@@ -1,58 +1,51 @@
--- How a run can end, and what each of its statuses means. Want of memory alone is free.
--- Our own choice: the statuses, and the order in which words, list and script are read.
-use Rattle.std.specs.Prelude.{◌≡◌, ◌⊎◌, ℕ, List, Option, Some, None, IfSome, Err, IsOk}
+-- What each status of a run means. Want of memory alone is free.
+-- Source: none.
+-- Our own choice: the statuses, and the order in which words, list, script and store are read.
+use Rattle.std.specs.Prelude.{◌≡◌, ◌⊎◌, ℕ, Bool, true, false, List, Option, Some, None, IfSome, Err}
+use Rattle.std.specs.Prelude.{IsOk}
 use Rattle.agent_base.specs.Counts.{Rose}
 use Rattle.agent_base.specs.Streams.{Takes, TakesPrefix}
 use Rattle.suffix_list.specs.ListText.{list_of}
-use Rattle.suffix_list.specs.declared.fault.ListFault.{ListFault}
-use Rattle.suffix_list.specs.declared.fault.ListFault.TheVariants as list
-use Rattle.script_lines.specs.Script.{PlainFault, ReadFault, NoMemory}
+use Rattle.script_lines.specs.Script.{PlainFault}
 use Rattle.script_lines.specs.Grammar.{script_of_bytes}
 use Rattle.script_lines.specs.Plain.{fault_of}
-use Rattle.command_line.specs.Words.{PlainCommand, Help, Replay}
+use Rattle.hosts.specs.Hosts.{raised}
+use Rattle.command_line.specs.Words.{PlainCommand, Replay, Dump}
 use Rattle.replay.specs.BeforeAfter.{BeforeAfter}
 use Rattle.replay.specs.FaultLines.{fault_line}
 use Rattle.replay.specs.declared.status.Status.{Status}
-use Rattle.replay.specs.declared.status.Status.TheVariants.{Done, Usage, Script, List as ListStatus}
-use Rattle.replay.specs.declared.status.Status.TheVariants.{Read, Write, Memory}
-
--- ---- statuses
-
--- a fault of a list's bytes
-abbrev pub IsOfList : ListFault → Type 0
-IsOfList list.ReadFault = ⊥
-IsOfList list.NoMemory = ⊥
-IsOfList why = Unit {0}
-
--- a fault of a script's bytes
-abbrev pub IsOfScript : PlainFault → Type 0
-IsOfScript ReadFault = ⊥
-IsOfScript NoMemory = ⊥
-IsOfScript why = Unit {0}
-
--- the statuses with which a command can end
-abbrev pub CanEnd : Option PlainCommand → Status → Type 0
-CanEnd (Some (Replay list start)) Usage = ⊥
-CanEnd (Some (Replay list start)) (Script why) = IsOfScript (fault_of why)
-CanEnd (Some (Replay list start)) (ListStatus why) = IsOfList why
-CanEnd (Some (Replay list start)) status = Unit {0}
-CanEnd (Some Help) Done = Unit {0}
-CanEnd (Some Help) Write = Unit {0}
-CanEnd (Some Help) status = ⊥
-CanEnd None Usage = Unit {0}
-CanEnd None status = ⊥
+use Rattle.replay.specs.declared.status.Status.TheVariants.{Done, Script, List as ListStatus}
+use Rattle.replay.specs.declared.status.Status.TheVariants.{Store, Read, Write, Device}
 
 -- ---- causes
 
--- why the script is refused: this is its first fault. Every status after that step shows that it
--- has none.
+-- a script may have a line with cuts where it runs over a store in memory
+abbrev pub allows_cuts : (store : Option (List ℕ)) → Bool
+allows_cuts None = true
+allows_cuts (Some path) = false
+
+-- the bytes of a script, where they are told, have this fault first, or none
+abbrev pub ScriptFaulty : (cuts_allowed : Bool) → Option (List ℕ) → PlainFault → Type 0
+ScriptFaulty cuts_allowed told why =
+    IfSome told (λ bytes. script_of_bytes cuts_allowed bytes ≡ Err why)
+
+abbrev pub ScriptFine : (cuts_allowed : Bool) → Option (List ℕ) → Type 0
+ScriptFine cuts_allowed told = IfSome told (λ bytes. IsOk (script_of_bytes cuts_allowed bytes))
+
+-- why a script is refused: this is its first fault. Every status after that step shows that it has
+-- none.
+abbrev pub ScriptCauseOf : (cuts_allowed : Bool) → Status → Option (List ℕ) → Type 0
+ScriptCauseOf cuts_allowed (Script why) told = ScriptFaulty cuts_allowed told (fault_of why)
+ScriptCauseOf cuts_allowed Done told = ScriptFine cuts_allowed told
+ScriptCauseOf cuts_allowed Write told = ScriptFine cuts_allowed told
+ScriptCauseOf cuts_allowed Device told = ScriptFine cuts_allowed told
+ScriptCauseOf cuts_allowed (Store why) told = ScriptFine cuts_allowed told
+ScriptCauseOf cuts_allowed status told = Unit {0}
+
+-- the same of a command; others than runs of scripts read none
 abbrev pub ScriptCause : Option PlainCommand → Status → Option (List ℕ) → Type 0
-ScriptCause (Some (Replay list start)) (Script why) told =
-    IfSome told (λ bytes. script_of_bytes bytes ≡ Err (fault_of why))
-ScriptCause (Some (Replay list start)) Done told =
-    IfSome told (λ bytes. IsOk (script_of_bytes bytes))
-ScriptCause (Some (Replay list start)) Write told =
-    IfSome told (λ bytes. IsOk (script_of_bytes bytes))
+ScriptCause (Some (Replay list store batch start)) status told =
+    ScriptCauseOf (allows_cuts store) status told
 ScriptCause command status told = Unit {0}
 
 -- why the list is refused: this is its first fault. Every status after that step shows that it has
@@ -61,39 +54,65 @@ abbrev pub ListCause : Status → Option (List ℕ) → Type 0
 ListCause (ListStatus why) told = IfSome told (λ bytes. list_of bytes ≡ Err why)
 ListCause Done told = IfSome told (λ bytes. IsOk (list_of bytes))
 ListCause (Script why) told = IfSome told (λ bytes. IsOk (list_of bytes))
+ListCause (Store why) told = IfSome told (λ bytes. IsOk (list_of bytes))
 ListCause Write told = IfSome told (λ bytes. IsOk (list_of bytes))
+ListCause Device told = IfSome told (λ bytes. IsOk (list_of bytes))
 ListCause status told = Unit {0}
 
--- the counts of faults of host and script: one of them rose where reading failed, and else both
--- stay
-abbrev pub ReadCounts : Status → (host script : BeforeAfter ℕ) → Type 0
-ReadCounts Read host script = Rose host.before host.after ⊎ Rose script.before script.after
-ReadCounts status host script = (host.after ≡ host.before) × (script.after ≡ script.before)
+-- the counts of a host rose by the faults of a store that was closed, and by nothing else
+abbrev pub RoseByStore : (host stores : BeforeAfter ℕ) → Type 0
+RoseByStore host stores =
+    (faults : ℕ) × (host.after ≡ raised faults host.before)
+    × (stores.after ≡ raised faults stores.before)
+
+-- the counts of faults of host and script: where reading failed, the host's rose and no store's
+-- faults are in it, or the script's rose; else they stay, but for what a store's disk counted
+abbrev pub ReadCounts : Status → (host stores script : BeforeAfter ℕ) → Type 0
+ReadCounts Read host stores script =
+    (stores.after ≡ stores.before) × (Rose host.before host.after ⊎ Rose script.before script.after)
+ReadCounts status host stores script =
+    RoseByStore host stores × (script.after ≡ script.before)
 
 -- the count of faults of the output: writing failed where it rose, and else it stays
 abbrev pub WriteCounts : Status → (out : BeforeAfter ℕ) → Type 0
 WriteCounts Write out = Rose out.before out.after
 WriteCounts status out = out.after ≡ out.before
 
+-- the count of faults of the stores that were closed: a call on the store of a path failed. Of a
+-- run of a script this is told where the host tells what stores hold.
+abbrev pub DeviceCounts : Option PlainCommand → (tells : Bool) → Status → (stores : BeforeAfter ℕ)
+    → Type 0
+DeviceCounts (Some (Replay list (Some store) batch start)) tells Device stores =
+    tells ≡ true → Rose stores.before stores.after
+DeviceCounts (Some (Dump list store)) tells Device stores = Rose stores.before stores.after
+DeviceCounts command tells status stores = Unit {0}
+
+-- a command that names a store found it closed, and the host's count rose when it was to be opened
+abbrev pub StoreUnopened : (store : Option (List ℕ)) → (host : BeforeAfter ℕ) → Type 0
+StoreUnopened None host = ⊥
+StoreUnopened (Some path) host = Rose host.before host.after
+
 -- why reading failed, where the host tells the list: a call on an opened list failed, or the list
--- has no fault and a call on the script failed
-abbrev pub ReadCause : Status → (told : Option (List ℕ)) → (reads script : BeforeAfter ℕ) → Type 0
-ReadCause Read told reads script =
+-- has no fault and a call on the script failed, or the store could not be opened
+abbrev pub ReadCause : (store : Option (List ℕ)) → Status → (told : Option (List ℕ))
+    → (host reads script : BeforeAfter ℕ) → Type 0
+ReadCause store Read told host reads script =
     IfSome told (λ bytes. Rose reads.before reads.after
-    ⊎ (IsOk (list_of bytes) × Rose script.before script.after))
-ReadCause status told reads script = Unit {0}
+    ⊎ (IsOk (list_of bytes) × (Rose script.before script.after ⊎ StoreUnopened store host)))
+ReadCause store status told host reads script = Unit {0}
 
 -- ---- what is left alone
 
 -- the words name no list
 abbrev pub OpensNoList : Option PlainCommand → Type 0
-OpensNoList (Some (Replay list start)) = ⊥
+OpensNoList (Some (Replay list store batch start)) = ⊥
+OpensNoList (Some (Dump list store)) = ⊥
 OpensNoList command = Unit {0}
 
--- the words name no list, or the list is refused: the script is not read
+-- the words name no script, or the list is refused: the script is not read
 abbrev pub ReadsNoScript : Option PlainCommand → Status → Type 0
-ReadsNoScript (Some (Replay list start)) (ListStatus why) = Unit {0}
-ReadsNoScript (Some (Replay list start)) status = ⊥
+ReadsNoScript (Some (Replay list store batch start)) (ListStatus why) = Unit {0}
+ReadsNoScript (Some (Replay list store batch start)) status = ⊥
 ReadsNoScript command status = Unit {0}
 
 -- ---- standard error

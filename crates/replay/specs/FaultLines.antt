@@ -1,6 +1,9 @@
 -- The line that a run writes to standard error, where its status is not 0.
 -- Our own choice: the texts. The usage line names all commands of the program's full form.
 use Rattle.std.specs.Prelude.{◌≡◌, ℕ, List, [], ◌∷◌, ◌++◌, codes, decimal}
+use Rattle.hex.specs.Hex.{encode_lower}
+use Rattle.journal.specs.declared.open_fault.OpenFault.{OpenFault}
+use Rattle.journal.specs.declared.open_fault.OpenFault.TheVariants as store
 use Rattle.suffix_list.specs.declared.fault.ListFault.{ListFault}
 use Rattle.suffix_list.specs.declared.fault.ListFault.TheVariants as list
 use Rattle.script_lines.specs.Plain.{fault_of}
@@ -8,7 +11,7 @@ use Rattle.script_lines.specs.Script.{PlainFault, NotJson, UnknownAction, BadFie
 use Rattle.script_lines.specs.Script.{TooLong, NotUtf8, ReadFault, BadHeader, NoMemory}
 use Rattle.replay.specs.declared.status.Status.{Status}
 use Rattle.replay.specs.declared.status.Status.TheVariants.{Done, Usage, Script, List as ListStatus}
-use Rattle.replay.specs.declared.status.Status.TheVariants.{Read, Write, Memory}
+use Rattle.replay.specs.declared.status.Status.TheVariants.{Store, Read, Write, Device, Memory}
 
 -- the line of a list's fault. No run ends with a list's `ReadFault` or `NoMemory`: these are the
 -- statuses `Read` and `Memory`, whose lines they have.
@@ -40,6 +43,18 @@ script_fault_line TooLong = codes "script: too long" ++ 10 ∷ []
 script_fault_line ReadFault = codes "read fault" ++ 10 ∷ []
 script_fault_line NoMemory = codes "no memory" ++ 10 ∷ []
 
+-- the line of a store's fault. No run ends with a store's `DeviceFault` or `NoMemory`: these are
+-- the statuses `Device` and `Memory`, whose lines they have.
+abbrev pub store_fault_line : OpenFault → List ℕ
+store_fault_line (store.NotAStore offset) =
+    codes "store: not a store at " ++ (decimal offset ++ 10 ∷ [])
+store_fault_line (store.OtherList kept given) =
+    codes "store: list "
+    ++ (encode_lower kept ++ (codes ", given " ++ (encode_lower given ++ 10 ∷ [])))
+store_fault_line (store.TooLarge len) = codes "store: too large: " ++ (decimal len ++ 10 ∷ [])
+store_fault_line store.DeviceFault = codes "device fault" ++ 10 ∷ []
+store_fault_line store.NoMemory = codes "no memory" ++ 10 ∷ []
+
 -- the usage line
 abbrev pub usage_line : List ℕ
 usage_line = codes "usage: replay LIST, twin SITE LIST, dump LIST STORE, selftest N" ++ 10 ∷ []
@@ -50,8 +65,10 @@ fault_line Done = []
 fault_line Usage = usage_line
 fault_line (Script why) = script_fault_line (fault_of why)
 fault_line (ListStatus why) = list_fault_line why
+fault_line (Store why) = store_fault_line why
 fault_line Read = codes "read fault" ++ 10 ∷ []
 fault_line Write = codes "write fault" ++ 10 ∷ []
+fault_line Device = codes "device fault" ++ 10 ∷ []
 fault_line Memory = codes "no memory" ++ 10 ∷ []
 
 -- the exit status of the program
@@ -60,8 +77,10 @@ exit_status Done = 0
 exit_status Usage = 2
 exit_status (Script why) = 3
 exit_status (ListStatus why) = 4
+exit_status (Store why) = 5
 exit_status Read = 6
 exit_status Write = 7
+exit_status Device = 8
 exit_status Memory = 9
 
 -- two statuses that differ in nothing but the memory of a text

@@ -1,10 +1,11 @@
 -- What contracts cite.
-pub mod Words
 pub mod BeforeAfter
-pub mod Hosts
 pub mod FaultLines
+pub mod Words
 pub mod Runs
+pub mod Stores
+pub mod Endings
 pub mod Causes
 -- What private functions compute. No public clause rests on it.
-pub mod Loop
 pub mod LineParts
+pub mod Loop

@@ -1,16 +1,16 @@
--- The parts of a fault line. Only private functions see it.
-use Rattle.std.specs.Prelude.{ℕ, List, [], ◌++◌, Option, Some, None, decimal}
+-- The pieces of a fault line. Only private functions see it.
+use Rattle.std.specs.Prelude.{ℕ, List, flat_map, decimal}
+use Rattle.hex.specs.Hex.{encode_lower}
 use Rattle.replay.specs.declared.told.FaultLine.{FaultLine}
+use Rattle.replay.specs.declared.told.Piece.{Piece}
+use Rattle.replay.specs.declared.told.Piece.TheVariants.{Text, Number, Digest}
 
--- a number's digits, if there is one
-abbrev pub number_text : Option ℕ → List ℕ
-number_text None = []
-number_text (Some number) = decimal number
-
--- what stands behind the number
-abbrev pub rest_text : FaultLine → List ℕ
-rest_text line = line.back.now ++ (line.name.now ++ line.end.now)
+-- a piece: a text, a number in decimal digits, or bytes in hexadecimal digits
+abbrev pub piece_text : Piece → List ℕ
+piece_text (Text text) = text.now
+piece_text (Number n) = decimal n
+piece_text (Digest bytes) = encode_lower bytes.now
 
 -- the whole line
 abbrev pub line_text : FaultLine → List ℕ
-line_text line = line.front.now ++ (number_text line.number ++ rest_text line)
+line_text line = flat_map piece_text line.pieces

@@ -1,69 +1,32 @@
--- What the parts of a run answer.
-use Rattle.std.specs.Prelude.{◌≡◌, ◌↔◌, ◌⊎◌, ℕ, None, option_and_then, List, [], ◌++◌, map, Option}
-use Rattle.std.specs.Prelude.{Some, IfSome, IsOk, Ok, Err}
+-- What the parts of a run answer. Only private functions see it.
+-- Source: none.
+use Rattle.std.specs.Prelude.{◌≡◌, ◌↔◌, ℕ, Bool, None, option_and_then, List, Option, Some, IfSome, Ok}
+use Rattle.std.specs.Prelude.{Err, Result}
 use Rattle.agent_base.specs.Counts.{Rose}
-use Rattle.agent_base.specs.Streams.{Takes, TakesPrefix}
-use Rattle.suffix_list.specs.Suffix.{Rule}
 use Rattle.suffix_list.specs.ListText.{RuleList, list_of}
-use Rattle.script_lines.specs.Script.{PlainAction}
-use Rattle.script_lines.specs.Grammar.{script_of_bytes}
-use Rattle.script_lines.specs.Plain.{action_of, fault_of}
-use Rattle.script_lines.specs.declared.script.Line.{Line}
-use Rattle.agent_model.specs.Isolation.{transcript}
-use Rattle.replay.specs.BeforeAfter.{BeforeAfter}
-use Rattle.replay.specs.Hosts.{HasLeft}
+use Rattle.script_lines.specs.Plain.{fault_of}
+use Rattle.store_dumps.specs.declared.fault.DumpFault.{DumpFault}
+use Rattle.store_dumps.specs.declared.fault.DumpFault.TheVariants.{Open}
+use Rattle.store_dumps.specs.declared.fault.DumpFault.TheVariants as dump
+use Rattle.store_runs.specs.Endings.{ending_of}
+use Rattle.store_runs.specs.declared.ending.Ending.{Ending}
+use Rattle.store_runs.specs.declared.ending.Ending.TheVariants as ending
+use Rattle.journal.specs.Opening.{IsOfFile}
+use Rattle.hosts.specs.Hosts.{HasLeft}
 use Rattle.command_line.specs.Words.{PlainCommand}
-use Rattle.replay.specs.Words.{list_named}
-use Rattle.replay.specs.Runs.{ScriptRead, transcript_of, Writes}
-use Rattle.replay.specs.Causes.{CanEnd, ScriptCause, ListCause, ReadCounts, ReadCause, WriteCounts}
-use Rattle.replay.specs.Causes.{OpensNoList, ReadsNoScript, IsOfList, IsOfScript}
+use Rattle.replay.specs.BeforeAfter.{BeforeAfter}
+use Rattle.replay.specs.Words.{list_named, store_named}
+use Rattle.replay.specs.Stores.{Images, LeavesAllBut, Writes}
+use Rattle.replay.specs.Causes.{DeviceCounts, ListCause, ReadCause, ReadCounts, ScriptCause}
+use Rattle.replay.specs.Endings.{CanEnd}
+use Rattle.replay.specs.Causes.{OpensNoList, ReadsNoScript, ScriptFaulty}
+use Rattle.replay.specs.Endings.{IsOfList, IsOfScript}
+use Rattle.replay.specs.Causes.{RoseByStore, WriteCounts}
 use Rattle.replay.specs.declared.status.Status.{Status}
 use Rattle.replay.specs.declared.status.Status.TheVariants.{Done, Usage, Script, List as ListStatus}
-use Rattle.replay.specs.declared.status.Status.TheVariants.{Read, Write, Memory}
+use Rattle.replay.specs.declared.status.Status.TheVariants.{Store, Read, Write, Device, Memory}
 
--- the actions of some lines
-abbrev pub acted : List Line → List PlainAction
-acted lines = map (λ line. action_of line.action) lines
-
--- the sink took the front of what was held, and the rest is held still
-abbrev pub TakesFront : (before after : Option (List ℕ)) → (held rest : List ℕ) → Type 0
-TakesFront before after held rest =
-    (front : List ℕ) × (Takes before after front × (held ≡ front ++ rest))
-
--- what the sink took of lines whose run ended so; only these statuses are answered
-abbrev pub WritesLines : Status → List Rule → ℕ → List PlainAction
-    → (taken : BeforeAfter (Option (List ℕ))) → Type 0
-WritesLines Done rules start actions taken =
-    Takes taken.before taken.after (transcript rules start actions)
-WritesLines Write rules start actions taken =
-    TakesPrefix taken.before taken.after (transcript rules start actions)
-WritesLines Memory rules start actions taken =
-    TakesPrefix taken.before taken.after (transcript rules start actions)
-WritesLines _ rules start actions taken = ⊥
-
--- what waited was written and the status is the one that was asked for, or writing it failed
-abbrev pub Ended : (asked answered : Status) → (taken : BeforeAfter (Option (List ℕ)))
-    → (faults : BeforeAfter ℕ) → List ℕ → Type 0
-Ended asked answered taken faults waiting =
-    ((answered ≡ asked)
-    × (Takes taken.before taken.after waiting × (faults.after ≡ faults.before)))
-    ⊎ ((answered ≡ Write)
-    × (TakesPrefix taken.before taken.after waiting × Rose faults.before faults.after))
-
--- what the sink took of a script whose run under these rules ended so
-abbrev pub WritesScript : Status → List Rule → ℕ
-    → (left taken : BeforeAfter (Option (List ℕ))) → Type 0
-WritesScript Done rules start left taken =
-    (read : ScriptRead left)
-    × Takes taken.before taken.after (transcript_of rules start read.script)
-WritesScript Write rules start left taken =
-    (read : ScriptRead left)
-    × TakesPrefix taken.before taken.after (transcript_of rules start read.script)
-WritesScript Memory rules start left taken =
-    Takes taken.before taken.after []
-    ⊎ ((read : ScriptRead left)
-    × TakesPrefix taken.before taken.after (transcript_of rules start read.script))
-WritesScript _ rules start left taken = Takes taken.before taken.after []
+-- ---- the list
 
 -- the list that was read is the one that the host told, where it told one
 abbrev pub IsListOf : (told : Option (List ℕ)) → RuleList → Type 0
@@ -82,35 +45,88 @@ ListRefusal Read told faults = Rose faults.before faults.after
 ListRefusal Memory told faults = faults.after ≡ faults.before
 ListRefusal _ told faults = ⊥
 
--- what the script's bytes are where its run ended so; only these statuses are answered
-abbrev pub ScriptAnswer : Status → Option (List ℕ) → Type 0
-ScriptAnswer Done told = IfSome told (λ bytes. IsOk (script_of_bytes bytes))
-ScriptAnswer Write told = IfSome told (λ bytes. IsOk (script_of_bytes bytes))
-ScriptAnswer (Script why) told = IfSome told (λ bytes. script_of_bytes bytes ≡ Err (fault_of why))
-    × IsOfScript (fault_of why)
-ScriptAnswer Read told = Unit {0}
-ScriptAnswer Memory told = Unit {0}
-ScriptAnswer _ told = ⊥
+-- a status that comes after the list was read
+abbrev pub IsAfterList : Status → Type 0
+IsAfterList Usage = ⊥
+IsAfterList (ListStatus why) = ⊥
+IsAfterList status = Unit {0}
+
+-- ---- the script
+
+-- why the script could not be read, or was refused; only these statuses are answered
+abbrev pub ScriptRefusal : (cuts_allowed : Bool) → Status → (told : Option (List ℕ))
+    → (faults : BeforeAfter ℕ) → Type 0
+ScriptRefusal cuts_allowed (Script why) told faults =
+    ScriptFaulty cuts_allowed told (fault_of why) × IsOfScript (fault_of why)
+    × (faults.after ≡ faults.before)
+ScriptRefusal cuts_allowed Read told faults = Rose faults.before faults.after
+ScriptRefusal cuts_allowed Memory told faults = faults.after ≡ faults.before
+ScriptRefusal cuts_allowed _ told faults = ⊥
 
 -- the count of faults of a script's source rose where reading it failed, and stays else
 abbrev pub ScriptCounts : Status → (script : BeforeAfter ℕ) → Type 0
 ScriptCounts Read script = Rose script.before script.after
 ScriptCounts _ script = script.after ≡ script.before
 
+-- ---- the store
+
+-- a status that lines over a store can end with, or the store's opening
+abbrev pub HasRun : Status → Type 0
+HasRun Usage = ⊥
+HasRun (Script why) = ⊥
+HasRun (ListStatus why) = ⊥
+HasRun (Store why) = IsOfFile why
+HasRun status = Unit {0}
+
+-- the counts of a host: its own rose where the store was not opened, and else they rose by the
+-- store's faults and by nothing else
+abbrev pub HostCounts : Status → (host stores : BeforeAfter ℕ) → Type 0
+HostCounts Read host stores = (stores.after ≡ stores.before) × Rose host.before host.after
+HostCounts _ host stores = RoseByStore host stores
+
+-- the count of faults of the stores that were closed rose where the device failed
+abbrev pub StoreCounts : Status → (stores : BeforeAfter ℕ) → Type 0
+StoreCounts Device stores = Rose stores.before stores.after
+StoreCounts _ stores = Unit {0}
+
+-- ---- lines
+
+-- the status of a run of lines that ended so
+abbrev pub status_of : Ending → Status
+status_of ending.Done = Done
+status_of ending.Write = Write
+status_of ending.Device = Device
+status_of (ending.Store why) = Store why
+status_of ending.Memory = Memory
+
+-- how a dump ended, in the words of a run
+abbrev pub dump_ending : {T : Type 0} → Result T DumpFault → Ending
+dump_ending (Ok done) = ending.Done
+dump_ending (Err (Open why)) = ending_of why
+dump_ending (Err dump.Write) = ending.Write
+dump_ending (Err dump.NoMemory) = ending.Memory
+
+-- ---- the command
+
 -- what a command leaves and answers: all that `run` promises but for standard error
 pub record Obeys (command : Option PlainCommand) (status : Status)
-    (lists : List ℕ → Option (List ℕ))
-    (left taken : BeforeAfter (Option (List ℕ))) (host reads script out lists_out : BeforeAfter ℕ)
+    (lists : List ℕ → Option (List ℕ)) (tells : Bool) (before after : List ℕ → Images)
+    (left taken : BeforeAfter (Option (List ℕ)))
+    (host stores reads script out lists_out : BeforeAfter ℕ) (store_out : Option (List ℕ))
     (HostStays ScriptStays : Type 0) : Type 0 where
-  pub text : Writes command status (option_and_then lists (list_named command)) left taken
+  pub text : Writes command status lists tells before after left taken
   pub usage : (status ≡ Usage) ↔ (command ≡ None)
   pub ends : CanEnd command status
   pub refused : ScriptCause command status left.before
   pub list : ListCause status (option_and_then lists (list_named command))
-  pub read : ReadCounts status host script
-  pub read_told : ReadCause status (option_and_then lists (list_named command)) reads script
+  pub read : ReadCounts status host stores script
+  pub read_told :
+      ReadCause (store_named command) status (option_and_then lists (list_named command)) host reads
+      script
+  pub device : DeviceCounts command tells status stores
   pub write : WriteCounts status out
   pub untouched : OpensNoList command → HostStays
   pub unread : ReadsNoScript command status → ScriptStays
-  pub list_first : (host.after ≡ host.before) ⊎ ScriptStays
   pub closed : lists_out.after ≡ lists_out.before
+  pub store_closed : store_out ≡ None
+  pub others : LeavesAllBut (store_named command) before after

@@ -2,21 +2,22 @@
 -- A clause on bytes speaks of a source or sink that tells its bytes; one that tells none has
 -- `None`.
 -- Source: none; these are the words of the promise.
-use Rattle.std.specs.Prelude.{◌≡◌, ◌⊎◌, ℕ, List, [], map, Option, Some, None, IfSome, Ok}
+use Rattle.std.specs.Prelude.{◌≡◌, ◌⊎◌, ℕ, Bool, List, [], map, Option, Some, IfSome, Ok}
 use Rattle.agent_base.specs.Streams.{Gives, Takes, TakesPrefix}
-use Rattle.suffix_list.specs.Suffix.{Rule}
 use Rattle.suffix_list.specs.ListText.{RuleList, list_of}
-use Rattle.origin_site.specs.Site.{PlainSite}
-use Rattle.script_lines.specs.Script.{PlainAction, PlainScript}
+use Rattle.script_actions.specs.Action.{PlainStep}
+use Rattle.script_lines.specs.Script.{PlainScript}
 use Rattle.script_lines.specs.Grammar.{script_of_bytes}
-use Rattle.command_line.specs.Words.{PlainCommand, Help, Replay}
-use Rattle.agent_model.specs.Isolation.{transcript, replies_to, lines_of_site, lines_alone}
-use Rattle.agent_model.specs.Isolation.{local_script, site_run}
+use Rattle.store_runs.specs.Disks.{WritesInMemory}
+use Rattle.store_runs.specs.declared.ending.Ending.{Ending}
+use Rattle.store_runs.specs.declared.ending.Ending.TheVariants as ending
+use Rattle.hosts.specs.Hosts.{HasLeft}
 use Rattle.replay.specs.BeforeAfter.{BeforeAfter}
 use Rattle.replay.specs.FaultLines.{usage_line}
-use Rattle.replay.specs.Hosts.{HasLeft}
 use Rattle.replay.specs.declared.status.Status.{Status}
-use Rattle.replay.specs.declared.status.Status.TheVariants.{Done, Write, Memory}
+use Rattle.replay.specs.declared.status.Status.TheVariants.{Done, Store, Write, Device, Memory}
+
+-- ---- what was read
 
 -- The list that the words name, read to its end: the one that the host told, where it told one.
 pub record ListRead (told : Option (List ℕ)) : Type 0 where
@@ -25,56 +26,55 @@ pub record ListRead (told : Option (List ℕ)) : Type 0 where
   pub given : HasLeft told (Some bytes)
   pub grammar : list_of bytes ≡ Ok list
 
--- The script that a source gave, read to its end.
-pub record ScriptRead (left : BeforeAfter (Option (List ℕ))) : Type 0 where
+-- The script that a source gave, read to its end, where a line with cuts is allowed or is not.
+pub record ScriptRead (cuts_allowed : Bool) (left : BeforeAfter (Option (List ℕ))) : Type 0 where
   pub bytes : List ℕ
   pub script : PlainScript
   pub given : Gives left.before left.after bytes
   pub ended : IfSome left.after (λ rest. rest ≡ [])
-  pub grammar : script_of_bytes bytes ≡ Ok script
+  pub grammar : script_of_bytes cuts_allowed bytes ≡ Ok script
 
--- the actions of a script's lines, in their order
-abbrev pub actions_of : PlainScript → List PlainAction
-actions_of script = map (λ line. line.action) script.lines
+-- the steps of a script's lines, in their order
+abbrev pub steps_in : PlainScript → List PlainStep
+steps_in script = map (λ line. line.step) script.lines
 
--- the transcript of a script: the text of the replies of the world of all sites under these rules,
--- whose clock begins here
-abbrev pub transcript_of : List Rule → ℕ → PlainScript → List ℕ
-transcript_of rules start script = transcript rules start (actions_of script)
+-- ---- a run of a script
 
--- what the sink took of a run that ended so: at the end the whole transcript; where writing or
--- memory stopped the run, nothing or a part of the transcript from its start; else nothing
-abbrev pub WritesText : ℕ → Status → (told : Option (List ℕ))
-    → (left taken : BeforeAfter (Option (List ℕ))) → Type 0
-WritesText start Done told left taken =
-    (list : ListRead told) × ((read : ScriptRead left)
-    × Takes taken.before taken.after (transcript_of list.list.rules start read.script))
-WritesText start Write told left taken =
-    (list : ListRead told) × ((read : ScriptRead left)
-    × TakesPrefix taken.before taken.after (transcript_of list.list.rules start read.script))
-WritesText start Memory told left taken =
-    Takes taken.before taken.after []
-    ⊎ ((list : ListRead told) × ((read : ScriptRead left)
-    × TakesPrefix taken.before taken.after (transcript_of list.list.rules start read.script)))
-WritesText start _ told left taken = Takes taken.before taken.after []
+-- list and script were read, and the run of the script was this
+abbrev pub ReadAndRan : (cuts_allowed : Bool) → (told : Option (List ℕ))
+    → (left : BeforeAfter (Option (List ℕ))) → (Ran : RuleList → PlainScript → Type 0) → Type 0
+ReadAndRan cuts_allowed told left Ran =
+    (list : ListRead told) × ((read : ScriptRead cuts_allowed left) × Ran list.list read.script)
+
+-- What the sink took, and what holds, of a command that ended so: where it came to its work, what
+-- is said of that work, which ended so; else nothing was taken. Memory may be wanting before.
+abbrev pub Written : Status → (taken : BeforeAfter (Option (List ℕ))) → (Ran : Ending → Type 0)
+    → Type 0
+Written Done taken Ran = Ran ending.Done
+Written Write taken Ran = Ran ending.Write
+Written Device taken Ran = Ran ending.Device
+Written (Store why) taken Ran = Ran (ending.Store why)
+Written Memory taken Ran = Takes taken.before taken.after [] ⊎ Ran ending.Memory
+Written _ taken Ran = Takes taken.before taken.after []
+
+-- the same of a script: list and script were read, and its lines ran so
+abbrev pub WritesScript : Status → (cuts_allowed : Bool) → (told : Option (List ℕ))
+    → (left taken : BeforeAfter (Option (List ℕ)))
+    → (Ran : Ending → RuleList → PlainScript → Type 0) → Type 0
+WritesScript status cuts_allowed told left taken Ran =
+    Written status taken (λ ended. ReadAndRan cuts_allowed told left (Ran ended))
+
+-- the lines ran over a new store in memory, whose power is cut as the script says
+abbrev pub RanInMemory : (start batch : ℕ) → (taken : BeforeAfter (Option (List ℕ)))
+    → Ending → RuleList → PlainScript → Type 0
+RanInMemory start batch taken ending list script =
+    WritesInMemory ending list.rules start batch (script.cuts ≡ []) (steps_in script)
+    taken.before taken.after
+
+-- ---- the usage line
 
 -- what the sink took of the usage line
 abbrev pub WritesUsage : Status → (taken : BeforeAfter (Option (List ℕ))) → Type 0
 WritesUsage Done taken = Takes taken.before taken.after usage_line
 WritesUsage Write taken = TakesPrefix taken.before taken.after usage_line
 WritesUsage _ taken = Takes taken.before taken.after []
-
--- what the sink took of a command that ended so; nothing where the words are no command
-abbrev pub Writes : Option PlainCommand → Status → (told : Option (List ℕ))
-    → (left taken : BeforeAfter (Option (List ℕ))) → Type 0
-Writes (Some (Replay list start)) status told left taken = WritesText start status told left taken
-Writes (Some Help) status told left taken = WritesUsage status taken
-Writes None status told left taken = Takes taken.before taken.after []
-
--- the lines of each site are those of its own machine, which is given the site's local script
--- alone, wherever the clock begins
-abbrev pub HasSiteLines : List Rule → PlainScript → Type 0
-HasSiteLines rules script = (site : PlainSite) (start : ℕ)
-    → let actions = actions_of script in
-    lines_of_site site (replies_to rules start actions)
-    ≡ lines_alone site (site_run site (local_script rules site start actions))

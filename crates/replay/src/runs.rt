@@ -1,32 +1,35 @@
 //! The run of a command.
-ghost use Rattle.std.specs.Prelude.{◌≡◌, ◌≤◌, ◌⊎◌, ◌↔◌, map, Some, None, IfOk, IfErr, OnOk};
-ghost use Rattle.std.specs.Prelude.{string_bytes};
-ghost use Rattle.agent_model.specs.Rest.{last_moment};
-ghost use Rattle.command_line.specs.Plain.{plain_command};
-ghost use Rattle.command_line.specs.Words.{Help, Replay, StartsInTime, command_of};
+ghost use Rattle.std.specs.Prelude.{◌≡◌, ◌≤◌, ◌⊎◌, ◌↔◌, map, Some, None, string_bytes};
+ghost use Rattle.command_line.specs.Words.{Help, command_of};
+ghost use Rattle.printed_model.specs.Histories.{HasOneText, HasSameLines, HasSiteLines};
 ghost use Rattle.replay.specs.BeforeAfter.{from_to};
-ghost use Rattle.replay.specs.Causes.{CanEnd, ListCause, ReadCause, ReadCounts, ScriptCause};
-ghost use Rattle.replay.specs.Causes.{OpensNoList, ReadsNoScript, TellsFault, WriteCounts};
-ghost use Rattle.replay.specs.Loop.{IsListOf, ListRefusal, ListUnread, Obeys};
-ghost use Rattle.replay.specs.Runs.{HasSiteLines, ListRead, ScriptRead, Writes, WritesText};
+ghost use Rattle.replay.specs.Causes.{DeviceCounts, ListCause, OpensNoList, ReadCause};
+ghost use Rattle.replay.specs.Endings.{CanEnd};
+ghost use Rattle.replay.specs.Causes.{ReadCounts, ReadsNoScript, ScriptCause, TellsFault};
+ghost use Rattle.replay.specs.Causes.{WriteCounts};
+ghost use Rattle.replay.specs.Loop.{Obeys};
 ghost use Rattle.replay.specs.Runs.{WritesUsage};
-ghost use Rattle.replay.specs.Words.{list_told};
+ghost use Rattle.replay.specs.Stores.{LeavesAllBut, Writes};
+ghost use Rattle.replay.specs.Words.{list_told, store_named};
 
-use crate::lines::run_script;
+use crate::dumps::dump_store;
+use crate::scripts::replay;
 use crate::told::USAGE;
-use crate::{Host, Status, tell};
-use agent_base::{Fault, NoMemory, Sink, Source, write_all};
-use agent_model::isolation;
+use crate::{Status, tell};
+use agent_base::{NoMemory, Sink, Source, write_all};
+use agent_core::Options;
 use command_line::{Command, read_words};
+use hosts::Host;
+use printed_model::printed_histories;
 use std::alloc::Global;
-use suffix_list::{ListFault, SuffixList};
 
 /// Runs the command that the words are. For a run of a script it reads the list that the words
-/// name, reads the whole script, and then runs its lines and writes their replies to `out`. For
-/// `--help` it writes the usage line to `out`.
+/// name, reads the whole script, opens the store that they name or makes a new one in memory, and
+/// then runs the lines and writes their replies to `out`. For a dump it writes the rows of the
+/// store, and for `--help` the usage line.
 ///
-/// Nothing is written before the list and the script are read. A status other than
-/// [`Status::Done`] writes one line to `err`; where that fails, the status stands.
+/// Nothing is written before list, script and store are read. What is opened is closed. A status
+/// other than [`Status::Done`] writes one line to `err`; where that fails, the status stands.
 pub fn run<H: Host, I: Source, O: Sink, E: Sink>(
     alloc: Global,
     words: &[String],
@@ -35,13 +38,20 @@ pub fn run<H: Host, I: Source, O: Sink, E: Sink>(
     out: &mut O,
     err: &mut E,
 ) -> Status
-    ensures text { Writes (command_of (map string_bytes words.now)) result
-        (list_told (H.lists host.old) (map string_bytes words.now))
+    requires { H.store_out host.old ≡ None }
+
+    // What was printed, and what is left of the store.
+    ensures text { Writes (command_of (map string_bytes words.now)) result (H.lists host.old)
+        (H.tells_stores host.old) (H.stores host.old) (H.stores host.new)
         (from_to (I.left script.old) (I.left script.new))
         (from_to (O.taken out.old) (O.taken out.new)) }
-    ensures sites { (list : ListRead (list_told (H.lists host.old) (map string_bytes words.now)))
-        (read : ScriptRead (from_to (I.left script.old) (I.left script.new)))
-        → HasSiteLines list.list.rules read.script }
+
+    // The promise on what is printed of every history.
+    ensures sites { HasSiteLines }
+    ensures same { HasSameLines }
+    ensures unbroken { HasOneText }
+
+    // How it ended.
     ensures status { CanEnd (command_of (map string_bytes words.now)) result }
     ensures usage { (result ≡ Status.Usage) ↔ (command_of (map string_bytes words.now) ≡ None) }
     ensures script { ScriptCause (command_of (map string_bytes words.now)) result
@@ -49,23 +59,32 @@ pub fn run<H: Host, I: Source, O: Sink, E: Sink>(
     ensures list { ListCause result
         (list_told (H.lists host.old) (map string_bytes words.now)) }
     ensures read { ReadCounts result (from_to (H.faults host.old) (H.faults host.new))
+        (from_to (H.store_faults host.old) (H.store_faults host.new))
         (from_to (I.faults script.old) (I.faults script.new)) }
-    ensures read_told { ReadCause result
+    ensures read_told { ReadCause (store_named (command_of (map string_bytes words.now))) result
         (list_told (H.lists host.old) (map string_bytes words.now))
+        (from_to (H.faults host.old) (H.faults host.new))
         (from_to (H.reads host.old) (H.reads host.new))
         (from_to (I.faults script.old) (I.faults script.new)) }
+    ensures device { DeviceCounts (command_of (map string_bytes words.now))
+        (H.tells_stores host.old) result
+        (from_to (H.store_faults host.old) (H.store_faults host.new)) }
     ensures write { WriteCounts result (from_to (O.faults out.old) (O.faults out.new)) }
+
+    // What is left alone, and what is closed.
     ensures untouched { OpensNoList (command_of (map string_bytes words.now))
         → host.new ≡ host.old }
     ensures unread { ReadsNoScript (command_of (map string_bytes words.now)) result
         → script.new ≡ script.old }
-    ensures list_first { (H.faults host.new ≡ H.faults host.old) ⊎ (script.new ≡ script.old) }
     ensures closed { H.lists_out host.new ≡ H.lists_out host.old }
+    ensures store_closed { H.store_out host.new ≡ None }
+    ensures others { LeavesAllBut (store_named (command_of (map string_bytes words.now)))
+        (H.stores host.old) (H.stores host.new) }
     ensures told { TellsFault result (from_to (E.taken err.old) (E.taken err.new))
         (from_to (E.faults err.old) (E.faults err.new)) }
 {
     let status = command(alloc, words, host, script, out);
-    isolation();
+    printed_histories();
     tell(err, &status);
     status
 }
@@ -78,45 +97,44 @@ fn command<H: Host, I: Source, O: Sink>(
     script: &mut I,
     out: &mut O,
 ) -> Status
-    ensures { Obeys (command_of (map string_bytes words.now)) result (H.lists host.old)
+    requires { H.store_out host.old ≡ None }
+    ensures { Obeys (command_of (map string_bytes words.now)) result
+        (H.lists host.old) (H.tells_stores host.old) (H.stores host.old) (H.stores host.new)
         (from_to (I.left script.old) (I.left script.new))
         (from_to (O.taken out.old) (O.taken out.new))
         (from_to (H.faults host.old) (H.faults host.new))
+        (from_to (H.store_faults host.old) (H.store_faults host.new))
         (from_to (H.reads host.old) (H.reads host.new))
         (from_to (I.faults script.old) (I.faults script.new))
         (from_to (O.faults out.old) (O.faults out.new))
-        (from_to (H.lists_out host.old) (H.lists_out host.new))
+        (from_to (H.lists_out host.old) (H.lists_out host.new)) (H.store_out host.new)
         (host.new ≡ host.old) (script.new ≡ script.old) }
 {
     match read_words(alloc, words) {
-        Ok(Some(command)) => obey(alloc, command, host, script, out),
+        Ok(Some(Command::Help)) => help(out),
+        Ok(
+            Some(
+                Command::Replay {
+                    list,
+                    store,
+                    batch,
+                    start,
+                },
+            ),
+        ) => replay(
+            alloc,
+            list,
+            store,
+            Options { start, batch },
+            host,
+            script,
+            out,
+        ),
+        Ok(Some(Command::Dump { list, store })) => dump_store(
+            alloc, list, store, host, script, out,
+        ),
         Ok(None) => Status::Usage,
         Err(NoMemory) => Status::Memory,
-    }
-}
-
-// What the words ask for.
-fn obey<H: Host, I: Source, O: Sink>(
-    alloc: Global,
-    command: Command<'_>,
-    host: &mut H,
-    script: &mut I,
-    out: &mut O,
-) -> Status
-    requires { StartsInTime (plain_command command) }
-    ensures { Obeys (Some (plain_command command.entry)) result (H.lists host.old)
-        (from_to (I.left script.old) (I.left script.new))
-        (from_to (O.taken out.old) (O.taken out.new))
-        (from_to (H.faults host.old) (H.faults host.new))
-        (from_to (H.reads host.old) (H.reads host.new))
-        (from_to (I.faults script.old) (I.faults script.new))
-        (from_to (O.faults out.old) (O.faults out.new))
-        (from_to (H.lists_out host.old) (H.lists_out host.new))
-        (host.new ≡ host.old) (script.new ≡ script.old) }
-{
-    match command {
-        Command::Help => help(out),
-        Command::Replay { list, start } => replay(alloc, list, start, host, script, out),
     }
 }
 
@@ -129,62 +147,5 @@ fn help<O: Sink>(out: &mut O) -> Status
     match write_all(out, USAGE.as_bytes()) {
         Ok(()) => Status::Done,
         Err(_) => Status::Write,
-    }
-}
-
-// Runs the script under the list of this path.
-fn replay<H: Host, I: Source, O: Sink>(
-    alloc: Global,
-    path: &str,
-    start: u64,
-    host: &mut H,
-    script: &mut I,
-    out: &mut O,
-) -> Status
-    requires { start ≤ last_moment }
-    ensures text { WritesText start result (H.lists host.old path.now)
-        (from_to (I.left script.old) (I.left script.new))
-        (from_to (O.taken out.old) (O.taken out.new)) }
-    ensures status { CanEnd (Some (Replay path.now start)) result }
-    ensures script { ScriptCause (Some (Replay path.now start)) result (I.left script.old) }
-    ensures list { ListCause result (H.lists host.old path.now) }
-    ensures read { ReadCounts result (from_to (H.faults host.old) (H.faults host.new))
-        (from_to (I.faults script.old) (I.faults script.new)) }
-    ensures read_told { ReadCause result (H.lists host.old path.now)
-        (from_to (H.reads host.old) (H.reads host.new))
-        (from_to (I.faults script.old) (I.faults script.new)) }
-    ensures write { WriteCounts result (from_to (O.faults out.old) (O.faults out.new)) }
-    ensures unread { ReadsNoScript (Some (Replay path.now start)) result → script.new ≡ script.old }
-    ensures list_first { (H.faults host.new ≡ H.faults host.old) ⊎ (script.new ≡ script.old) }
-    ensures closed { H.lists_out host.new ≡ H.lists_out host.old }
-{
-    match read_list(alloc, host, path) {
-        Ok(list) => run_script(alloc, &list, start, script, out),
-        Err(status) => status,
-    }
-}
-
-// Reads the list to its end.
-fn read_list<H: Host>(alloc: Global, host: &mut H, path: &str) -> Result<SuffixList, Status>
-    ensures list { IfOk result (λ list. IsListOf (H.lists host.old path.now) list) }
-    ensures still { OnOk result (H.faults host.new ≡ H.faults host.old) }
-    ensures refused { IfErr result (λ why. ListRefusal why (H.lists host.old path.now)
-        (from_to (H.faults host.old) (H.faults host.new))) }
-    ensures unread { IfErr result (λ why. ListUnread why (H.lists host.old path.now)
-        (from_to (H.reads host.old) (H.reads host.new))) }
-    ensures closed { H.lists_out host.new ≡ H.lists_out host.old }
-{
-    let mut list = match host.open_list(path) {
-        Ok(list) => list,
-        Err(Fault::Failed) => return Err(Status::Read),
-        Err(Fault::NoMemory) => return Err(Status::Memory),
-    };
-    let read = SuffixList::read(alloc, &mut list);
-    host.close_list(list);
-    match read {
-        Ok(list) => Ok(list),
-        Err(ListFault::ReadFault) => Err(Status::Read),
-        Err(ListFault::NoMemory) => Err(Status::Memory),
-        Err(why) => Err(Status::List(why)),
     }
 }

@@ -3,6 +3,7 @@ ghost use Rattle.std.specs.Prelude.{◌≡◌, IfOk};
 ghost use Rattle.replay.specs.FaultLines.{SameStatus, exit_status};
 
 use agent_base::NoMemory;
+use journal::OpenFault;
 use script_lines::ScriptFault;
 use std::alloc::Global;
 use suffix_list::ListFault;
@@ -18,10 +19,14 @@ pub enum Status {
     Script(ScriptFault),
     /// The list, read to its end or past its limit, is refused for this fault.
     List(ListFault),
-    /// Opening or reading the list, or reading the script, failed.
+    /// The store, read to its end or past its limit, is refused for this fault.
+    Store(OpenFault),
+    /// Opening or reading the list, reading the script, or opening the store's file failed.
     Read,
-    /// Writing a reply failed.
+    /// Writing a line failed.
     Write,
+    /// A call of the store's disk failed in the first opening, or the agent is down at the end.
+    Device,
     /// A growth of memory was refused.
     Memory,
 }
@@ -36,8 +41,10 @@ impl Status {
             Status::Usage => 2,
             Status::Script(_) => 3,
             Status::List(_) => 4,
+            Status::Store(_) => 5,
             Status::Read => 6,
             Status::Write => 7,
+            Status::Device => 8,
             Status::Memory => 9,
         }
     }
@@ -51,8 +58,10 @@ impl Status {
             Status::Usage => Ok(Status::Usage),
             Status::Script(why) => Ok(Status::Script(why.copy(alloc)?)),
             Status::List(why) => Ok(Status::List(*why)),
+            Status::Store(why) => Ok(Status::Store(*why)),
             Status::Read => Ok(Status::Read),
             Status::Write => Ok(Status::Write),
+            Status::Device => Ok(Status::Device),
             Status::Memory => Ok(Status::Memory),
         }
     }

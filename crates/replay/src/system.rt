@@ -1,7 +1,9 @@
 //! The program: words, files and standard streams are handed to [`run`](crate::run).
 
-use crate::{RealHost, Status, run, tell};
-use agent_base::{ReadSource, WriteSink};
+use crate::{Status, run, tell};
+use agent_base::{Failed, ReadSource, WriteSink};
+use hosts::{HeldStreams, RealHost, hold_streams};
+use std::fs::File;
 use std::process::ExitCode;
 use std::{env, io};
 
@@ -9,8 +11,8 @@ use std::{env, io};
 /// number of the status.
 pub fn program(rt: HostRuntime) -> ExitCode {
     let mut err = WriteSink::new(rt.stderr());
-    let words = match words_of(&rt) {
-        Ok(words) => words,
+    let (_held, words) = match begin(&rt) {
+        Ok(begun) => begun,
         Err(status) => {
             tell(&mut err, &status);
             return ExitCode::from(status.code());
@@ -28,6 +30,15 @@ pub fn program(rt: HostRuntime) -> ExitCode {
         &mut err,
     );
     ExitCode::from(status.code())
+}
+
+// What stands in the place of standard streams that were closed, before any other file is opened,
+// and the words.
+fn begin(rt: &HostRuntime) -> Result<(HeldStreams<File>, Vec<String>), Status> {
+    match hold_streams(rt) {
+        Ok(held) => Ok((held, words_of(rt)?)),
+        Err(Failed) => Err(Status::Read),
+    }
 }
 
 // The words of the command line, without the program's name. Words that are no UTF-8 are no

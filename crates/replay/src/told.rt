@@ -1,27 +1,35 @@
 //! The line of a status, and how it is written.
-ghost use Rattle.std.specs.Prelude.{◌≡◌, ◌++◌, ◌∷◌, [], OnOk, OnErr, codes, decimal};
+ghost use Rattle.std.specs.Prelude.{◌≡◌, ◌++◌, ◌∷◌, [], OnOk, OnErr, codes, decimal, flat_map};
+ghost use Rattle.hex.specs.Hex.{encode_lower};
 ghost use Rattle.agent_base.specs.Counts.{HasCause};
 ghost use Rattle.agent_base.specs.Streams.{Takes, TakesPrefix};
 ghost use Rattle.script_lines.specs.Plain.{fault_of};
 ghost use Rattle.replay.specs.FaultLines as spec;
-ghost use Rattle.replay.specs.LineParts.{line_text, number_text, rest_text};
+ghost use Rattle.replay.specs.LineParts.{line_text, piece_text};
 ghost use Rattle.replay.specs.BeforeAfter.{from_to};
 ghost use Rattle.replay.specs.Causes.{TellsFault};
 
 use crate::Status;
 use agent_base::{Failed, Sink, write_all};
+use hex::encode_to_slice;
 use itoa::Buffer;
+use journal::OpenFault;
 use script_lines::ScriptFault;
 use suffix_list::ListFault;
 
-// A line: what stands before a number, the number, what stands behind it, a name, and the end.
+// A piece of a line.
+#[derive(Clone, Copy)]
+enum Piece<'a> {
+    Text(&'a str),
+    Number(u64),
+    // Bytes, as two hexadecimal digits each.
+    Digest(&'a [u8; 32]),
+}
+
+// A line: its pieces, of which the last ones may be empty.
 #[derive(Drop)]
 struct FaultLine<'a> {
-    front: &'static str,
-    number: Option<u32>,
-    back: &'static str,
-    name: &'a str,
-    end: &'static str,
+    pieces: [Piece<'a>; 5],
 }
 
 /// The usage line, with its line feed.
@@ -32,7 +40,7 @@ pub fn tell<E: Sink>(err: &mut E, status: &Status)
     ensures told { TellsFault status.now (from_to (E.taken err.old) (E.taken err.new))
         (from_to (E.faults err.old) (E.faults err.new)) }
 {
-    let _ = write_line(err, &fault_line(status));
+    let _ = write_pieces(err, &fault_line(status).pieces);
 }
 
 fn fault_line(status: &Status) -> FaultLine<'_>
@@ -43,8 +51,10 @@ fn fault_line(status: &Status) -> FaultLine<'_>
         Status::Usage => plain(USAGE),
         Status::Script(why) => script_line(why),
         Status::List(why) => list_line(*why),
+        Status::Store(why) => store_line(why),
         Status::Read => plain("read fault\n"),
         Status::Write => plain("write fault\n"),
+        Status::Device => plain("device fault\n"),
         Status::Memory => plain("no memory\n"),
     }
 }
@@ -53,14 +63,18 @@ fn script_line(why: &ScriptFault) -> FaultLine<'_>
     ensures { line_text result ≡ spec.script_fault_line (fault_of why.now) }
 {
     match why {
-        ScriptFault::NotJson(number) => numbered("script line ", *number, ": not json\n"),
+        ScriptFault::NotJson(number) => numbered("script line ", *number as u64, ": not json\n"),
         ScriptFault::UnknownAction(number) => {
-            numbered("script line ", *number, ": unknown action\n")
+            numbered("script line ", *number as u64, ": unknown action\n")
         }
         ScriptFault::BadField(number, name) => bad_field(*number, name),
-        ScriptFault::LineTooLong(number) => numbered("script line ", *number, ": too long\n"),
-        ScriptFault::NotUtf8(number) => numbered("script line ", *number, ": not utf-8\n"),
-        ScriptFault::BadHeader(number) => numbered("script line ", *number, ": bad header\n"),
+        ScriptFault::LineTooLong(number) => {
+            numbered("script line ", *number as u64, ": too long\n")
+        }
+        ScriptFault::NotUtf8(number) => numbered("script line ", *number as u64, ": not utf-8\n"),
+        ScriptFault::BadHeader(number) => {
+            numbered("script line ", *number as u64, ": bad header\n")
+        }
         ScriptFault::TooLong => plain("script: too long\n"),
         ScriptFault::ReadFault => plain("read fault\n"),
         ScriptFault::NoMemory => plain("no memory\n"),
@@ -71,35 +85,57 @@ fn list_line<'a>(why: ListFault) -> FaultLine<'a>
     ensures { line_text result ≡ spec.list_fault_line why }
 {
     match why {
-        ListFault::BadRule(number) => numbered("list line ", number, ": bad rule\n"),
-        ListFault::TooManyRules(number) => numbered("list line ", number, ": too many rules\n"),
+        ListFault::BadRule(number) => numbered("list line ", number as u64, ": bad rule\n"),
+        ListFault::TooManyRules(number) => {
+            numbered("list line ", number as u64, ": too many rules\n")
+        }
         ListFault::TooLong => plain("list: too long\n"),
         ListFault::ReadFault => plain("read fault\n"),
         ListFault::NoMemory => plain("no memory\n"),
     }
 }
 
-fn plain<'a>(text: &'static str) -> FaultLine<'a>
-    ensures { line_text result ≡ text.now }
+fn store_line(why: &OpenFault) -> FaultLine<'_>
+    ensures { line_text result ≡ spec.store_fault_line why.now }
 {
-    FaultLine {
-        front: text,
-        number: None,
-        back: "",
-        name: "",
-        end: "",
+    match why {
+        OpenFault::NotAStore(offset) => numbered("store: not a store at ", *offset, "\n"),
+        OpenFault::OtherList { kept, given } => FaultLine {
+            pieces: [
+                Piece::Text("store: list "),
+                Piece::Digest(kept),
+                Piece::Text(", given "),
+                Piece::Digest(given),
+                Piece::Text("\n"),
+            ],
+        },
+        OpenFault::TooLarge(len) => numbered("store: too large: ", *len, "\n"),
+        OpenFault::DeviceFault => plain("device fault\n"),
+        OpenFault::NoMemory => plain("no memory\n"),
     }
 }
 
-fn numbered<'a>(front: &'static str, number: u32, back: &'static str) -> FaultLine<'a>
+fn plain(text: &str) -> FaultLine<'_>
+    ensures { line_text result ≡ text.now }
+{
+    let none = Piece::Text("");
+    FaultLine {
+        pieces: [Piece::Text(text), none, none, none, none],
+    }
+}
+
+fn numbered<'a>(front: &'a str, number: u64, back: &'a str) -> FaultLine<'a>
     ensures { line_text result ≡ front.now ++ (decimal number ++ back.now) }
 {
+    let none = Piece::Text("");
     FaultLine {
-        front,
-        number: Some(number),
-        back,
-        name: "",
-        end: "",
+        pieces: [
+            Piece::Text(front),
+            Piece::Number(number),
+            Piece::Text(back),
+            none,
+            none,
+        ],
     }
 }
 
@@ -109,77 +145,49 @@ fn bad_field(number: u32, name: &str) -> FaultLine<'_>
         ++ (decimal number ++ (codes ": bad field " ++ (name.now ++ 10 ∷ []))) }
 {
     FaultLine {
-        front: "script line ",
-        number: Some(number),
-        back: ": bad field ",
-        name,
-        end: "\n",
+        pieces: [
+            Piece::Text("script line "),
+            Piece::Number(number as u64),
+            Piece::Text(": bad field "),
+            Piece::Text(name),
+            Piece::Text("\n"),
+        ],
     }
 }
 
-fn write_line<E: Sink>(err: &mut E, line: &FaultLine<'_>) -> Result<(), Failed>
-    ensures all { OnOk result (Takes (E.taken err.old) (E.taken err.new) (line_text line.now)) }
-    ensures prefix { OnErr result
-        (TakesPrefix (E.taken err.old) (E.taken err.new) (line_text line.now)) }
-    ensures cause { HasCause (E.faults err.old) (E.faults err.new) result }
-{
-    match write_all(err, line.front.as_bytes()) {
-        Ok(()) => write_tail(err, line),
-        Err(why) => Err(why),
-    }
-}
-
-fn write_tail<E: Sink>(err: &mut E, line: &FaultLine<'_>) -> Result<(), Failed>
+fn write_pieces<E: Sink>(err: &mut E, pieces: &[Piece<'_>]) -> Result<(), Failed>
     ensures all { OnOk result
-        (Takes (E.taken err.old) (E.taken err.new)
-        (number_text line.now.number ++ rest_text line.now)) }
+        (Takes (E.taken err.old) (E.taken err.new) (flat_map piece_text pieces.now)) }
     ensures prefix { OnErr result
-        (TakesPrefix (E.taken err.old) (E.taken err.new)
-        (number_text line.now.number ++ rest_text line.now)) }
+        (TakesPrefix (E.taken err.old) (E.taken err.new) (flat_map piece_text pieces.now)) }
     ensures cause { HasCause (E.faults err.old) (E.faults err.new) result }
 {
-    match write_number(err, line.number) {
-        Ok(()) => write_rest(err, line),
-        Err(why) => Err(why),
+    for piece in pieces {
+        write_piece(err, piece)?;
     }
+    Ok(())
 }
 
-fn write_rest<E: Sink>(err: &mut E, line: &FaultLine<'_>) -> Result<(), Failed>
-    ensures all { OnOk result (Takes (E.taken err.old) (E.taken err.new) (rest_text line.now)) }
+fn write_piece<E: Sink>(err: &mut E, piece: &Piece<'_>) -> Result<(), Failed>
+    ensures all { OnOk result (Takes (E.taken err.old) (E.taken err.new) (piece_text piece.now)) }
     ensures prefix { OnErr result
-        (TakesPrefix (E.taken err.old) (E.taken err.new) (rest_text line.now)) }
+        (TakesPrefix (E.taken err.old) (E.taken err.new) (piece_text piece.now)) }
     ensures cause { HasCause (E.faults err.old) (E.faults err.new) result }
 {
-    match write_all(err, line.back.as_bytes()) {
-        Ok(()) => write_two(err, line.name, line.end),
-        Err(why) => Err(why),
-    }
-}
-
-fn write_two<E: Sink>(err: &mut E, first: &str, second: &str) -> Result<(), Failed>
-    ensures all { OnOk result
-        (Takes (E.taken err.old) (E.taken err.new) (first.now ++ second.now)) }
-    ensures prefix { OnErr result
-        (TakesPrefix (E.taken err.old) (E.taken err.new) (first.now ++ second.now)) }
-    ensures cause { HasCause (E.faults err.old) (E.faults err.new) result }
-{
-    match write_all(err, first.as_bytes()) {
-        Ok(()) => write_all(err, second.as_bytes()),
-        Err(why) => Err(why),
-    }
-}
-
-fn write_number<E: Sink>(err: &mut E, number: Option<u32>) -> Result<(), Failed>
-    ensures all { OnOk result (Takes (E.taken err.old) (E.taken err.new) (number_text number)) }
-    ensures prefix { OnErr result
-        (TakesPrefix (E.taken err.old) (E.taken err.new) (number_text number)) }
-    ensures cause { HasCause (E.faults err.old) (E.faults err.new) result }
-{
-    match number {
-        Some(number) => {
+    match piece {
+        Piece::Text(text) => write_all(err, text.as_bytes()),
+        Piece::Number(n) => {
             let mut digits = Buffer::new();
-            write_all(err, digits.format(number).as_bytes())
+            write_all(err, digits.format(*n).as_bytes())
         }
-        None => Ok(()),
+        Piece::Digest(bytes) => write_all(err, &digits_of(bytes)),
     }
+}
+
+fn digits_of(bytes: &[u8; 32]) -> [u8; 64]
+    ensures { result ≡ encode_lower bytes.now }
+{
+    let mut digits = [0; 64];
+    let _ = encode_to_slice(bytes, &mut digits);
+    digits
 }

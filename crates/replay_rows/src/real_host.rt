@@ -1,6 +1,6 @@
 //! The host of the program, over a real file.
 use agent_base::{Fault, ReadAll, read_all};
-use replay::{Host, RealHost};
+use hosts::{Host, RealHost};
 use std::test::Fail;
 use std::{env, fs};
 

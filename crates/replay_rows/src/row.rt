@@ -2,7 +2,8 @@
 ghost use Rattle.std.specs.Prelude.{◌≡◌, IfOk};
 
 use agent_base::{MemSink, MemSource, NoMemory};
-use replay::{MemHost, run};
+use hosts::MemHost;
+use replay::run;
 use std::alloc::{AllocError, Global};
 use std::process::Abort;
 use std::test::Fail;
@@ -95,7 +96,7 @@ fn make_ended(
 {
     let mut lists = Vec::new(alloc);
     lists.push((String::from_str(alloc, "LIST")?, list))?;
-    let mut host = MemHost::new(lists);
+    let mut host = MemHost::new(lists, Vec::new(alloc));
     let status = run(
         alloc,
         &words(alloc, line)?,

@@ -23,9 +23,9 @@ pub const SCRIPTS: &[(&str, &str, &str)] = &[
         "script line 2: unknown action\n",
     ),
     (
-        "an action that is not built",
-        "{\"do\":\"restart\"}",
-        "script line 1: unknown action\n",
+        "a restart with a member",
+        "{\"do\":\"restart\",\"tab\":1}",
+        "script line 1: bad field tab\n",
     ),
     (
         "two members that are unknown",

@@ -3,51 +3,105 @@ use command_line::{Command, read_words};
 use std::alloc::Global;
 use std::test::Fail;
 
-// What the words of a line are, which stand between spaces.
-fn read(alloc: Global, line: &str) -> Result<Option<(bool, u64)>, Fail> {
+const USUAL: u64 = 1_767_225_600;
+
+const LAST: u64 = 253_402_300_799;
+
+fn run<'a>(list: &'a str, store: Option<&'a str>, batch: u16, start: u64) -> Command<'a> {
+    Command::Replay {
+        list,
+        store,
+        batch,
+        start,
+    }
+}
+
+fn dump<'a>(list: &'a str, store: &'a str) -> Command<'a> {
+    Command::Dump { list, store }
+}
+
+fn commands() -> [(&'static str, Command<'static>); 18] {
+    [
+        ("--help", Command::Help),
+        ("replay l", run("l", None, 1, USUAL)),
+        ("replay help", run("help", None, 1, USUAL)),
+        ("replay dump", run("dump", None, 1, USUAL)),
+        ("replay help --start 5", run("help", None, 1, 5)),
+        ("replay l --start 000000000000", run("l", None, 1, 0)),
+        ("replay l --start 253402300799", run("l", None, 1, LAST)),
+        ("replay l --store s", run("l", Some("s"), 1, USUAL)),
+        ("replay l --store help", run("l", Some("help"), 1, USUAL)),
+        ("replay l --store a=b", run("l", Some("a=b"), 1, USUAL)),
+        ("replay l --batch 1", run("l", None, 1, USUAL)),
+        ("replay l --batch 000000000256", run("l", None, 256, USUAL)),
+        (
+            "replay l --store s --batch 3 --start 5",
+            run("l", Some("s"), 3, 5),
+        ),
+        (
+            "replay l --start 5 --store s --batch 3",
+            run("l", Some("s"), 3, 5),
+        ),
+        (
+            "replay l --batch 3 --start 5 --store s",
+            run("l", Some("s"), 3, 5),
+        ),
+        ("dump l s", dump("l", "s")),
+        ("dump help dump", dump("help", "dump")),
+        ("dump s l", dump("s", "l")),
+    ]
+}
+
+const NO_COMMANDS: [&str; 29] = [
+    "replay l --batch 0",
+    "replay l --batch 257",
+    "replay l --batch 65537",
+    "replay l --batch 2 --start 5 --batch 2",
+    "replay l --store s --store s",
+    "replay l --store -s",
+    "replay l --store --batch",
+    "replay l --store ",
+    "replay l --store",
+    "replay l --store=s",
+    "replay l --checkpoint 5",
+    "replay --store s l",
+    "replay l --start 253402300800",
+    "replay l --start 0000000000000",
+    "replay l --start 1e3",
+    "replay l --start +5",
+    "replay l --start ",
+    "replay l --start=5",
+    "replay l --start 5 --start 5",
+    "replay --start 5 l",
+    "replay -l",
+    "replay ",
+    "replay",
+    "dump l",
+    "dump l -s",
+    "dump -l s",
+    "dump l s --start 5",
+    "--help replay l",
+    "twin https://a.test l",
+];
+
+fn words(alloc: Global, line: &str) -> Result<Vec<String>, Fail> {
     let mut words = Vec::new(alloc);
     for word in line.split(' ') {
         words.push(String::from_str(alloc, word)?)?;
     }
-    match read_words(alloc, &words)? {
-        Some(Command::Help) => Ok(Some((true, 0))),
-        Some(Command::Replay { list, start }) => Ok(Some((list == "help", start))),
-        None => Ok(None),
-    }
+    Ok(words)
 }
-
-const LINES: [(&str, Option<(bool, u64)>); 20] = [
-    ("--help", Some((true, 0))),
-    ("replay l", Some((false, 1_767_225_600))),
-    ("replay help", Some((true, 1_767_225_600))),
-    ("replay help --start 5", Some((true, 5))),
-    ("replay l --start 000000000000", Some((false, 0))),
-    (
-        "replay l --start 253402300799",
-        Some((false, 253_402_300_799)),
-    ),
-    ("replay l --start 253402300800", None),
-    ("replay l --start 0000000000000", None),
-    ("replay l --start 1e3", None),
-    ("replay l --start +5", None),
-    ("replay l --start ", None),
-    ("replay l --start", None),
-    ("replay l --start=5", None),
-    ("replay l --start 5 --start 5", None),
-    ("replay --start 5 l", None),
-    ("replay -l", None),
-    ("replay ", None),
-    ("replay", None),
-    ("--help replay l", None),
-    ("twin https://a.test l", None),
-];
 
 #[test]
 fn words_of_the_command_line(rt: HostRuntime) -> Result<(), Fail> {
     let alloc = rt.alloc();
-    for (line, want) in LINES {
-        let got = read(alloc, line)?;
-        assert!(rt; got == want, "{line}");
+    for (line, want) in commands() {
+        let words = words(alloc, line)?;
+        assert!(rt; read_words(alloc, &words)? == Some(want), "{line}");
+    }
+    for line in NO_COMMANDS {
+        let words = words(alloc, line)?;
+        assert!(rt; read_words(alloc, &words)?.is_none(), "{line}");
     }
     assert!(rt; read_words(alloc, &[])?.is_none());
     Ok(())

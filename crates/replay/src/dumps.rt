@@ -1,0 +1,94 @@
+//! The rows of a store.
+ghost use Rattle.std.specs.Prelude.{◌≡◌, None, Some};
+ghost use Rattle.command_line.specs.Words.{Dump};
+ghost use Rattle.hosts.specs.Hosts.{LeavesOtherStores};
+ghost use Rattle.replay.specs.BeforeAfter.{from_to};
+ghost use Rattle.replay.specs.Causes.{WriteCounts};
+ghost use Rattle.replay.specs.Loop.{HasRun, HostCounts, Obeys, StoreCounts, dump_ending};
+ghost use Rattle.replay.specs.Loop.{status_of};
+ghost use Rattle.replay.specs.Runs.{Written};
+ghost use Rattle.replay.specs.Stores.{DumpedRows};
+
+use crate::Status;
+use crate::lists::read_list;
+use agent_base::{Fault, Sink, Source};
+use hosts::Host;
+use journal::OpenFault;
+use std::alloc::Global;
+use store_dumps::{DumpFault, dump};
+use suffix_list::SuffixList;
+
+/// Writes the rows of the store of a path, under the list of a path. The script is left alone.
+pub fn dump_store<H: Host, I: Source, O: Sink>(
+    alloc: Global,
+    list: &str,
+    store: &str,
+    host: &mut H,
+    script: &mut I,
+    out: &mut O,
+) -> Status
+    requires closed { H.store_out host.old ≡ None }
+    ensures { Obeys (Some (Dump list.now store.now)) result
+        (H.lists host.old) (H.tells_stores host.old) (H.stores host.old) (H.stores host.new)
+        (from_to (I.left script.old) (I.left script.new))
+        (from_to (O.taken out.old) (O.taken out.new))
+        (from_to (H.faults host.old) (H.faults host.new))
+        (from_to (H.store_faults host.old) (H.store_faults host.new))
+        (from_to (H.reads host.old) (H.reads host.new))
+        (from_to (I.faults script.old) (I.faults script.new))
+        (from_to (O.faults out.old) (O.faults out.new))
+        (from_to (H.lists_out host.old) (H.lists_out host.new)) (H.store_out host.new)
+        (host.new ≡ host.old) (script.new ≡ script.old) }
+{
+    match read_list(alloc, host, list) {
+        Ok(list) => dump_over(alloc, &list, store, host, out),
+        Err(status) => status,
+    }
+}
+
+// Writes the rows of the store of a path, and closes it.
+fn dump_over<H: Host, O: Sink>(
+    alloc: Global,
+    list: &SuffixList,
+    path: &str,
+    host: &mut H,
+    out: &mut O,
+) -> Status
+    requires closed { H.store_out host.old ≡ None }
+    ensures text { Written result (from_to (O.taken out.old) (O.taken out.new)) (λ ended.
+        DumpedRows (from_to (O.taken out.old) (O.taken out.new)) (H.tells_stores host.old)
+        (H.stores host.old path.now) (H.stores host.new path.now) ended list.now) }
+    ensures ran { HasRun result }
+    ensures counts { HostCounts result (from_to (H.faults host.old) (H.faults host.new))
+        (from_to (H.store_faults host.old) (H.store_faults host.new)) }
+    ensures device { StoreCounts result
+        (from_to (H.store_faults host.old) (H.store_faults host.new)) }
+    ensures write { WriteCounts result (from_to (O.faults out.old) (O.faults out.new)) }
+    ensures lists_out { H.lists_out host.new ≡ H.lists_out host.old }
+    ensures store_out { H.store_out host.new ≡ None }
+    ensures others { LeavesOtherStores path.now (H.stores host.old) (H.stores host.new) }
+{
+    match host.open_store(path) {
+        Ok(mut disk) => {
+            let dumped = dump(alloc, &mut disk, list, out);
+            host.close_store(path, disk);
+            status(dumped)
+        }
+        Err(Fault::Failed) => Status::Read,
+        Err(Fault::NoMemory) => Status::Memory,
+    }
+}
+
+// The status of a dump that ended so.
+fn status(dumped: Result<(), DumpFault>) -> Status
+    ensures { result ≡ status_of (dump_ending dumped) }
+{
+    match dumped {
+        Ok(()) => Status::Done,
+        Err(DumpFault::Open(OpenFault::DeviceFault)) => Status::Device,
+        Err(DumpFault::Open(OpenFault::NoMemory)) => Status::Memory,
+        Err(DumpFault::Open(why)) => Status::Store(why),
+        Err(DumpFault::Write) => Status::Write,
+        Err(DumpFault::NoMemory) => Status::Memory,
+    }
+}

@@ -14,6 +14,8 @@ mod cookie_limits;
 #[cfg(test)]
 mod cookies;
 #[cfg(test)]
+mod epochs;
+#[cfg(test)]
 mod events;
 #[cfg(test)]
 mod faults;

@@ -1,8 +1,8 @@
 //! The rows of each table, run one by one.
 use crate::refusals::{LISTS, USAGE, WORDS};
-use crate::row::{REPLAY, Row, check};
+use crate::row::{REPLAY, Row, check, run_of, sink, source};
 use crate::script_faults::SCRIPTS;
-use crate::{access, areas, clocks, cookies, events, first_path, frames, lists, sessions};
+use crate::{access, areas, clocks, cookies, epochs, events, first_path, frames, lists, sessions};
 use std::alloc::Global;
 use std::process::Abort;
 use std::test::Fail;
@@ -32,6 +32,34 @@ fn clocks(rt: HostRuntime) -> Result<(), Fail> {
 #[test]
 fn cookies(rt: HostRuntime) -> Result<(), Fail> {
     check_all(&rt, rt.alloc(), cookies::ROWS)
+}
+
+#[test]
+fn restarts_batches_and_cuts(rt: HostRuntime) -> Result<(), Fail> {
+    check_all(&rt, rt.alloc(), epochs::ROWS)
+}
+
+#[test]
+fn cuts_in_a_commit(rt: HostRuntime) -> Result<(), Fail> {
+    let alloc = rt.alloc();
+    for (cut, is_kept) in epochs::CUTS {
+        let script = epochs::script_with(alloc, cut)?;
+        let ended = run_of(
+            alloc,
+            source(alloc, "", &[])?,
+            source(alloc, &script, &[])?,
+            sink(alloc, &[])?,
+            sink(alloc, &[])?,
+        )?;
+        let expected = if is_kept { epochs::KEPT } else { epochs::LOST };
+        assert_eq!(&rt; ended.status, 0, "the status of a cut at {}", cut);
+        assert!(&rt;
+            ended.out.bytes() == expected.as_bytes(),
+            "the replies of a cut at {}",
+            cut
+        );
+    }
+    Ok(())
 }
 
 #[test]

@@ -184,10 +184,10 @@ fn scripts_with_cuts_or_without(rt: HostRuntime) -> Result<(), Fail> {
     Ok(())
 }
 
-// A line of so many cuts, from the first call on.
-fn line_of(alloc: Global, count: u64) -> Result<String, Fail> {
+// A line of cuts in each call from the first on, up to the one before `end`.
+fn line_of(alloc: Global, end: u64) -> Result<String, Fail> {
     let mut line = String::from_str(alloc, "{\"do\":\"disk\",\"cuts\":[[1,0]")?;
-    for call in 2..count + 1 {
+    for call in 2..end {
         line.push_str(format!(in alloc; ",[{call},3]")?.as_str())?;
     }
     line.push_str("]}")?;
@@ -197,9 +197,9 @@ fn line_of(alloc: Global, count: u64) -> Result<String, Fail> {
 #[test]
 fn cuts_of_the_limit(rt: HostRuntime) -> Result<(), Fail> {
     let alloc = rt.alloc();
-    let good = answer_of(alloc, line_of(alloc, 64)?.as_str(), true)?;
+    let good = answer_of(alloc, line_of(alloc, 65)?.as_str(), true)?;
     assert!(rt; good.ends_with("63 3, 64 3, "));
-    let bad = answer_of(alloc, line_of(alloc, 65)?.as_str(), true)?;
+    let bad = answer_of(alloc, line_of(alloc, 66)?.as_str(), true)?;
     assert_eq!(rt; bad.as_str(), "script line 1: bad field cuts");
     Ok(())
 }

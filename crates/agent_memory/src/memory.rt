@@ -110,6 +110,27 @@ impl<'l> Memory<'l> {
         self.now
     }
 
+    /// The storage of all sites, with the session areas of the open tabs.
+    pub fn storage(&self) -> &Storage
+        ensures storage { result.now ≡ self.now.entries }
+    {
+        &self.held.storage
+    }
+
+    /// The cookies of all sites, with those that last no longer than the session.
+    pub fn cookies(&self) -> &Cookies
+        ensures cookies { result.now ≡ self.now.cookies }
+    {
+        &self.held.cookies
+    }
+
+    /// The permissions of storage access, in the order in which their pairs were first kept.
+    pub fn grants(&self) -> &Grants
+        ensures grants { result.now.rows ≡ self.now.grants }
+    {
+        &self.held.grants
+    }
+
     /// Runs one line, gives its reply, and writes its durable change behind `body`.
     ///
     /// Want of memory leaves the agent and the body as they were, and never comes where the line

@@ -112,21 +112,21 @@ impl<'l> Memory<'l> {
 
     /// The storage of all sites, with the session areas of the open tabs.
     pub fn storage(&self) -> &Storage
-        ensures storage { result.now ≡ self.now.entries }
+        ensures storage { result.now ≡ self.entry.now.entries }
     {
         &self.held.storage
     }
 
     /// The cookies of all sites, with those that last no longer than the session.
     pub fn cookies(&self) -> &Cookies
-        ensures cookies { result.now ≡ self.now.cookies }
+        ensures cookies { result.now ≡ self.entry.now.cookies }
     {
         &self.held.cookies
     }
 
     /// The permissions of storage access, in the order in which their pairs were first kept.
     pub fn grants(&self) -> &Grants
-        ensures grants { result.now.rows ≡ self.now.grants }
+        ensures grants { result.now.rows ≡ self.entry.now.grants }
     {
         &self.held.grants
     }

@@ -1,4 +1,5 @@
-//! Tests of script lines and replies, by the public calls of `script_lines` and `reply_lines`.
+//! Tests of script lines and replies, by the public calls of `script_lines`, `generated_day` and
+//! `reply_lines`.
 //!
 //! They stand apart from those libraries, so that each is proved once.
 #![tactic(auto)]
@@ -7,6 +8,8 @@
 mod actions;
 #[cfg(test)]
 mod cuts;
+#[cfg(test)]
+mod days;
 #[cfg(test)]
 mod heads;
 #[cfg(test)]

@@ -1,0 +1,3 @@
+mod StandardFacts
+pub mod AddressFacts
+pub mod DayLemmas

@@ -1,0 +1,16 @@
+use Rattle.std.proofs.Common.{rules, ◌≡◌, ◌∙◌, ap}
+use Rattle.origin_site.specs.Address.{address_of}
+use Rattle.generated_day.proofs.AddressFacts.{widget_text, widget_read}
+use Rattle.generated_day.proofs.rows.widget.Goals as goal
+
+pub read-requires : goal.read-requires
+read-requires c =
+    let text : c.as_str.result.now ≡ widget_text c.args.number = search rules in
+    let read = ap address_of text ∙ widget_read c.args.number (search rules) in
+    search (rules, read)
+
+pub returns : goal.returns
+returns c =
+    let text : c.as_str.result.now ≡ widget_text c.args.number = search rules in
+    let read = ap address_of text ∙ widget_read c.args.number (search rules) in
+    search (rules, read)

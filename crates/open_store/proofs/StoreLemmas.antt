@@ -1,9 +1,9 @@
--- What a store stands for, and what a commit makes of it.
-use Rattle.std.proofs.Common.{◌≡◌, inl, inr, ℕ, ◌+◌, ◌%◌, ◌^◌, ◌<◌, true, false, Bool, List, [], ◌∷◌, ◌++◌, length, Some, refl, sym, ap, subst, ◌∙◌, arith}
+-- What a store stands for, and what a commit and a checkpoint make of it.
+use Rattle.std.proofs.Common.{◌≡◌, inl, inr, ⊎_elim, ℕ, ◌+◌, ◌%◌, ◌^◌, ◌<◌, true, false, Bool, List, [], ◌∷◌, ◌++◌, length, Some, refl, sym, ap, subst, ◌∙◌, arith}
 use Rattle.std.specs.Prelude.{Err, Ok, OnErr, OnOk, Result, is_err}
 use Rattle.disk_model.specs.Disk.{Device, LeavesOnly, View}
 use Rattle.disk_model.specs.DiskLaws.{IsLawful}
-use Rattle.journal.specs.Journal.{IsAtRest, IsBeforeOrAfter, JournalView, Stands, next_frame}
+use Rattle.journal.specs.Journal.{IsAtRest, IsBeforeOrAfter, IsBeforeOrSnapshot, JournalView, Stands, next_frame, since_of, snapshot_frame}
 use Rattle.journal.specs.Region.{Runs, StandsFor}
 use Rattle.journal.specs.Store.{Frame, IsStore}
 use Rattle.journal.proofs.Meanings.{commit_stands_for}
@@ -140,7 +140,73 @@ module _ {S : Type 0} (takes : S → Bool → List ℕ → S → ℕ → Type 0)
         changes stood.2 some (something_leads base next body changes some leads))
         (moments told.0 stood.0 told.1 stood.1)
 
--- ---- what a commit answers
+  -- ---- a snapshot
+
+  -- the snapshot alone stands for the state that its body is of
+  snapshot_runs : (j : JournalView) (body : List ℕ) (next : S) (counted : ℕ)
+      → takes empty true body next counted
+      → Runs takes true empty 0 (snapshot_frame j body ∷ []) next j.changes
+  snapshot_runs j body next counted taken = (next, counted, refl, taken, tt, (refl, refl))
+
+  module _ (j k : JournalView) (v w : View) (body : List ℕ) where
+    abbrev Snapped : Type 0
+    Snapped = (c : List ℕ) (frames : List Frame) → v.contents ≡ Some c → Stands j c frames
+        → (d : List ℕ) × (w.contents ≡ Some d) × Stands k d (snapshot_frame j body ∷ [])
+
+    snapped_at : (base next : S) (counted : ℕ) → StandsAt takes empty j v base
+        → takes empty true body next counted → IsAtRest k w → k.shut ≡ false
+        → k.changes ≡ j.changes
+        → ((c : List ℕ) → w.contents ≡ Some c → (d : List ℕ) × (v.contents ≡ Some d))
+        → Snapped → StandsAt takes empty k w next
+    snapped_at base next counted at taken rests usable count told acknowledged = record {
+      rests = rests;
+      usable = usable;
+      stands = λ c here.
+          let was = told c here in
+          let stood = at.stands was.0 was.1 in
+          let done = acknowledged was.0 stood.0 was.1 stood.1 in
+          let same : done.0 ≡ c = some_is done.0 c (sym done.1 ∙ here) in
+          let frames = snapshot_frame j body ∷ [] in (
+            frames,
+            subst (λ (e : List ℕ). Stands k e frames) same done.2,
+            subst (λ (n : ℕ). Runs takes true empty 0 frames next n) (sym count)
+                (snapshot_runs j body next counted taken),
+          );
+    }
+
+    pub checkpoint_done : {T E : Type 0} (result : Result T E) → IsLawful v → IsLawful w
+        → w.tells ≡ v.tells → OnOk result (IsAtRest k w) → k.shut ≡ is_err result
+        → OnOk result (k.changes ≡ j.changes) → OnOk result Snapped
+        → OnOk result
+        ((base next : S) (counted : ℕ) → StandsAt takes empty j v base
+        → takes empty true body next counted → StandsAt takes empty k w next)
+    checkpoint_done (Ok x) before after tells rests shut count acknowledged =
+        λ base next counted at taken.
+        snapped_at base next counted at taken rests shut count
+        (λ c told. before.told (sym tells ∙ after.tells_contents c told)) acknowledged
+    checkpoint_done (Err e) before after tells rests shut count acknowledged = tt
+
+    pub checkpoint_moments : (base next : S) (counted : ℕ) → StandsAt takes empty j v base
+        → takes empty true body next counted → IsLawful v → v.tells ≡ true
+        → ((c : List ℕ) (frames : List Frame) → v.contents ≡ Some c → Stands j c frames
+        → LeavesOnly v w (IsBeforeOrSnapshot j.digest frames (snapshot_frame j body)))
+        → LeavesOnly v w (IsEither takes empty j.digest base j.changes next j.changes)
+    checkpoint_moments base next counted at taken laws tells moments =
+        let told = laws.told tells in
+        let stood = at.stands told.0 told.1 in
+        let snapshot = snapshot_frame j body in
+        weaker v w (IsBeforeOrSnapshot j.digest stood.0 snapshot)
+        (IsEither takes empty j.digest base j.changes next j.changes)
+        (λ file. ⊎_elim (λ (was : IsStore j.digest file stood.0). inl (stood.0, was, stood.2))
+        (λ (now : IsStore j.digest file (snapshot ∷ [])).
+        inr (snapshot ∷ [], now, snapshot_runs j body next counted taken)))
+        (moments told.0 stood.0 told.1 stood.1)
+
+-- no change was made since a snapshot
+pub since_none : (j : JournalView) → j.changes < 2 ^ 64 → j.base ≡ j.changes → since_of j ≡ 0
+since_none j fits same = omega (arith, fits, same)
+
+-- ---- what a commit or a checkpoint answers
 
 pub commit_ready : {T E : Type 0} (result : Result T E) (k : JournalView) (w : View)
     → OnOk result (IsAtRest k w) → k.shut ≡ is_err result → OnOk result (IsReady k w)
@@ -153,9 +219,9 @@ pub commit_digest : {T E : Type 0} (result : Result T E) (j k : JournalView) (en
 commit_digest (Ok x) j k end changes done failed = ap (λ (i : JournalView). i.digest) done
 commit_digest (Err e) j k end changes done failed = ap (λ (i : JournalView). i.digest) failed
 
-pub commit_device : {T E : Type 0} (result : Result T E) (v w : View) → Device 4 2 result v w
-    → CommitDevice 4 result v w
-commit_device (Ok x) v w device = record {
+pub commit_device : {T E : Type 0} (most writes : ℕ) (result : Result T E) (v w : View)
+    → Device most writes result v w → CommitDevice most result v w
+commit_device most writes (Ok x) v w device = record {
   tells = device.faults.tells;
   later = device.calls.later;
   calls = device.calls.most;
@@ -167,7 +233,7 @@ commit_device (Ok x) v w device = record {
     cuts = device.faults.ok.cuts;
   };
 }
-commit_device (Err e) v w device = record {
+commit_device most writes (Err e) v w device = record {
   tells = device.faults.tells;
   later = device.calls.later;
   calls = device.calls.most;

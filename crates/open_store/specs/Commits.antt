@@ -1,4 +1,4 @@
--- What a commit makes of a store.
+-- What a commit, and a checkpoint, make of a store.
 -- Source: none.
 -- Our own choice: an empty body is not committed. A store has the state before it already.
 use Rattle.std.specs.Prelude.{◌≡◌, ◌⊎◌, ℕ, ◌+◌, ◌<◌, ◌≤◌, false, List, [], length}
@@ -26,8 +26,8 @@ IsEither takes empty digest base last next later file =
 abbrev pub HasRoomFor : JournalView → View → ℕ → Type 0
 HasRoomFor journal view body = 0 < body → HasRoom journal view body
 
--- a commit meets a device fault exactly where a call of the disk failed; so many changing calls are
--- made at most
+-- a commit or a checkpoint meets a device fault exactly where a call of the disk failed; so many
+-- changing calls are made at most
 pub record CommitDevice {T E : Type 0} (most : ℕ) (result : Result T E) (old new : View)
     : Type 0 where
   pub tells : new.tells ≡ old.tells

@@ -1,6 +1,7 @@
 //! The store.
-ghost use Rattle.std.specs.Prelude.{◌≡◌, ◌+◌, ◌%◌, ◌^◌, true, ℕ, List, length, OnOk};
+ghost use Rattle.std.specs.Prelude.{◌≡◌, ◌+◌, ◌%◌, ◌^◌, true, ℕ, List, [], length, OnOk};
 ghost use Rattle.disk_model.specs.Disk.{LeavesOnly};
+ghost use Rattle.journal.specs.Journal.{HasRoom, since_of};
 ghost use Rattle.open_store.specs.Commits.{BodyLeads, CommitDevice, HasRoomFor, IsEither};
 ghost use Rattle.open_store.specs.Standing.{IsReady, IsRoomier, StandsAt};
 
@@ -16,9 +17,9 @@ pub struct Store<D: Disk + Drop> {
 }
 
 impl<D: Disk + Drop> Store<D> {
-    /// Makes room, so that the commit of a body of so many bytes takes no memory.
+    /// Makes room, so that a commit or a checkpoint with a body of so many bytes takes no memory.
     pub fn reserve(&mut self, body: usize) -> Result<(), NoMemory>
-        ensures room { OnOk result (HasRoomFor self.new.journal (D.view self.new.disk) body) }
+        ensures room { OnOk result (HasRoom self.new.journal (D.view self.new.disk) body) }
         ensures roomier { IsRoomier self.old.journal self.new.journal
             (D.view self.old.disk) (D.view self.new.disk) }
     {
@@ -26,7 +27,7 @@ impl<D: Disk + Drop> Store<D> {
     }
 
     /// Commits the body of a batch, of so many changes. An empty one has nothing to commit. Takes
-    /// no memory. At most four changing calls.
+    /// no memory. At most four changing calls, and none for an empty body.
     pub fn commit<R: Replay>(&mut self, body: &[u8], changes: u64) -> Result<(), DeviceFault>
         requires ready { IsReady self.old.journal (D.view self.old.disk) }
         requires room { HasRoomFor self.old.journal (D.view self.old.disk) (length body.now) }
@@ -51,10 +52,43 @@ impl<D: Disk + Drop> Store<D> {
 
         ensures digest { self.new.journal.digest ≡ self.old.journal.digest }
         ensures device { CommitDevice 4 result (D.view self.old.disk) (D.view self.new.disk) }
+        ensures idle { body.now ≡ []
+            → (D.view self.new.disk).changing ≡ (D.view self.old.disk).changing }
     {
         if body.is_empty() {
             return Ok(());
         }
         self.journal.commit(&mut self.disk, body, changes)
+    }
+
+    /// Puts a snapshot in the place of the frames. Takes no memory. At most seven changing calls.
+    pub fn checkpoint<R: Replay>(&mut self, body: &[u8]) -> Result<(), DeviceFault>
+        requires ready { IsReady self.old.journal (D.view self.old.disk) }
+        requires room { HasRoom self.old.journal (D.view self.old.disk) (length body.now) }
+
+        // The store stands for the state that the body is a snapshot of, after as many changes as
+        // before, none of them since the snapshot.
+        ensures done { OnOk result ((by : R.Rules) (base next : R.State) (counted : ℕ)
+            → StandsAt (R.takes by) R.empty self.old.journal (D.view self.old.disk) base
+            → R.takes by R.empty true body.now next counted
+            → StandsAt (R.takes by) R.empty self.new.journal (D.view self.new.disk) next) }
+        ensures ready { OnOk result (IsReady self.new.journal (D.view self.new.disk)) }
+        ensures changes { OnOk result (self.new.journal.changes ≡ self.old.journal.changes) }
+        ensures since { OnOk result (since_of self.new.journal ≡ 0) }
+
+        // A cut at any moment leaves the one state or the other, after as many changes.
+        ensures any_moment { (by : R.Rules) (base next : R.State) (counted : ℕ)
+            → StandsAt (R.takes by) R.empty self.old.journal (D.view self.old.disk) base
+            → R.takes by R.empty true body.now next counted
+            → (D.view self.old.disk).tells ≡ true
+            → LeavesOnly (D.view self.old.disk) (D.view self.new.disk)
+            (IsEither (R.takes by) R.empty self.old.journal.digest
+            base self.old.journal.changes next self.old.journal.changes) }
+
+        ensures digest { self.new.journal.digest ≡ self.old.journal.digest }
+        ensures device { CommitDevice 7 result (D.view self.old.disk) (D.view self.new.disk) }
+    {
+        let _changes = self.journal.changes();
+        self.journal.checkpoint(&mut self.disk, body)
     }
 }

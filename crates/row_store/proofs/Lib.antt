@@ -12,6 +12,10 @@ mod AreaRowLemmas
 mod CookieRowLemmas
 mod SnapshotLaws
 mod StorableLaws
+mod SpelledLaws
 -- What a snapshot lists.
 mod CellTextLemmas
 mod PushedLemmas
+-- What is kept of a state.
+mod KeptLemmas
+mod WrittenLemmas

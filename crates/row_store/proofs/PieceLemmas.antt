@@ -17,8 +17,11 @@ use Rattle.spelled_model.specs.Rows.{IsReadSaved}
 use Rattle.spelled_model.proofs.SavedLemmas.{nothing_read}
 use Rattle.row_store.specs.Bodies.{after_pieces}
 use Rattle.row_store.specs.Edits.{IsEdited, IsFaultAt, IsStanding, IsTaken}
+use Rattle.row_store.specs.Laws.{IsSpelledState, IsStorable}
 use Rattle.row_store.specs.Stored.{HasNoSession, saved_of}
 use Rattle.row_store.specs.declared.parts.Parts.{Parts}
+use Rattle.row_store.proofs.SpelledLaws.{edits_keep_spelled}
+use Rattle.row_store.proofs.StorableLaws.{edits_keep_storable}
 
 -- a durable change begins
 pub begun : (parts : Parts) → IsTaken Begins parts parts 1
@@ -31,15 +34,18 @@ module _ (at : ℕ) (change : PlainChange) (old new : Parts) where
   -- a row change that is done
   pub done : ChangesKeepValid → RowsStayRead → IsEdited change old new true → IsTaken (Row at change) old new 0
   done law read is =
+      let saved = is.saved refl in
       let valid : is_valid change (saved_of old) ≡ true = sym is.valid in
-      let same : after_change (saved_of old) change ≡ saved_of new = ap (λ b. cond b (edited change (saved_of old)) (saved_of old)) valid ∙ sym (is.saved refl) in
+      let same : after_change (saved_of old) change ≡ saved_of new = ap (λ b. cond b (edited change (saved_of old)) (saved_of old)) valid ∙ sym saved in
       record {
         after = λ count pieces.
             ap (λ b. cond b (after_pieces (edited change (saved_of old)) count pieces) (Err at)) valid
-            ∙ ap (λ d. after_pieces d count pieces) (sym (is.saved refl)) ∙ ap (λ n. after_pieces (saved_of new) n pieces) (as_many count);
+            ∙ ap (λ d. after_pieces d count pieces) (sym saved) ∙ ap (λ n. after_pieces (saved_of new) n pieces) (as_many count);
         standing = λ rules spelled s. record {
           valid = subst IsValid same (law (saved_of old) change s.valid);
           read = subst (IsReadSaved rules) same (read rules (saved_of old) change spelled s.read);
+          storable = subst IsStorable (sym saved) (edits_keep_storable.1 (saved_of old) change valid s.storable);
+          spelled = subst (IsSpelledState rules) (sym saved) ((edits_keep_spelled rules).1 (saved_of old) change spelled s.spelled);
           sessions = is.sessions refl s.sessions;
         };
         one = omega arith;
@@ -81,4 +87,10 @@ nothing_valid (PartitionCell top bit domain) = subst IsKeptCell (sym (partitione
 
 -- parts of which nothing is durable
 pub nothing_standing : (rules : List Rule) (parts : Parts) → saved_of parts ≡ nothing_saved → HasNoSession parts.storage → IsStanding rules parts
-nothing_standing rules parts is none = record { valid = subst IsValid (sym is) nothing_valid; read = subst (IsReadSaved rules) (sym is) (nothing_read rules); sessions = none }
+nothing_standing rules parts is none = record {
+  valid = subst IsValid (sym is) nothing_valid;
+  read = subst (IsReadSaved rules) (sym is) (nothing_read rules);
+  storable = subst IsStorable (sym is) edits_keep_storable.0;
+  spelled = subst (IsSpelledState rules) (sym is) (edits_keep_spelled rules).0;
+  sessions = none;
+}

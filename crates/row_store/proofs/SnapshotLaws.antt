@@ -38,7 +38,7 @@ pub none_stored : (key : PlainKey) → pairs_at key nothing_saved ≡ []
 unfolding nothing_saved no_rows get_cell
 none_stored key = ap list_of (get-empty key_order key)
 
-no_mode : (key : PlainKey) → finite.contains_key nothing_saved.under.persistent key ≡ false
+pub no_mode : (key : PlainKey) → finite.contains_key nothing_saved.under.persistent key ≡ false
 unfolding nothing_saved no_rows
 no_mode key = ap is_some (get-empty key_order key)
 

@@ -121,7 +121,7 @@ edit_fits k cs (RowRemove place) fits within = removed_fits k cs place (ltb-true
 kept_after : (d : Saved) (change : PlainChange) → is_valid change d ≡ true → IsStorable d → (cell : PlainCell) → IsKeptCell (cookies_at cell (edited change d))
 kept_after d change valid storable cell = subst (λ e. IsKeptCell (cookies_at cell e)) (valid_done d change valid) (change_keeps d change cell (storable.cells cell))
 
-same_limits : (cell : PlainCell) (d e : Saved) → e.cells ≡ d.cells → e.under.cookies ≡ d.under.cookies → cookies_at cell e ≡ cookies_at cell d
+pub same_limits : (cell : PlainCell) (d e : Saved) → e.cells ≡ d.cells → e.under.cookies ≡ d.under.cookies → cookies_at cell e ≡ cookies_at cell d
 same_limits (OwnCell domain) d e own partition = ap (λ cells. cookies_at (OwnCell domain) (record d { cells = cells })) own
 same_limits (PartitionCell top bit domain) d e own partition =
     ap (λ cells. cookies_at (PartitionCell top bit domain) (record d { under = record (d.under) { cookies = cells } })) partition
@@ -148,11 +148,11 @@ pairs_storable change key pairs d is valid storable apart light = record {
     weight_at q true = light
     weight_at q false = storable.weights q
 
-with_same_pairs : (cell : PlainCell) (q : PlainKey) (cookies : Cookies) (d : Saved) → pairs_at q (with_cookies cell cookies d) ≡ pairs_at q d
+pub with_same_pairs : (cell : PlainCell) (q : PlainKey) (cookies : Cookies) (d : Saved) → pairs_at q (with_cookies cell cookies d) ≡ pairs_at q d
 with_same_pairs (OwnCell domain) q cookies d = refl
 with_same_pairs (PartitionCell top bit domain) q cookies d = refl
 
-with_same_grants : (cell : PlainCell) (cookies : Cookies) (d : Saved) → (with_cookies cell cookies d).under.grants ≡ d.under.grants
+pub with_same_grants : (cell : PlainCell) (cookies : Cookies) (d : Saved) → (with_cookies cell cookies d).under.grants ≡ d.under.grants
 with_same_grants (OwnCell domain) cookies d = refl
 with_same_grants (PartitionCell top bit domain) cookies d = refl
 

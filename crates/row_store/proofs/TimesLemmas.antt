@@ -81,7 +81,7 @@ times-none (x ∷ xs) = let none = times-none xs in omega (arith, none)
 
 -- ---- the keys of a map
 
-lt_parts : (a b : Bool) → T (a && b) → (a ≡ true) × T b
+pub lt_parts : (a b : Bool) → T (a && b) → (a ≡ true) × T b
 lt_parts true b t = (refl, t)
 lt_parts false b t = absurd t
 

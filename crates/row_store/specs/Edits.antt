@@ -11,6 +11,7 @@ use Rattle.durable_model.specs.Saved.{IsValid}
 use Rattle.durable_model.specs.RowEdits.{edited, is_valid}
 use Rattle.spelled_model.specs.Rows.{IsReadSaved}
 use Rattle.row_store.specs.Bodies.{after_pieces}
+use Rattle.row_store.specs.Laws.{IsSpelledState, IsStorable}
 use Rattle.row_store.specs.Stored.{HasNoSession, saved_of}
 use Rattle.row_store.specs.declared.parts.Parts.{Parts}
 
@@ -22,10 +23,13 @@ pub record IsEdited (change : PlainChange) (old new : Parts) (done : Bool) : Typ
   pub sessions : done ≡ true → HasNoSession old.storage → HasNoSession new.storage
 
 -- parts that an agent goes on with: each cell is as it outlives a restart, the durable state is one
--- that was read under the rules of a list, and no tab has a session area
+-- that was read under the rules of a list, a snapshot can be made of it, and no tab has a session
+-- area
 pub record IsStanding (rules : List Rule) (parts : Parts) : Type 0 where
   pub valid : IsValid (saved_of parts)
   pub read : IsReadSaved rules (saved_of parts)
+  pub storable : IsStorable (saved_of parts)
+  pub spelled : IsSpelledState rules (saved_of parts)
   pub sessions : HasNoSession parts.storage
 
 -- a piece is taken from the front of others, and so many durable changes begin with it

@@ -1,22 +1,25 @@
--- What bodies mean that are written from row changes which are valid one after another, and what
--- snapshots mean.
+-- What bodies mean that are written from row changes which are valid one after another, what
+-- snapshots mean, and which states have one.
 -- Source: none; they are about our own definitions.
 use Rattle.std.specs.Prelude.{◌≡◌, ◌≤◌, true, false, List, [], ◌∷◌, length, fold, Ok}
 use Rattle.std.specs.List.{All, flat_map}
+use Rattle.std.specs.FinMap as finite
 use Rattle.suffix_list.specs.Suffix.{Rule}
 use Rattle.storage_key.specs.Key.{PlainKey}
 use Rattle.local_area.specs.Area.{HasDistinctNames, area_weight, quota}
 use Rattle.cookie_jar.specs.Cookie.{keeps_limits}
 use Rattle.cookie_jar.specs.Key.{PlainKey as PlainCell}
+use Rattle.cookie_jar.specs.Persistent.{kept}
 use Rattle.access_grants.specs.Grant.{HasDistinctPairs}
-use Rattle.row_changes.specs.Change.{PlainChange}
+use Rattle.row_changes.specs.Change.{PlainChange, AreaPut, SetMode, CookieInsert, Grant}
 use Rattle.row_changes.specs.Spelled.{IsSpelled}
 use Rattle.row_changes.specs.Body.{changes_bytes, rows_bytes}
 use Rattle.row_changes.specs.Laws.{IsWritable}
-use Rattle.durable_model.specs.Saved.{IsKeptCell, Saved, cookies_at, kind_of, nothing_saved}
+use Rattle.durable_model.specs.Saved.{IsKeptCell, IsValid, Saved, cookies_at, kind_of, nothing_saved}
 use Rattle.durable_model.specs.Saved.{pairs_at}
 use Rattle.durable_model.specs.RowEdits.{AreValid, after_changes, edited, is_valid}
 use Rattle.row_store.specs.Bodies.{body_means}
+use Rattle.row_store.specs.Kept.{kept_of}
 use Rattle.row_store.specs.Listing.{listed}
 
 -- each row change of these durable changes is valid in the state before it
@@ -54,3 +57,35 @@ abbrev pub SnapshotsMean : Type 0
 SnapshotsMean = (rules : List Rule) (e d : Saved) → IsStorable d
     → All (IsSpelled rules) (listed d)
     → body_means rules e true (rows_bytes (listed d)) ≡ Ok (d, 0)
+
+-- what each state has that row changes with a spelling lead to: of each area, mode, cell and
+-- permission, the row changes that make it again have a spelling, whatever place a cookie gets
+pub record IsSpelledState (rules : List Rule) (d : Saved) : Type 0 where
+  pub pairs : (key : PlainKey)
+      → All (λ pair. IsSpelled rules (AreaPut key pair.name pair.value)) (pairs_at key d)
+  pub modes : (key : PlainKey) → finite.contains_key d.under.persistent key ≡ true
+      → IsSpelled rules (SetMode key)
+  pub cookies : (cell : PlainCell)
+      → All (λ cookie. IsSpelled rules (CookieInsert cell 0 cookie)) (cookies_at cell d)
+  pub grants : All (λ row. IsSpelled rules (Grant row)) d.under.grants
+
+-- the state in which nothing is durable is so, and a row change that has a spelling keeps it
+abbrev pub EditsKeepSpelled : Type 0
+EditsKeepSpelled = (rules : List Rule)
+    → IsSpelledState rules nothing_saved
+    × ((d : Saved) (change : PlainChange) → IsSpelled rules change → IsSpelledState rules d
+    → IsSpelledState rules (edited change d))
+
+-- each row change of a snapshot of such a state has a spelling
+abbrev pub SnapshotsAreSpelled : Type 0
+SnapshotsAreSpelled = (rules : List Rule) (d : Saved) → IsStorable d → IsSpelledState rules d
+    → All (IsSpelled rules) (listed d)
+
+-- what outlives a restart of a state has of each cell what outlives one of its cookies
+abbrev pub KeepsEachCell : Type 0
+KeepsEachCell = (d : Saved) (cell : PlainCell)
+    → cookies_at cell (kept_of d) ≡ kept (cookies_at cell d)
+
+-- all outlives a restart of a state whose cells are as they outlive one
+abbrev pub KeepsKept : Type 0
+KeepsKept = (d : Saved) → IsValid d → kept_of d ≡ d

@@ -2,8 +2,10 @@
 pub mod Bodies
 pub mod Stored
 pub mod Listing
+pub mod Kept
 pub mod Laws
 -- What private functions do. No public clause rests on it.
 pub mod Edits
 pub mod CellTexts
 pub mod Pushed
+pub mod Sinks

@@ -5,6 +5,7 @@
 //! [`Parts`] of the last state.
 #![tactic(auto)]
 
+mod body;
 mod cell_texts;
 mod cells;
 mod laws;
@@ -13,8 +14,11 @@ mod lookups;
 mod parts;
 mod reading;
 mod rows;
+mod sink;
 mod texted_cell;
+mod which;
 
+pub use body::snapshot;
 pub use laws::written;
 pub use parts::Parts;
 pub use rows::Rows;

@@ -5,6 +5,7 @@ ghost use Rattle.row_changes.specs.Plain.{plain_change};
 ghost use Rattle.durable_model.specs.Saved.{IsValid, nothing_saved};
 ghost use Rattle.spelled_model.specs.Rows.{IsReadSaved};
 ghost use Rattle.row_store.specs.Bodies.{from};
+ghost use Rattle.row_store.specs.Laws.{IsSpelledState, IsStorable};
 ghost use Rattle.row_store.specs.Listing.{listed};
 ghost use Rattle.row_store.specs.Stored.{HasNoSession, saved_of};
 
@@ -54,6 +55,8 @@ impl<'l> Rows<'l> {
         ensures parts { result ≡ self.entry.parts }
         ensures valid { IsValid (saved_of self.entry.parts) }
         ensures read { IsReadSaved self.entry.rules (saved_of self.entry.parts) }
+        ensures storable { IsStorable (saved_of self.entry.parts) }
+        ensures spelled { IsSpelledState self.entry.rules (saved_of self.entry.parts) }
         ensures sessions { HasNoSession self.entry.parts.storage }
     {
         self.parts

@@ -1,5 +1,7 @@
 use Rattle.row_store.proofs.BodyLaws.{written_bodies_mean}
+use Rattle.row_store.proofs.KeptLemmas.{cookies_kept, valid_kept}
 use Rattle.row_store.proofs.SnapshotLaws.{snapshots_mean}
+use Rattle.row_store.proofs.SpelledLaws.{edits_keep_spelled, snapshots_are_spelled}
 use Rattle.row_store.proofs.StorableLaws.{edits_keep_storable}
 use Rattle.row_store.proofs.laws.written.Goals as goal
 
@@ -8,4 +10,8 @@ returns c = record {
   bodies = written_bodies_mean;
   storable = edits_keep_storable;
   snapshots = snapshots_mean;
+  spelled = edits_keep_spelled;
+  listed = snapshots_are_spelled;
+  kept = λ d cell. cookies_kept cell d;
+  whole = valid_kept;
 }

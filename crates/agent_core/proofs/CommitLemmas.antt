@@ -1,7 +1,8 @@
 -- What the commit of an open batch makes of what an agent stands for.
-use Rattle.std.proofs.Common.{◌≡◌, inl, inr, ⊎_elim, ℕ, ◌+◌, ◌%◌, ◌^◌, ◌<◌, ◌≤◌, true, List, [], ◌∷◌, length, refl, sym, ap, ◌∙◌, arith}
+use Rattle.std.proofs.Common.{◌≡◌, inl, inr, ⊎_elim, ℕ, ◌+◌, ◌%◌, ◌^◌, ◌<◌, ◌≤◌, true, cond, List, [], ◌∷◌, length, refl, sym, ap, subst, ◌∙◌, arith}
 use Rattle.std.specs.Prelude.{◌⊎◌}
-use Rattle.std.proofs.lemmas.List.Elements.{All-nil}
+use Rattle.std.specs.List.{All}
+use Rattle.std.proofs.lemmas.List.Elements.{All-head, All-nil, All-tail}
 use Rattle.unwinding.specs.Course.{AtBase, IsAt}
 use Rattle.unwinding.specs.CourseSteps.{committed}
 use Rattle.unwinding.specs.Durable.{apply_all}
@@ -13,14 +14,15 @@ use Rattle.journal.proofs.Moments.{weaker}
 use Rattle.suffix_list.specs.Suffix.{Rule}
 use Rattle.row_changes.specs.Change.{PlainChange}
 use Rattle.row_changes.specs.Laws.{IsWritable}
+use Rattle.row_changes.specs.Spelled.{IsSpelled}
 use Rattle.agent_model.specs.Lines.{AgentWorld}
 use Rattle.durable_model.specs.Keeping.{AgentDurable, durable_of, keeping}
 use Rattle.durable_model.specs.Laws.{ChangesKeepValid}
-use Rattle.durable_model.specs.RowEdits.{after_all, after_change, after_changes}
+use Rattle.durable_model.specs.RowEdits.{AllAreValid, AreValid, after_all, after_change, after_changes, edited, is_valid}
 use Rattle.durable_model.specs.Saved.{IsValid, Saved, nothing_saved}
 use Rattle.durable_model.proofs.HistoryLemmas.{all_projected}
 use Rattle.row_store.specs.Bodies.{Takes}
-use Rattle.row_store.specs.Laws.{WrittenBodiesMean}
+use Rattle.row_store.specs.Laws.{EditsKeepSpelled, EditsKeepStorable, IsSpelledState, IsStorable, WrittenBodiesMean}
 use Rattle.one_store.specs.WholeWorld.{whole_world}
 use Rattle.agent_memory.specs.AgentState.{AgentState, world_of}
 use Rattle.agent_memory.specs.Written.{AgentChange}
@@ -44,6 +46,40 @@ changes_valid law d [] valid = valid
 changes_valid law d (change ∷ changes) valid =
     changes_valid law (after_change d change) changes (law d change valid)
 
+-- a valid row change is done
+done : (d : Saved) (change : PlainChange) → is_valid change d ≡ true
+    → after_change d change ≡ edited change d
+done d change valid = ap (λ b. cond b (edited change d) d) valid
+
+-- what valid row changes with a spelling keep
+module _ (rules : List Rule) (storable : EditsKeepStorable) (spelled : EditsKeepSpelled) where
+  abbrev HasSnapshot : Saved → Type 0
+  HasSnapshot d = IsStorable d × IsSpelledState rules d
+
+  changes_listed : (d : Saved) (changes : List PlainChange) → All (IsSpelled rules) changes
+      → AreValid d changes → HasSnapshot d → HasSnapshot (after_changes d changes)
+  changes_listed d [] are valid has = has
+  changes_listed d (change ∷ changes) are valid has =
+      let next : HasSnapshot (edited change d) = (
+        storable.1 d change valid.0 has.0,
+        (spelled rules).1 d change (All-head (IsSpelled rules) change changes are) has.1,
+      ) in
+      subst (λ (e : Saved). HasSnapshot (after_changes e changes))
+      (sym (done d change valid.0))
+      (changes_listed (edited change d) changes (All-tail (IsSpelled rules) change changes are)
+      valid.1 next)
+
+  pub all_listed : (d : Saved) (made : List AgentChange)
+      → All (λ one. IsWritable rules one.changes) made → AllAreValid d made
+      → IsStorable d × IsSpelledState rules d
+      → IsStorable (after_all d made) × IsSpelledState rules (after_all d made)
+  all_listed d [] writable valid has = has
+  all_listed d (one ∷ made) writable valid has =
+      let first = All-head (λ one. IsWritable rules one.changes) one made writable in
+      all_listed (after_changes d one.changes) made
+      (All-tail (λ one. IsWritable rules one.changes) one made writable) valid.1
+      (changes_listed d one.changes first.2 valid.0 has)
+
 pub all_valid : ChangesKeepValid → (d : Saved) (made : List AgentChange) → IsValid d
     → IsValid (after_all d made)
 all_valid law d [] valid = valid
@@ -57,7 +93,7 @@ pub since_next : (last later more count opened : ℕ) → later % 2 ^ 64 ≡ (la
     → count + more ≡ since_opening later opened
 since_next last later more count opened same is fits = omega (arith, same, is, fits)
 
-twice : (n : ℕ) → n % 2 ^ 64 % 2 ^ 64 ≡ n % 2 ^ 64
+pub twice : (n : ℕ) → n % 2 ^ 64 % 2 ^ 64 ≡ n % 2 ^ 64
 twice n = omega arith
 
 -- a store that stands for some state
@@ -86,65 +122,58 @@ module _ {D : Type 0} (x : AgentView D) (v : View) (a : AgentSeen) (held : IsHel
       body_leads law x.memory.rules held.base a.pending x.body x.changes held.batch.bytes
       held.changes held.batch.writable held.batch.valid
 
-  state_after : durable_of (after_all held.base a.pending)
+  pub state_after : durable_of (after_all held.base a.pending)
       ≡ (after_commit x.memory.rules a).base.state
   unfolding committed
   state_after =
       all_projected held.base a.pending
       ∙ ap (λ (d : AgentDurable). apply_all keeping a.pending d) (sym held.state)
 
-  -- what each moment leaves
-  pub moments_after : (w : View)
+  -- what each moment leaves, where the store goes on to a state
+  pub moments_after : (w : View) (next : Saved) (later : ℕ)
+      → durable_of next ≡ (after_commit x.memory.rules a).base.state
       → LeavesOnly v w (IsEither (Takes x.memory.rules) nothing_saved x.journal.digest held.base
-      x.journal.changes (after_all held.base a.pending)
-      ((x.journal.changes + x.changes) % 2 ^ 64))
+      x.journal.changes next later)
       → LeavesOnly v w (IsBeforeOrAfter x.memory.rules x.journal.digest a a)
-  moments_after w leaves =
+  moments_after w next later is leaves =
       weaker v w
       (IsEither (Takes x.memory.rules) nothing_saved x.journal.digest held.base
-      x.journal.changes (after_all held.base a.pending)
-      ((x.journal.changes + x.changes) % 2 ^ 64))
+      x.journal.changes next later)
       (IsBeforeOrAfter x.memory.rules x.journal.digest a a)
       (λ file either. ⊎_elim
       (λ (s : StandsFor (Takes x.memory.rules) nothing_saved x.journal.digest file held.base
       x.journal.changes). (held.base, x.journal.changes, s, inl (sym held.state)))
-      (λ (s : StandsFor (Takes x.memory.rules) nothing_saved x.journal.digest file
-      (after_all held.base a.pending) ((x.journal.changes + x.changes) % 2 ^ 64)). (
-        after_all held.base a.pending,
-        (x.journal.changes + x.changes) % 2 ^ 64,
-        s,
-        inr state_after,
-      ))
+      (λ (s : StandsFor (Takes x.memory.rules) nothing_saved x.journal.digest file next later).
+      (next, later, s, inr is))
       either)
       leaves
 
 -- ---- the open batch of an agent that is up
 
 module _ {D : Type 0} (x : AgentView D) (v : View) (a : AgentSeen) (up : IsUp x v a) where
-  -- what the store stands for after the commit
-  abbrev pub base_after : Saved
-  base_after = after_all up.base a.pending
-
-  count_after : (later : ℕ) → later % 2 ^ 64 ≡ (x.journal.changes + x.changes) % 2 ^ 64
+  pub count_after : (later : ℕ) → later % 2 ^ 64 ≡ (x.journal.changes + x.changes) % 2 ^ 64
       → (after_commit x.memory.rules a).base.count ≡ since_opening later x.opened
   unfolding committed
   count_after later same =
       since_next x.journal.changes later (length a.pending) a.base.count x.opened
       (same ∙ ap (λ (n : ℕ). (x.journal.changes + n) % 2 ^ 64) up.changes) up.count up.fits
 
-  -- ---- a commit that failed
+  -- ---- a commit or a checkpoint that failed, from which the store would go on to a state
 
   module _ (w : View) (before : IsLawful v) (after : IsLawful w) (tells : w.tells ≡ v.tells)
+      (next : Saved) (later : ℕ)
+      (state : durable_of next ≡ (after_commit x.memory.rules a).base.state)
+      (count : (after_commit x.memory.rules a).base.count ≡ since_opening later x.opened)
       (leaves : v.tells ≡ true
-      → LeavesOnly v w (IsEither (Takes x.memory.rules) nothing_saved x.journal.digest up.base x.journal.changes
-      base_after ((x.journal.changes + x.changes) % 2 ^ 64))) where
+      → LeavesOnly v w (IsEither (Takes x.memory.rules) nothing_saved x.journal.digest up.base
+      x.journal.changes next later)) where
     is_told : (file : List ℕ) → w.may_leave file → v.tells ≡ true
     is_told file left =
         sym tells ∙ after.untold w.moment file (after.counts_now w.moment file (omega arith) left)
 
     either : (file : List ℕ) → w.may_leave file
-        → IsEither (Takes x.memory.rules) nothing_saved x.journal.digest up.base x.journal.changes base_after
-        ((x.journal.changes + x.changes) % 2 ^ 64) file
+        → IsEither (Takes x.memory.rules) nothing_saved x.journal.digest up.base
+        x.journal.changes next later file
     either file left =
         let moments = leaves (is_told file left) in
         moments.each file (after.counts_now v.moment file moments.later left)
@@ -155,10 +184,8 @@ module _ {D : Type 0} (x : AgentView D) (v : View) (a : AgentSeen) (up : IsUp x 
         (λ (s : StandsFor (Takes x.memory.rules) nothing_saved x.journal.digest file up.base
         x.journal.changes).
         store_of x.memory.rules x.journal.digest file up.base x.journal.changes s)
-        (λ (s : StandsFor (Takes x.memory.rules) nothing_saved x.journal.digest file base_after
-        ((x.journal.changes + x.changes) % 2 ^ 64)).
-        store_of x.memory.rules x.journal.digest file base_after
-        ((x.journal.changes + x.changes) % 2 ^ 64) s)
+        (λ (s : StandsFor (Takes x.memory.rules) nothing_saved x.journal.digest file next later).
+        store_of x.memory.rules x.journal.digest file next later s)
         (either file left)
 
     pub failed_may : (d : AgentDurable) (n : ℕ)
@@ -176,66 +203,69 @@ module _ {D : Type 0} (x : AgentView D) (v : View) (a : AgentSeen) (up : IsUp x 
           left.5 ∙ ap durable_of same.0 ∙ sym up.state,
           left.6 ∙ ap (λ (i : ℕ). since_opening i x.opened) same.1 ∙ sym up.count,
         )))
-        (λ (s : StandsFor (Takes x.memory.rules) nothing_saved x.journal.digest left.0 base_after
-        ((x.journal.changes + x.changes) % 2 ^ 64)).
-        let later = (x.journal.changes + x.changes) % 2 ^ 64 in
+        (λ (s : StandsFor (Takes x.memory.rules) nothing_saved x.journal.digest left.0 next
+        later).
         let same =
-        stands_one x.memory.rules x.journal.digest left.0 left.2 base_after left.3 later
-        left.4 s in
+        stands_one x.memory.rules x.journal.digest left.0 left.2 next left.3 later left.4 s in
         inr (
-          left.5 ∙ ap durable_of same.0 ∙ state_after x v a (held_of x v a up),
-          left.6 ∙ ap (λ (i : ℕ). since_opening i x.opened) same.1
-              ∙ sym (count_after later (twice (x.journal.changes + x.changes))),
+          left.5 ∙ ap durable_of same.0 ∙ state,
+          left.6 ∙ ap (λ (i : ℕ). since_opening i x.opened) same.1 ∙ sym count,
         ))
         (either left.0 left.1)
 
 -- ---- a commit that succeeded
 
 module _ {D : Type 0} (m : AgentState) (b b' : PlainBatch) (j j' : JournalView)
-    (now opened : ℕ) (power : Power) (disk disk' : D) (v w : View) (a : AgentSeen)
-    (up : IsUp (from_parts m now b j opened power disk) v a) where
-  pub committed_up : ChangesKeepValid → b'.body ≡ [] → b'.changes ≡ 0 → b'.held ≡ []
+    (now opened checkpoint : ℕ) (power : Power) (disk disk' : D) (v w : View) (a : AgentSeen)
+    (up : IsUp (from_parts m now b j opened checkpoint power disk) v a) where
+  pub committed_up : ChangesKeepValid → EditsKeepStorable → EditsKeepSpelled → b'.body ≡ [] → b'.changes ≡ 0 → b'.held ≡ []
       → IsAtBase m.rules j' w (after_all up.base a.pending)
       → j'.changes % 2 ^ 64 ≡ (j.changes + b.changes) % 2 ^ 64
-      → IsUp (from_parts m m.now b' j' opened power disk') w (after_commit m.rules a)
+      → IsUp (from_parts m m.now b' j' opened checkpoint power disk') w (after_commit m.rules a)
   unfolding committed
-  committed_up law body changes held at count = record {
-    world = up.world;
-    sound = up.sound;
-    read = up.read;
-    held = sym held;
-    changes = changes;
-    count =
-        count_after (from_parts m now b j opened power disk) v a up j'.changes count;
-    fits = omega (arith, up.fits);
-    base = after_all up.base a.pending;
-    valid = all_valid law up.base a.pending up.valid;
-    state = sym (state_after (from_parts m now b j opened power disk) v a
-        (held_of (from_parts m now b j opened power disk) v a up));
-    batch = record {
-      bytes = body;
-      writable = All-nil (λ one. IsWritable m.rules one.changes);
-      valid = tt;
-      saved = up.batch.saved;
-    };
-    store = at;
-  }
+  committed_up law storable spelled body changes held at count =
+      let listed =
+      all_listed m.rules storable spelled up.base a.pending up.batch.writable up.batch.valid
+      (up.storable, up.spelled) in
+      record {
+        world = up.world;
+        sound = up.sound;
+        read = up.read;
+        held = sym held;
+        changes = changes;
+        count =
+            count_after (from_parts m now b j opened checkpoint power disk) v a up j'.changes count;
+        fits = omega (arith, up.fits);
+        base = after_all up.base a.pending;
+        valid = all_valid law up.base a.pending up.valid;
+        storable = listed.0;
+        spelled = listed.1;
+        state = sym (state_after (from_parts m now b j opened checkpoint power disk) v a
+            (held_of (from_parts m now b j opened checkpoint power disk) v a up));
+        batch = record {
+          bytes = body;
+          writable = All-nil (λ one. IsWritable m.rules one.changes);
+          valid = tt;
+          saved = up.batch.saved;
+        };
+        store = at;
+      }
 
   now_is : a.world.rest.now ≡ m.now
   unfolding world_of whole_world
   now_is = ap (λ (x : AgentWorld). x.rest.now) up.world
 
-  pub committed_seen : ChangesKeepValid → power ≡ Up → b'.body ≡ [] → b'.changes ≡ 0
+  pub committed_seen : ChangesKeepValid → EditsKeepStorable → EditsKeepSpelled → power ≡ Up → b'.body ≡ [] → b'.changes ≡ 0
       → b'.held ≡ [] → 1 ≤ b'.size
       → IsAtBase m.rules j' w (after_all up.base a.pending)
       → j'.changes % 2 ^ 64 ≡ (j.changes + b.changes) % 2 ^ 64
-      → IsSeen (from_parts m m.now b' j' opened power disk') w (after_commit m.rules a)
+      → IsSeen (from_parts m m.now b' j' opened checkpoint power disk') w (after_commit m.rules a)
       × AtBase (after_commit m.rules a).base
-      (may_of (from_parts m m.now b' j' opened power disk') w)
+      (may_of (from_parts m m.now b' j' opened checkpoint power disk') w)
   unfolding committed
-  committed_seen law is_up body changes held size at count =
-      let here = committed_up law body changes held at count in
-      let x = from_parts m m.now b' j' opened power disk' in (
+  committed_seen law storable spelled is_up body changes held size at count =
+      let here = committed_up law storable spelled body changes held at count in
+      let x = from_parts m m.now b' j' opened checkpoint power disk' in (
         record {
           up = (λ _. is_up, λ _. refl);
           clock = now_is;

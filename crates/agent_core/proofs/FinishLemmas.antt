@@ -11,7 +11,7 @@ use Rattle.durable_model.specs.Laws.{ChangesKeepValid}
 use Rattle.durable_model.specs.RowEdits.{after_all}
 use Rattle.durable_model.specs.Saved.{Saved, nothing_saved}
 use Rattle.row_store.specs.Bodies.{Takes}
-use Rattle.row_store.specs.Laws.{WrittenBodiesMean}
+use Rattle.row_store.specs.Laws.{EditsKeepSpelled, EditsKeepStorable, WrittenBodiesMean}
 use Rattle.agent_memory.specs.AgentState.{AgentState}
 use Rattle.agent_core.specs.AgentView.{AgentView, may_find, may_of}
 use Rattle.agent_core.specs.Batch.{PlainBatch}
@@ -21,7 +21,7 @@ use Rattle.agent_core.specs.Standing.{Finishes, IsHeld}
 use Rattle.agent_core.specs.declared.agent.Power.{Power}
 use Rattle.agent_core.specs.declared.agent.Power.TheVariants.{Down, Up}
 use Rattle.agent_core.specs.declared.outcome.Outcome.TheVariants as outcome
-use Rattle.agent_core.proofs.CommitLemmas.{batch_leads, committed_seen, failed_may, failed_stores, held_of, moments_after}
+use Rattle.agent_core.proofs.CommitLemmas.{batch_leads, committed_seen, count_after, failed_may, failed_stores, held_of, moments_after, state_after, twice}
 use Rattle.agent_core.proofs.SeenLemmas.{from_parts}
 
 -- what each moment of a commit leaves, whatever the store stands for
@@ -58,50 +58,55 @@ pub finish_moments : {D : Type 0} (x : AgentView D) (v w : View) (ran : AgentSee
     → WrittenBodiesMean → IsHeld x v ran → Leaves x.journal v w x.body x.changes
     → v.tells ≡ true → LeavesOnly v w (IsBeforeOrAfter x.memory.rules x.journal.digest ran ran)
 finish_moments x v w ran law held leaves tells =
-    moments_after x v ran held w
+    moments_after x v ran held w (after_all held.base ran.pending)
+    ((x.journal.changes + x.changes) % 2 ^ 64) (state_after x v ran held)
     (leaves x.memory.rules held.base (after_all held.base ran.pending) held.store
     (batch_leads x v ran held law) tells)
 
 module _ {D : Type 0} (m : AgentState) (now : ℕ) (b : PlainBatch) (j j' : JournalView)
-    (opened : ℕ) (power : Power) (disk disk' : D) (v w : View) (ran : AgentSeen)
-    (law : WrittenBodiesMean) (up : IsUp (from_parts m now b j opened power disk) v ran) where
+    (opened checkpoint : ℕ) (power : Power) (disk disk' : D) (v w : View) (ran : AgentSeen)
+    (law : WrittenBodiesMean) (up : IsUp (from_parts m now b j opened checkpoint power disk) v ran) where
   here : Leaves j v w b.body b.changes → v.tells ≡ true
       → LeavesOnly v w
       (IsEither (Takes m.rules) nothing_saved j.digest up.base j.changes
       (after_all up.base ran.pending) ((j.changes + b.changes) % 2 ^ 64))
   here leaves tells =
       leaves m.rules up.base (after_all up.base ran.pending) up.store
-      (batch_leads (from_parts m now b j opened power disk) v ran
-      (held_of (from_parts m now b j opened power disk) v ran up) law) tells
+      (batch_leads (from_parts m now b j opened checkpoint power disk) v ran
+      (held_of (from_parts m now b j opened checkpoint power disk) v ran up) law) tells
 
   pub finish_failed : Leaves j v w b.body b.changes → IsLawful v → IsLawful w → w.tells ≡ v.tells
       → j'.digest ≡ j.digest
-      → Finishes m.rules now ran (may_of (from_parts m now b j opened power disk) v)
-      (from_parts m now b j' opened Down disk') w
-      (may_of (from_parts m now b j' opened Down disk') w) outcome.Down
+      → Finishes m.rules now ran (may_of (from_parts m now b j opened checkpoint power disk) v)
+      (from_parts m now b j' opened checkpoint Down disk') w
+      (may_of (from_parts m now b j' opened checkpoint Down disk') w) outcome.Down
   finish_failed leaves before after tells digest =
-      let x = from_parts m now b j opened power disk in (
+      let x = from_parts m now b j opened checkpoint power disk in
+      let next = after_all up.base ran.pending in
+      let later = (j.changes + b.changes) % 2 ^ 64 in
+      let state = state_after x v ran (held_of x v ran up) in
+      let count = count_after x v ran up later (twice (j.changes + b.changes)) in (
         refl,
         refl,
         subst (λ (d : List ℕ). LeavesStores m.rules d w) (sym digest)
-            (failed_stores x v ran up w before after tells (here leaves)),
+            (failed_stores x v ran up w before after tells next later state count (here leaves)),
         λ d n left.
-            failed_may x v ran up w before after tells (here leaves) d n
+            failed_may x v ran up w before after tells next later state count (here leaves) d n
             (subst (λ (e : List ℕ). may_find m.rules e opened w d n) digest left),
       )
 
   pub finish_gave : (b' : PlainBatch) (given : Vec Reply Global) → ChangesKeepValid
-      → power ≡ Up → b'.body ≡ [] → b'.changes ≡ 0 → b'.held ≡ [] → 1 ≤ b'.size
+      → EditsKeepStorable → EditsKeepSpelled → power ≡ Up → b'.body ≡ [] → b'.changes ≡ 0 → b'.held ≡ [] → 1 ≤ b'.size
       → Commits j j' v w b.body b.changes
       → map reply_of given.items ≡ b.held
-      → Finishes m.rules now ran (may_of (from_parts m now b j opened power disk) v)
-      (from_parts m m.now b' j' opened power disk') w
-      (may_of (from_parts m m.now b' j' opened power disk') w) (outcome.Replies given)
-  finish_gave b' given valid is_up body changes held size done replies =
-      let x = from_parts m now b j opened power disk in
+      → Finishes m.rules now ran (may_of (from_parts m now b j opened checkpoint power disk) v)
+      (from_parts m m.now b' j' opened checkpoint power disk') w
+      (may_of (from_parts m m.now b' j' opened checkpoint power disk') w) (outcome.Replies given)
+  finish_gave b' given valid storable spelled is_up body changes held size done replies =
+      let x = from_parts m now b j opened checkpoint power disk in
       let next = after_all up.base ran.pending in
       let at = done m.rules up.base next up.store (batch_leads x v ran (held_of x v ran up) law) in
       let seen =
-      committed_seen m b b' j j' now opened power disk disk' v w ran up valid is_up body
-      changes held size at.0 at.1 in
+      committed_seen m b b' j j' now opened checkpoint power disk disk' v w ran up valid storable spelled is_up
+      body changes held size at.0 at.1 in
       (replies ∙ sym up.held, seen.0, seen.1)

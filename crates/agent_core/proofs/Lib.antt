@@ -16,3 +16,6 @@ mod ResumeLemmas
 mod RestartLemmas
 mod FinishLemmas
 mod LineLemmas
+-- Checkpoints.
+mod SnapshotLemmas
+mod CheckpointLemmas

@@ -1,5 +1,5 @@
 -- A line, or a flush, from what its parts do to what it means.
-use Rattle.std.proofs.Common.{◌≡◌, inl, inr, ⊎_elim, ℕ, zero, suc, ◌+◌, ◌<◌, ◌≤◌, Bool, true, false, List, length, refl, sym, ap, subst, ◌∙◌, arith}
+use Rattle.std.proofs.Common.{◌≡◌, inl, inr, ⊎_elim, ℕ, zero, suc, ◌+◌, ◌<◌, ◌≤◌, Bool, true, false, List, [], length, refl, sym, ap, subst, ◌∙◌, arith}
 use Rattle.std.specs.Prelude.{◌⊎◌, ◌↔◌, IsTrue}
 use Rattle.std.proofs.lemmas.List.{length-append, length-map}
 use Rattle.unwinding.specs.CourseSteps.{GoesDown, holding}
@@ -21,6 +21,7 @@ use Rattle.durable_model.specs.Laws.{LinesAreValid, LinesKeep}
 use Rattle.spelled_model.specs.Addresses.{IsReadAction}
 use Rattle.spelled_model.specs.Laws.{LinesAreSpelled, LinesStayRead}
 use Rattle.agent_memory.specs.AgentState.{AgentState}
+use Rattle.agent_memory.specs.Written.{body_of}
 use Rattle.agent_core.specs.AgentView.{AgentView, may_find, may_of}
 use Rattle.agent_core.specs.Batch.{HasNotRun, HasRun, PlainBatch}
 use Rattle.agent_core.specs.Means.{AgentMay, Fits, FlushMeans, IsBeforeOrAfter, LineMeans, Same, after_line}
@@ -30,9 +31,9 @@ use Rattle.agent_core.specs.declared.agent.Power.{Power}
 use Rattle.agent_core.specs.declared.agent.Power.TheVariants.{Down, Spoilt, Up}
 use Rattle.agent_core.specs.declared.outcome.Outcome.{Outcome}
 use Rattle.agent_core.specs.declared.outcome.Outcome.TheVariants as outcome
-use Rattle.agent_core.proofs.CommitLemmas.{held_of}
 use Rattle.agent_core.proofs.OutcomeLemmas.{down_up, flush_finished, kept_up, line_finished, line_waits, not_run, not_run_may, roomier_may, seen_down}
-use Rattle.agent_core.proofs.SeenLemmas.{from_parts, ran_holds, ran_up}
+use Rattle.agent_core.proofs.RoomLemmas.{roomier_same}
+use Rattle.agent_core.proofs.SeenLemmas.{from_parts, ran_bytes, ran_holds, ran_up}
 use Rattle.agent_core.proofs.StoreLemmas.{images_stand, nothing_left}
 
 -- ---- what an answer gets from the value
@@ -127,6 +128,9 @@ not_power power is up =
 pub memory_down : outcome.NoMemory ≡ outcome.Down → ⊥
 memory_down e = cc
 
+pub memory_held : outcome.NoMemory ≡ outcome.Held → ⊥
+memory_held e = cc
+
 pub held_down : outcome.Held ≡ outcome.Down → ⊥
 held_down e = cc
 
@@ -157,19 +161,19 @@ line_moments rules digest v w a line leaves = leaves
 -- ---- a line that ran
 
 module _ {D : Type 0} (m m' : AgentState) (b b' : PlainBatch) (j j' : JournalView)
-    (now opened : ℕ) (power : Power) (disk disk' : D) (v w : View) (line : PlainAction)
+    (now opened checkpoint : ℕ) (power : Power) (disk disk' : D) (v w : View) (line : PlainAction)
     (run : HasRun line m m' b b') (roomier : IsRoomier j j' v w) (a : AgentSeen)
-    (seen : IsSeen (from_parts m now b j opened power disk) v a) where
+    (seen : IsSeen (from_parts m now b j opened checkpoint power disk) v a) where
   old : AgentView D
-  old = from_parts m now b j opened power disk
+  old = from_parts m now b j opened checkpoint power disk
 
   mid : AgentView D
-  mid = from_parts m' now b' j' opened power disk'
+  mid = from_parts m' now b' j' opened checkpoint power disk'
 
   held_one : length b'.held ≡ length b.held + 1
   held_one = omega (arith, ap length run.held, length-append {A = PlainReply})
 
-  held_same : IsUp (from_parts m now b j opened power disk) v a → length a.held ≡ length b.held
+  held_same : IsUp (from_parts m now b j opened checkpoint power disk) v a → length a.held ≡ length b.held
   held_same up = sym (length-map a.held printed) ∙ ap length up.held
 
   back : (d : AgentDurable) (n : ℕ) → may_find m'.rules j'.digest opened w d n
@@ -181,16 +185,16 @@ module _ {D : Type 0} (m m' : AgentState) (b b' : PlainBatch) (j j' : JournalVie
   module _ (keep : LinesKeep) (valid : LinesAreValid) (spelled : LinesAreSpelled)
       (read : IsReadAction line) where
     pub line_leaves : (x : View) → IsLawful v
-        → ((ran : AgentSeen) → IsHeld (from_parts m' now b' j' opened power disk') w ran
+        → ((ran : AgentSeen) → IsHeld (from_parts m' now b' j' opened checkpoint power disk') w ran
         → w.tells ≡ true → LeavesOnly w x (IsBeforeOrAfter m'.rules j'.digest ran ran))
         → a.up ≡ true → v.tells ≡ true
         → LeavesOnly v x (IsBeforeOrAfter m.rules j.digest a (after_line m.rules a line))
     line_leaves x laws finish is_up tells =
         let up = seen.standing is_up in
         let ran = after_line m.rules a line in
-        let there = from_parts m now b j opened power disk in
+        let there = from_parts m now b j opened checkpoint power disk in
         let held =
-        ran_holds m m' b b' j j' now opened power disk disk' v w line a run roomier up keep valid
+        ran_holds m m' b b' j j' now opened checkpoint power disk disk' v w line a run roomier up keep valid
         spelled read in
         and_then v w x (IsBeforeOrAfter m.rules j.digest a ran)
         (up_moments there v w a ran laws roomier.stays up)
@@ -203,54 +207,54 @@ module _ {D : Type 0} (m m' : AgentState) (b b' : PlainBatch) (j j' : JournalVie
       is_up : a.up ≡ true
       is_up = seen.up.1 is_now
 
-      here : IsUp (from_parts m' now b' j' opened power disk') w (after_line m.rules a line)
+      here : IsUp (from_parts m' now b' j' opened checkpoint power disk') w (after_line m.rules a line)
       here =
-          ran_up m m' b b' j j' now opened power disk disk' v w line a run roomier
+          ran_up m m' b b' j j' now opened checkpoint power disk disk' v w line a run roomier
           (seen.standing (seen.up.1 is_now)) keep valid spelled stays read fits
           (seen.up.1 is_now)
 
       -- the batch is full
       pub line_ends : b'.size ≤ length b'.held → (new : AgentView D) (x : View) (may' : AgentMay)
           (result : Outcome)
-          → ((ran : AgentSeen) → IsUp (from_parts m' now b' j' opened power disk') w ran
-          → Finishes m'.rules now ran (may_of (from_parts m' now b' j' opened power disk') w)
+          → ((ran : AgentSeen) → IsUp (from_parts m' now b' j' opened checkpoint power disk') w ran
+          → Finishes m'.rules now ran (may_of (from_parts m' now b' j' opened checkpoint power disk') w)
           new x may' result)
           → (s : AgentSeen) × IsSeen new x s
-          × LineMeans m.rules b.size line a (may_of (from_parts m now b j opened power disk) v)
+          × LineMeans m.rules b.size line a (may_of (from_parts m now b j opened checkpoint power disk) v)
           s may' result
       line_ends full new x may' result finish =
           let up = seen.standing is_up in
           let short = seen.short is_up in
           line_finished new x m.rules b.size line a
-          (may_of (from_parts m now b j opened power disk) v)
-          (may_of (from_parts m' now b' j' opened power disk') w) may' now result is_up
+          (may_of (from_parts m now b j opened checkpoint power disk) v)
+          (may_of (from_parts m' now b' j' opened checkpoint power disk') w) may' now result is_up
           (omega (arith, full, run.size, held_one, held_same up, short)) seen.clock back
           (subst (λ (r : List Rule). Finishes r now (after_line m.rules a line)
-          (may_of (from_parts m' now b' j' opened power disk') w) new x may' result) run.rules
+          (may_of (from_parts m' now b' j' opened checkpoint power disk') w) new x may' result) run.rules
           (finish (after_line m.rules a line) here))
 
       -- it is not
       pub line_held : length b'.held < b'.size
-          → (s : AgentSeen) × IsSeen (from_parts m' m'.now b' j' opened power disk') w s
-          × LineMeans m.rules b.size line a (may_of (from_parts m now b j opened power disk) v)
-          s (may_of (from_parts m' m'.now b' j' opened power disk') w) outcome.Held
+          → (s : AgentSeen) × IsSeen (from_parts m' m'.now b' j' opened checkpoint power disk') w s
+          × LineMeans m.rules b.size line a (may_of (from_parts m now b j opened checkpoint power disk) v)
+          s (may_of (from_parts m' m'.now b' j' opened checkpoint power disk') w) outcome.Held
       line_held short =
-          line_waits m' b b' j' opened power disk' w m.rules line a
-          (may_of (from_parts m now b j opened power disk) v) now run.rules is_now is_up run.size
+          line_waits m' b b' j' opened checkpoint power disk' w m.rules line a
+          (may_of (from_parts m now b j opened checkpoint power disk) v) now run.rules is_now is_up run.size
           short held_one (held_same (seen.standing is_up)) here
 
 -- ---- want of memory
 
 pub wanting : {D : Type 0} (m m' : AgentState) (b b' : PlainBatch) (j j' : JournalView)
-    (now opened : ℕ) (power : Power) (disk disk' : D) (v w : View) (a : AgentSeen)
+    (now opened checkpoint : ℕ) (power : Power) (disk disk' : D) (v w : View) (a : AgentSeen)
     → HasNotRun m m' b b' → IsRoomier j j' v w
-    → IsSeen (from_parts m now b j opened power disk) v a
-    → (s : AgentSeen) × IsSeen (from_parts m' now b' j' opened power disk') w s
-    × Same a (may_of (from_parts m now b j opened power disk) v) s
-    (may_of (from_parts m' now b' j' opened power disk') w)
-wanting m m' b b' j j' now opened power disk disk' v w a kept roomier seen = (
+    → IsSeen (from_parts m now b j opened checkpoint power disk) v a
+    → (s : AgentSeen) × IsSeen (from_parts m' now b' j' opened checkpoint power disk') w s
+    × Same a (may_of (from_parts m now b j opened checkpoint power disk) v) s
+    (may_of (from_parts m' now b' j' opened checkpoint power disk') w)
+wanting m m' b b' j j' now opened checkpoint power disk disk' v w a kept roomier seen = (
   a,
-  not_run m m' b b' j j' now opened power disk disk' v w a kept roomier seen,
+  not_run m m' b b' j j' now opened checkpoint power disk disk' v w a kept roomier seen,
   (refl, not_run_may m m' b b' j j' opened v w kept roomier),
 )
 
@@ -281,46 +285,67 @@ finishes_back rules now ran between may may' new x outcome.Held back done = done
 finishes_back rules now ran between may may' new x outcome.NoMemory back done = done
 
 module _ {D : Type 0} (m : AgentState) (b : PlainBatch) (j j' : JournalView)
-    (now opened : ℕ) (power : Power) (disk disk' : D) (v w : View) (roomier : IsRoomier j j' v w)
-    (a : AgentSeen) (seen : IsSeen (from_parts m now b j opened power disk) v a) where
-  still : a.up ≡ true → IsUp (from_parts m now b j' opened power disk') w a
+    (now opened checkpoint : ℕ) (power : Power) (disk disk' : D) (v w : View) (roomier : IsRoomier j j' v w)
+    (a : AgentSeen) (seen : IsSeen (from_parts m now b j opened checkpoint power disk) v a) where
+  still : a.up ≡ true → IsUp (from_parts m now b j' opened checkpoint power disk') w a
   still is_up =
-      kept_up m m b b j j' now opened power disk disk' v w a (same_run m b) roomier
+      kept_up m m b b j j' now opened checkpoint power disk disk' v w a (same_run m b) roomier
       (seen.standing is_up)
 
   pub flush_ends : power ≡ Up → (new : AgentView D) (x : View) (may' : AgentMay)
       (result : Outcome)
-      → ((ran : AgentSeen) → IsUp (from_parts m now b j' opened power disk') w ran
-      → Finishes m.rules now ran (may_of (from_parts m now b j' opened power disk') w)
+      → (IsUp (from_parts m now b j' opened checkpoint power disk') w a
+      → Finishes m.rules now a (may_of (from_parts m now b j' opened checkpoint power disk') w)
       new x may' result)
       → (s : AgentSeen) × IsSeen new x s
-      × FlushMeans m.rules a (may_of (from_parts m now b j opened power disk) v) s may' result
+      × FlushMeans m.rules a (may_of (from_parts m now b j opened checkpoint power disk) v) s may' result
   flush_ends is_now new x may' result finish =
       let is_up = seen.up.1 is_now in
-      flush_finished new x m.rules a (may_of (from_parts m now b j opened power disk) v) may' now
+      flush_finished new x m.rules a (may_of (from_parts m now b j opened checkpoint power disk) v) may' now
       result is_up seen.clock
-      (finishes_back m.rules now a (may_of (from_parts m now b j' opened power disk') w)
-      (may_of (from_parts m now b j opened power disk) v) may' new x result
-      (roomier_may j j' v w roomier m.rules opened) (finish a (still is_up)))
+      (finishes_back m.rules now a (may_of (from_parts m now b j' opened checkpoint power disk') w)
+      (may_of (from_parts m now b j opened checkpoint power disk) v) may' new x result
+      (roomier_may j j' v w roomier m.rules opened) (finish (still is_up)))
 
   pub flush_leaves : (x : View) → IsLawful v
-      → ((ran : AgentSeen) → IsHeld (from_parts m now b j' opened power disk') w ran
-      → w.tells ≡ true → LeavesOnly w x (IsBeforeOrAfter m.rules j'.digest ran ran))
+      → (IsUp (from_parts m now b j' opened checkpoint power disk') w a
+      → w.tells ≡ true → LeavesOnly w x (IsBeforeOrAfter m.rules j'.digest a a))
       → a.up ≡ true → v.tells ≡ true
       → LeavesOnly v x (IsBeforeOrAfter m.rules j.digest a a)
   flush_leaves x laws finish is_up tells =
       let up = seen.standing is_up in
       and_then v w x (IsBeforeOrAfter m.rules j.digest a a)
-      (up_moments (from_parts m now b j opened power disk) v w a a laws roomier.stays up)
+      (up_moments (from_parts m now b j opened checkpoint power disk) v w a a laws roomier.stays up)
       (subst (λ (i : JournalView). LeavesOnly w x (IsBeforeOrAfter m.rules i.digest a a))
       roomier.journal
-      (finish a (held_of (from_parts m now b j' opened power disk') w a (still is_up))
-      (roomier.stays.tells ∙ tells)))
-
--- ---- a batch that is not full
+      (finish (still is_up) (roomier.stays.tells ∙ tells)))
 
 true_false : true ≡ false → ⊥
 true_false e = cc
+
+-- an open batch without a durable change has no body
+pub no_body : {D : Type 0} (x : AgentView D) (v : View) (a : AgentSeen) → x.power ≡ Up
+    → IsSeen x v a → a.pending ≡ [] → x.body ≡ []
+no_body x v a is_now seen none =
+    (seen.standing (seen.up.1 is_now)).batch.bytes ∙ ap body_of none
+
+-- nor one after a line that has none
+pub no_body_ran : {D : Type 0} (m m' : AgentState) (b b' : PlainBatch) (j : JournalView)
+    (now opened checkpoint : ℕ) (power : Power) (disk : D) (v : View) (line : PlainAction)
+    (a : AgentSeen) → HasRun line m m' b b' → power ≡ Up
+    → IsSeen (from_parts m now b j opened checkpoint power disk) v a
+    → (after_line m.rules a line).pending ≡ [] → b'.body ≡ []
+no_body_ran m m' b b' j now opened checkpoint power disk v line a run is_now seen none =
+    let up = seen.standing (seen.up.1 is_now) in
+    ran_bytes m m' b b' j j now opened checkpoint power disk disk v v line a run
+    (roomier_same j v) up ∙ ap body_of none
+
+-- a line is held
+pub some_held : (none : Bool) (held : List PlainReply) → (IsTrue none ↔ (held ≡ []))
+    → none ≡ false → held ≡ [] → ⊥
+some_held none held is never empty = true_false (sym (is.1 empty) ∙ never)
+
+-- ---- a batch that is not full
 
 split : (n size : ℕ) → (n < size) ⊎ (size ≤ n)
 split n zero = inr (omega arith)

@@ -14,6 +14,7 @@ use Rattle.suffix_list.specs.Suffix.{Rule}
 use Rattle.durable_model.specs.Saved.{IsValid, Saved, nothing_saved}
 use Rattle.spelled_model.specs.Rows.{IsReadSaved}
 use Rattle.row_store.specs.Bodies.{Takes}
+use Rattle.row_store.specs.Laws.{IsSpelledState, IsStorable}
 use Rattle.row_store.specs.Stored.{HasNoSession, PlainRows, saved_of}
 use Rattle.row_store.specs.declared.parts.Parts.{Parts}
 use Rattle.agent_core.specs.Openings.{IsFound, IsOpened}
@@ -39,14 +40,17 @@ pub is_opened : (list : RuleList) (journal : JournalView) (view : View) (rows : 
     (parts : Parts) → parts ≡ rows.parts → rows.rules ≡ list.rules
     → IsAtBase list.rules journal view (saved_of rows.parts) → journal.digest ≡ list.digest
     → IsValid (saved_of rows.parts) → IsReadSaved rows.rules (saved_of rows.parts)
+    → IsStorable (saved_of rows.parts) → IsSpelledState rows.rules (saved_of rows.parts)
     → HasNoSession rows.parts.storage → IsOpened list journal view parts
-is_opened list journal view rows parts same by at digest valid read none =
+is_opened list journal view rows parts same by at digest valid read storable spelled none =
     subst (λ (p : Parts). IsOpened list journal view p) (sym same)
     (record {
       at = at;
       digest = digest;
       valid = valid;
       keys = subst (λ (r : List Rule). IsReadSaved r (saved_of rows.parts)) by read;
+      storable = storable;
+      spelled = subst (λ (r : List Rule). IsSpelledState r (saved_of rows.parts)) by spelled;
       sessions = none;
     })
 

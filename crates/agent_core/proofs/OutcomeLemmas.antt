@@ -1,5 +1,5 @@
 -- From what the parts of an agent do to what its calls mean.
-use Rattle.std.proofs.Common.{◌≡◌, inl, inr, ⊎_elim, ℕ, ◌+◌, ◌<◌, ◌≤◌, Bool, true, false, List, length, Option, Vec, Global, refl, sym, ap, subst, ◌∙◌, arith}
+use Rattle.std.proofs.Common.{◌≡◌, inl, inr, ⊎_elim, ℕ, ◌+◌, ◌<◌, ◌≤◌, Bool, true, false, List, [], ◌∷◌, length, Option, Vec, Global, refl, sym, ap, subst, ◌∙◌, arith}
 use Rattle.std.specs.Prelude.{Result}
 use Rattle.unwinding.specs.CourseSteps.{holding}
 use Rattle.agent_base.specs.Counts.{Rose}
@@ -9,19 +9,21 @@ use Rattle.journal.specs.Opening.{HasNoFault}
 use Rattle.journal.specs.Region.{StandsFor}
 use Rattle.suffix_list.specs.Suffix.{Rule}
 use Rattle.script_actions.specs.Action.{PlainAction}
+use Rattle.reply_lines.specs.Reply.{PlainReply}
 use Rattle.reply_lines.specs.declared.reply.Reply.{Reply}
 use Rattle.agent_model.specs.Lines.{AgentWorld}
 use Rattle.durable_model.specs.Keeping.{AgentDurable}
 use Rattle.durable_model.specs.Saved.{Saved, nothing_saved}
 use Rattle.spelled_model.specs.Worlds.{IsReadWorld}
 use Rattle.row_store.specs.Bodies.{Takes}
+use Rattle.row_store.specs.Laws.{IsSpelledState}
 use Rattle.one_store.specs.WholeWorld.{whole_world}
 use Rattle.agent_memory.specs.AgentState.{AgentState, world_of}
 use Rattle.agent_core.specs.AgentView.{AgentView, may_find, may_of, since_opening}
 use Rattle.agent_core.specs.Batch.{HasNotRun, PlainBatch}
 use Rattle.open_store.specs.Commits.{CommitDevice}
 use Rattle.open_store.specs.Standing.{IsRoomier}
-use Rattle.agent_core.specs.Means.{AgentMay, FlushMeans, LineMeans, OutcomeDevice, after_commit, after_line}
+use Rattle.agent_core.specs.Means.{AgentMay, FlushMeans, LineMeans, OutcomeDevice, after_commit, after_line, calls_by}
 use Rattle.agent_core.specs.Seen.{AgentSeen, IsAtBase, IsBatch, IsSeen, IsUp, LeavesStores}
 use Rattle.agent_core.specs.Standing.{Finishes}
 use Rattle.agent_core.specs.declared.agent.Power.{Power}
@@ -114,10 +116,10 @@ seen_down x v a seen off = not_up a.up (λ up. off (seen.up.0 up))
 -- ---- want of memory
 
 module _ {D : Type 0} (m m' : AgentState) (b b' : PlainBatch) (j j' : JournalView)
-    (now opened : ℕ) (power : Power) (disk disk' : D) (v w : View) (a : AgentSeen)
+    (now opened checkpoint : ℕ) (power : Power) (disk disk' : D) (v w : View) (a : AgentSeen)
     (kept : HasNotRun m m' b b') (roomier : IsRoomier j j' v w) where
-  pub kept_up : IsUp (from_parts m now b j opened power disk) v a
-      → IsUp (from_parts m' now b' j' opened power disk') w a
+  pub kept_up : IsUp (from_parts m now b j opened checkpoint power disk) v a
+      → IsUp (from_parts m' now b' j' opened checkpoint power disk') w a
   kept_up up = record {
     world = up.world ∙ sym kept.world;
     sound = up.sound;
@@ -129,6 +131,8 @@ module _ {D : Type 0} (m m' : AgentState) (b b' : PlainBatch) (j j' : JournalVie
     fits = up.fits;
     base = up.base;
     valid = up.valid;
+    storable = up.storable;
+    spelled = subst (λ (r : List Rule). IsSpelledState r up.base) (sym kept.rules) up.spelled;
     state = up.state;
     batch =
         subst (λ (r : List Rule). IsBatch r up.base a.pending b'.body a.world) (sym kept.rules)
@@ -171,18 +175,18 @@ module _ (j j' : JournalView) (v w : View) (roomier : IsRoomier j j' v w) where
       (stores (sym roomier.stays.tells ∙ tells) file (roomier.stays.no_more file left))
 
 pub not_run : {D : Type 0} (m m' : AgentState) (b b' : PlainBatch) (j j' : JournalView)
-    (now opened : ℕ) (power : Power) (disk disk' : D) (v w : View) (a : AgentSeen)
+    (now opened checkpoint : ℕ) (power : Power) (disk disk' : D) (v w : View) (a : AgentSeen)
     → HasNotRun m m' b b' → IsRoomier j j' v w
-    → IsSeen (from_parts m now b j opened power disk) v a
-    → IsSeen (from_parts m' now b' j' opened power disk') w a
-not_run m m' b b' j j' now opened power disk disk' v w a kept roomier seen = record {
+    → IsSeen (from_parts m now b j opened checkpoint power disk) v a
+    → IsSeen (from_parts m' now b' j' opened checkpoint power disk') w a
+not_run m m' b b' j j' now opened checkpoint power disk disk' v w a kept roomier seen = record {
   up = seen.up;
   clock = seen.clock;
   stores =
       subst (λ (r : List Rule). LeavesStores r j'.digest w) (sym kept.rules)
       (roomier_stores j j' v w roomier m.rules seen.stores);
   standing = λ up.
-      kept_up m m' b b' j j' now opened power disk disk' v w a kept roomier (seen.standing up);
+      kept_up m m' b b' j j' now opened checkpoint power disk disk' v w a kept roomier (seen.standing up);
   short = λ up. omega (arith, seen.short up, ap length kept.held, kept.size);
 }
 
@@ -196,18 +200,18 @@ not_run_may m m' b b' j j' opened v w kept roomier d n left =
 -- ---- a line waits
 
 pub line_waits : {D : Type 0} (m' : AgentState) (b b' : PlainBatch) (j' : JournalView)
-    (opened : ℕ) (power : Power) (disk' : D) (w : View) (rules : List Rule) (line : PlainAction)
+    (opened checkpoint : ℕ) (power : Power) (disk' : D) (w : View) (rules : List Rule) (line : PlainAction)
     (a : AgentSeen) (may : AgentMay) (now : ℕ)
     → m'.rules ≡ rules → power ≡ Up → a.up ≡ true
     → b'.size ≡ b.size → length b'.held < b'.size → length b'.held ≡ length b.held + 1
     → length a.held ≡ length b.held
-    → IsUp (from_parts m' now b' j' opened power disk') w (after_line rules a line)
-    → (s : AgentSeen) × IsSeen (from_parts m' m'.now b' j' opened power disk') w s
+    → IsUp (from_parts m' now b' j' opened checkpoint power disk') w (after_line rules a line)
+    → (s : AgentSeen) × IsSeen (from_parts m' m'.now b' j' opened checkpoint power disk') w s
     × LineMeans rules b.size line a may s
-    (may_of (from_parts m' m'.now b' j' opened power disk') w) outcome.Held
+    (may_of (from_parts m' m'.now b' j' opened checkpoint power disk') w) outcome.Held
 unfolding holding world_of whole_world
-line_waits m' b b' j' opened power disk' w rules line a may now same is_up up size short longer held here =
-    let x = from_parts m' m'.now b' j' opened power disk' in
+line_waits m' b b' j' opened checkpoint power disk' w rules line a may now same is_up up size short longer held here =
+    let x = from_parts m' m'.now b' j' opened checkpoint power disk' in
     let after = after_line rules a line in
     let there : IsUp x w after = record {
       world = here.world;
@@ -219,6 +223,8 @@ line_waits m' b b' j' opened power disk' w rules line a may now same is_up up si
       fits = here.fits;
       base = here.base;
       valid = here.valid;
+      storable = here.storable;
+      spelled = here.spelled;
       state = here.state;
       batch = here.batch;
       store = here.store;
@@ -256,9 +262,9 @@ module _ (j j' : JournalView) (v mid w : View) (roomier : IsRoomier j j' v mid) 
         failed.cut;
   }
 
-  pub device_before : (result : Outcome) → OutcomeDevice 4 result mid w
-      → OutcomeDevice 4 result v w
-  device_before result device = record {
+  pub device_before : (most : ℕ) (result : Outcome) → OutcomeDevice most result mid w
+      → OutcomeDevice most result v w
+  device_before most result device = record {
     tells = device.tells ∙ roomier.stays.tells;
     later = omega (arith, device.later, roomier.stays.changing);
     calls = omega (arith, device.calls, roomier.stays.changing);
@@ -279,9 +285,9 @@ module _ (j j' : JournalView) (v mid w : View) (roomier : IsRoomier j j' v mid) 
   }
 
   -- no call was made
-  pub device_none : (result : Outcome) → (result ≡ outcome.Down → ⊥)
-      → OutcomeDevice 4 result v mid
-  device_none result other = record {
+  pub device_none : (most : ℕ) (result : Outcome) → (result ≡ outcome.Down → ⊥)
+      → OutcomeDevice most result v mid
+  device_none most result other = record {
     tells = roomier.stays.tells;
     later = omega (arith, roomier.stays.changing);
     calls = omega (arith, roomier.stays.changing);
@@ -292,10 +298,10 @@ module _ (j j' : JournalView) (v mid w : View) (roomier : IsRoomier j j' v mid) 
 not_down : (given : Vec Reply Global) → outcome.Replies given ≡ outcome.Down → ⊥
 not_down given e = cc
 
-pub device_gave : {T E : Type 0} (result : Result T E) (v w : View) (given : Vec Reply Global)
-    → HasNoFault v w → CommitDevice 4 result v w
-    → OutcomeDevice 4 (outcome.Replies given) v w
-device_gave result v w given fine device = record {
+pub device_gave : {T E : Type 0} (most : ℕ) (result : Result T E) (v w : View)
+    (given : Vec Reply Global) → HasNoFault v w → CommitDevice most result v w
+    → OutcomeDevice most (outcome.Replies given) v w
+device_gave most result v w given fine device = record {
   tells = device.tells;
   later = device.later;
   calls = device.calls;
@@ -303,13 +309,27 @@ device_gave result v w given fine device = record {
   others = λ _. fine;
 }
 
-pub device_failed : {T E : Type 0} (result : Result T E) (v w : View)
-    → Rose v.faults w.faults × HasFailed v w → CommitDevice 4 result v w
-    → OutcomeDevice 4 outcome.Down v w
-device_failed result v w failed device = record {
+pub device_failed : {T E : Type 0} (most : ℕ) (result : Result T E) (v w : View)
+    → Rose v.faults w.faults × HasFailed v w → CommitDevice most result v w
+    → OutcomeDevice most outcome.Down v w
+device_failed most result v w failed device = record {
   tells = device.tells;
   later = device.later;
   calls = device.calls;
   down = λ _. failed;
   others = λ never. absurd (never refl);
 }
+
+-- ---- how many calls a flush makes
+
+-- with nothing held, those of a checkpoint
+pub calls_none : (held : List PlainReply) (n : ℕ) (result : Outcome) (v w : View) → held ≡ []
+    → OutcomeDevice n result v w → OutcomeDevice (calls_by held n) result v w
+calls_none held n result v w none device =
+    subst (λ (h : List PlainReply). OutcomeDevice (calls_by h n) result v w) (sym none) device
+
+-- with a line held, those of a commit
+pub calls_held : (held : List PlainReply) (n : ℕ) (result : Outcome) (v w : View)
+    → (held ≡ [] → ⊥) → OutcomeDevice 4 result v w → OutcomeDevice (calls_by held n) result v w
+calls_held [] n result v w some device = absurd (some refl)
+calls_held (reply ∷ held) n result v w some device = device

@@ -25,6 +25,7 @@ use Rattle.agent_memory.specs.AgentState.{AgentState, world_of}
 use Rattle.agent_core.specs.AgentView.{AgentView, may_find, may_of, since_opening}
 use Rattle.agent_core.specs.Batch.{PlainBatch}
 use Rattle.agent_core.specs.Means.{AgentMay, RestartMeans}
+use Rattle.row_store.specs.Laws.{IsSpelledState, IsStorable}
 use Rattle.row_store.specs.Stored.{saved_of}
 use Rattle.row_store.specs.declared.parts.Parts.{Parts}
 use Rattle.agent_core.specs.Openings.{IsFound, IsOpened, resumed}
@@ -39,16 +40,17 @@ use Rattle.agent_core.proofs.ResumeLemmas.{resumed_world}
 
 -- ---- what an opened agent stands for
 
-module _ {D : Type 0} (m : AgentState) (b : PlainBatch) (j : JournalView) (now : ℕ)
-    (power : Power) (disk : D) (w : View) (d : Saved) where
+module _ {D : Type 0} (m : AgentState) (b : PlainBatch) (j : JournalView)
+    (now checkpoint : ℕ) (power : Power) (disk : D) (w : View) (d : Saved) where
   reopened_up : OpensKept → OpensRead → m.now ≡ now → world_of m ≡ reopened_world now d
       → now ≤ last_moment → j.changes < 2 ^ 64 → IsValid d → IsReadSaved m.rules d
+      → IsStorable d → IsSpelledState m.rules d
       → b.body ≡ [] → b.changes ≡ 0 → b.held ≡ [] → IsAtBase m.rules j w d
-      → IsUp (from_parts m now b j j.changes power disk) w
+      → IsUp (from_parts m now b j j.changes checkpoint power disk) w
       (reopened (machine m.rules) keeping (record { now = now; places = no_places })
       (durable_of d))
   unfolding reopened
-  reopened_up kept read clock world in_time small valid keys body changes held at = record {
+  reopened_up kept read clock world in_time small valid keys storable spelled body changes held at = record {
     world = sym world;
     sound = (kept m.rules now d valid).0;
     read = read m.rules now d in_time keys;
@@ -58,6 +60,8 @@ module _ {D : Type 0} (m : AgentState) (b : PlainBatch) (j : JournalView) (now :
     fits = omega arith;
     base = d;
     valid = valid;
+    storable = storable;
+    spelled = spelled;
     state = refl;
     batch = record {
       bytes = body;
@@ -73,17 +77,19 @@ module _ {D : Type 0} (m : AgentState) (b : PlainBatch) (j : JournalView) (now :
 
   pub reopened_seen : OpensKept → OpensRead → m.now ≡ now → world_of m ≡ reopened_world now d
       → now ≤ last_moment → j.changes < 2 ^ 64 → IsValid d → IsReadSaved m.rules d
+      → IsStorable d → IsSpelledState m.rules d
       → b.body ≡ [] → b.changes ≡ 0 → b.held ≡ [] → 1 ≤ b.size → power ≡ Up
       → IsAtBase m.rules j w d
       → (let s =
       reopened (machine m.rules) keeping (record { now = now; places = no_places })
       (durable_of d) in
-      IsSeen (from_parts m now b j j.changes power disk) w s
-      × AtBase s.base (may_of (from_parts m now b j j.changes power disk) w))
+      IsSeen (from_parts m now b j j.changes checkpoint power disk) w s
+      × AtBase s.base (may_of (from_parts m now b j j.changes checkpoint power disk) w))
   unfolding reopened keeping
-  reopened_seen kept read clock world in_time small valid keys body changes held size is_up at =
-      let up = reopened_up kept read clock world in_time small valid keys body changes held at in
-      let x = from_parts m now b j j.changes power disk in
+  reopened_seen kept read clock world in_time small valid keys storable spelled body changes held size is_up at =
+      let up = reopened_up kept read clock world in_time small valid keys storable spelled body
+      changes held at in
+      let x = from_parts m now b j j.changes checkpoint power disk in
       let s =
       reopened (machine m.rules) keeping (record { now = now; places = no_places })
       (durable_of d) in (
@@ -99,7 +105,7 @@ module _ {D : Type 0} (m : AgentState) (b : PlainBatch) (j : JournalView) (now :
 
 -- an agent that goes on with what an opening gave
 pub resumed_seen : {D : Type 0} (list : RuleList) (m : AgentState) (b : PlainBatch)
-    (j : JournalView) (now opened : ℕ) (power : Power) (disk : D) (w : View) (parts : Parts)
+    (j : JournalView) (now opened checkpoint : ℕ) (power : Power) (disk : D) (w : View) (parts : Parts)
     → OpensKept → OpensRead
     → m ≡ resumed list.rules now parts.storage parts.cookies parts.grants
     → now ≤ last_moment → j.changes < 2 ^ 64 → opened ≡ j.changes → IsOpened list j w parts
@@ -107,21 +113,21 @@ pub resumed_seen : {D : Type 0} (list : RuleList) (m : AgentState) (b : PlainBat
     → (let s =
     reopened (machine list.rules) keeping (record { now = now; places = no_places })
     (durable_of (saved_of parts)) in
-    IsSeen (from_parts m now b j opened power disk) w s
-    × AtBase s.base (may_of (from_parts m now b j opened power disk) w))
-resumed_seen {D} list m b j now opened power disk w parts kept read is in_time small count at body changes held size up =
+    IsSeen (from_parts m now b j opened checkpoint power disk) w s
+    × AtBase s.base (may_of (from_parts m now b j opened checkpoint power disk) w))
+resumed_seen {D} list m b j now opened checkpoint power disk w parts kept read is in_time small count at body changes held size up =
     let d = saved_of parts in
     let again = resumed list.rules now parts.storage parts.cookies parts.grants in
     let s =
     reopened (machine list.rules) keeping (record { now = now; places = no_places })
     (durable_of d) in
     let P : AgentState → ℕ → Type 0 =
-    λ x o. IsSeen (from_parts x now b j o power disk) w s
-    × AtBase s.base (may_of (from_parts x now b j o power disk) w) in
+    λ x o. IsSeen (from_parts x now b j o checkpoint power disk) w s
+    × AtBase s.base (may_of (from_parts x now b j o checkpoint power disk) w) in
     let here : P again j.changes =
-    reopened_seen again b j now power disk w d kept read refl
+    reopened_seen again b j now checkpoint power disk w d kept read refl
     (resumed_world list.rules now parts.storage parts.cookies parts.grants at.sessions) in_time
-    small at.valid at.keys body changes held size up at.at in
+    small at.valid at.keys at.storable at.spelled body changes held size up at.at in
     subst (λ x. P x opened) (sym is) (subst (λ o. P again o) (sym count) here)
 
 -- an agent of which a restart opened the store again
@@ -136,10 +142,10 @@ pub gone_on : {D : Type 0} (told : D → View) (was old : AgentView D) (rules : 
     → (let s =
     reopened (machine old.memory.rules) keeping (record { now = old.now; places = no_places })
     (durable_of (saved_of parts)) in
-    IsSeen (from_parts m was.now b j opened Up was.disk) (told was.disk) s
-    × AtBase s.base (may_of (from_parts m was.now b j opened Up was.disk) (told was.disk)))
+    IsSeen (from_parts m was.now b j opened was.checkpoint Up was.disk) (told was.disk) s
+    × AtBase s.base (may_of (from_parts m was.now b j opened was.checkpoint Up was.disk) (told was.disk)))
 gone_on {D} told was old rules m b j opened parts is under kept read resumes in_time small count at body changes held size =
-    let new = from_parts m was.now b j opened Up was.disk in
+    let new = from_parts m was.now b j opened was.checkpoint Up was.disk in
     let w = told was.disk in
     let list : AgentView D → RuleList =
     λ o. record { rules = o.memory.rules; digest = o.journal.digest } in
@@ -150,7 +156,7 @@ gone_on {D} told was old rules m b j opened parts is under kept read resumes in_
     (durable_of (saved_of parts)) in
     IsSeen new w s × AtBase s.base (may_of new w)) in
     let here : P was =
-    λ opens. resumed_seen (list was) m b j was.now opened Up was.disk w parts kept read
+    λ opens. resumed_seen (list was) m b j was.now opened was.checkpoint Up was.disk w parts kept read
     (resumes
     ∙ ap (λ (r : List Rule). resumed r was.now parts.storage parts.cookies parts.grants)
     (sym under))

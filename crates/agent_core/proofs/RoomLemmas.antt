@@ -1,5 +1,5 @@
 -- The room of a store: more is enough for less, and room may be made again and again.
-use Rattle.std.proofs.Common.{ℕ, ◌≤◌, ◌∙◌, ap, arith}
+use Rattle.std.proofs.Common.{ℕ, ◌≤◌, ◌∙◌, ap, arith, refl}
 use Rattle.disk_model.specs.Disk.{Stays, View}
 use Rattle.journal.specs.Journal.{JournalView}
 use Rattle.open_store.specs.Commits.{HasRoomFor}
@@ -16,6 +16,19 @@ room_less journal view less more le has some =
       fits = omega (arith, there.fits, le);
       writes = there.writes;
     }
+
+-- nothing changes where nothing is done
+pub stays_same : (v : View) → Stays v v
+stays_same v = record {
+  contents = refl;
+  moment = refl;
+  no_more = λ c left. left;
+  no_fewer = λ c left. left;
+  no_more_since = λ t c left. left;
+  no_fewer_since = λ t c left. left;
+  changing = refl;
+  tells = refl;
+}
 
 stays_then : (u v w : View) → Stays u v → Stays v w → Stays u w
 stays_then u v w first second = record {
@@ -43,4 +56,13 @@ roomier_then i j k u v w first second = record {
     failures = second.fine.failures ∙ first.fine.failures;
     cuts = second.fine.cuts ∙ first.fine.cuts;
   };
+}
+
+pub roomier_same : (j : JournalView) (v : View) → IsRoomier j j v v
+roomier_same j v = record {
+  journal = refl;
+  stands = λ c frames stands. stands;
+  rests = λ rests. rests;
+  stays = stays_same v;
+  fine = record { faults = refl; off = refl; failures = refl; cuts = refl };
 }

@@ -24,6 +24,7 @@ use Rattle.durable_model.specs.Sound.{IsSavedOf}
 use Rattle.spelled_model.specs.Laws.{LinesAreSpelled, LinesStayRead}
 use Rattle.spelled_model.specs.Addresses.{IsReadAction}
 use Rattle.spelled_model.specs.Worlds.{IsReadWorld}
+use Rattle.row_store.specs.Laws.{IsSpelledState}
 use Rattle.agent_memory.specs.AgentState.{AgentState, world_of}
 use Rattle.agent_memory.specs.Written.{AgentChange, AreWritten, body_of}
 use Rattle.agent_core.specs.AgentView.{AgentView, may_find, may_of, since_opening}
@@ -37,9 +38,9 @@ use Rattle.agent_core.proofs.BatchLemmas.{after_append, body_append, line_rows, 
 use Rattle.agent_core.proofs.StoreLemmas.{contents_stand, images_stand, roomier_base, stands_one}
 
 -- an agent of these parts
-abbrev pub from_parts : {D : Type 0} → AgentState → ℕ → PlainBatch → JournalView → ℕ → Power → D
+abbrev pub from_parts : {D : Type 0} → AgentState → ℕ → PlainBatch → JournalView → ℕ → ℕ → Power → D
     → AgentView D
-from_parts memory now batch journal opened power disk =
+from_parts memory now batch journal opened checkpoint power disk =
     record {
       memory = memory;
       now = now;
@@ -49,6 +50,7 @@ from_parts memory now batch journal opened power disk =
       held = batch.held;
       journal = journal;
       opened = opened;
+      checkpoint = checkpoint;
       power = power;
       disk = disk;
     }
@@ -56,9 +58,9 @@ from_parts memory now batch journal opened power disk =
 -- ---- a line ran
 
 module _ {D : Type 0} (m m' : AgentState) (b b' : PlainBatch) (j j' : JournalView)
-    (now opened : ℕ) (power : Power) (disk disk' : D) (v w : View) (line : PlainAction)
+    (now opened checkpoint : ℕ) (power : Power) (disk disk' : D) (v w : View) (line : PlainAction)
     (a : AgentSeen) (run : HasRun line m m' b b') (roomier : IsRoomier j j' v w)
-    (up : IsUp (from_parts m now b j opened power disk) v a) where
+    (up : IsUp (from_parts m now b j opened checkpoint power disk) v a) where
   rules : List Rule
   rules = m.rules
 
@@ -103,18 +105,25 @@ module _ {D : Type 0} (m m' : AgentState) (b b' : PlainBatch) (j j' : JournalVie
         length-append a.pending (line_changes (machine m.rules) a.world line),
       )
 
+  -- the body of the open batch is that of its durable changes
+  pub ran_bytes : b'.body ≡ body_of (after_line m.rules a line).pending
+  unfolding holding rules made
+  ran_bytes =
+      let all = line_changes (machine m.rules) a.world line in
+      let written : AreWritten all b.body b'.body = ran_written in
+      written.behind ∙ ap (λ front. front ++ body_of all) up.batch.bytes
+      ∙ sym (body_append a.pending all)
+
   module _ (keep : LinesKeep) (valid_lines : LinesAreValid) (spelled : LinesAreSpelled) where
     ran_batch : IsReadWorld rules a.world → IsReadAction line
         → IsBatch rules up.base (a.pending ++ made) b'.body next
-    unfolding rules made next
+    unfolding holding rules made next
     ran_batch read read_line =
         let all = line_changes (machine m.rules) a.world line in
         let behind = after_all up.base a.pending in
         let written : AreWritten all b.body b'.body = ran_written in
         record {
-          bytes = written.behind
-              ∙ ap (λ front. front ++ body_of all) up.batch.bytes
-              ∙ sym (body_append a.pending all);
+          bytes = ran_bytes;
           writable =
               All-append (λ one. IsWritable m.rules one.changes) a.pending all up.batch.writable
               (made_writable m.rules all (line_rows m.rules a.world line) written.room
@@ -130,7 +139,7 @@ module _ {D : Type 0} (m m' : AgentState) (b b' : PlainBatch) (j j' : JournalVie
         }
 
     pub ran_holds : IsReadAction line
-        → IsHeld (from_parts m' now b' j' opened power disk') w (after_line m.rules a line)
+        → IsHeld (from_parts m' now b' j' opened checkpoint power disk') w (after_line m.rules a line)
     unfolding holding rules made next
     ran_holds read_line =
         let all = line_changes (machine m.rules) a.world line in
@@ -150,7 +159,7 @@ module _ {D : Type 0} (m m' : AgentState) (b b' : PlainBatch) (j j' : JournalVie
 
     module _ (stays : LinesStayRead) where
       pub ran_up : IsReadAction line → Fits a → a.up ≡ true
-          → IsUp (from_parts m' now b' j' opened power disk') w (after_line m.rules a line)
+          → IsUp (from_parts m' now b' j' opened checkpoint power disk') w (after_line m.rules a line)
       unfolding holding rules made next ran_holds
       ran_up read_line fits is_up =
           let all = line_changes (machine m.rules) a.world line in
@@ -175,6 +184,9 @@ module _ {D : Type 0} (m m' : AgentState) (b b' : PlainBatch) (j j' : JournalVie
                 );
             base = up.base;
             valid = up.valid;
+            storable = up.storable;
+            spelled =
+                subst (λ (r : List Rule). IsSpelledState r up.base) (sym run.rules) up.spelled;
             state = up.state;
             batch = (ran_holds read_line).batch;
             store = (ran_holds read_line).store;

@@ -2,9 +2,10 @@
 -- Source: none.
 -- Our own choice: the agent keeps no durable state beside what it has in memory. What its store
 -- stands for is what memory had before the lines of the open batch.
-use Rattle.std.specs.Prelude.{◌≡◌, ℕ, ◌+◌, ◌-◌, ◌%◌, ◌^◌, Bool, true, false, List}
+use Rattle.std.specs.Prelude.{◌≡◌, ℕ, ◌+◌, ◌-◌, ◌%◌, ◌^◌, ◌==◌, nat_le, Bool, true, false, not}
+use Rattle.std.specs.Prelude.{◌&&◌, List}
 use Rattle.disk_model.specs.Disk.{View}
-use Rattle.journal.specs.Journal.{JournalView}
+use Rattle.journal.specs.Journal.{JournalView, since_of}
 use Rattle.journal.specs.Region.{StandsFor}
 use Rattle.suffix_list.specs.Suffix.{Rule}
 use Rattle.reply_lines.specs.Reply.{PlainReply}
@@ -17,7 +18,8 @@ use Rattle.agent_core.specs.declared.agent.Power.TheVariants.{Up, Down, Spoilt}
 
 -- an agent: what it has in memory, the clock that it last told, how many lines a batch has, the
 -- bytes, the number and the replies of the open batch, its store, the number of the store's
--- changes when it was opened, whether it is up, and its disk
+-- changes when it was opened, after how many changes a checkpoint is due, whether it is up, and its
+-- disk
 pub record AgentView (D : Type 0) : Type 0 where
   pub memory : AgentState
   pub now : ℕ
@@ -27,6 +29,7 @@ pub record AgentView (D : Type 0) : Type 0 where
   pub held : List PlainReply
   pub journal : JournalView
   pub opened : ℕ
+  pub checkpoint : ℕ
   pub power : Power
   pub disk : D
 
@@ -52,3 +55,8 @@ abbrev pub is_down : Power → Bool
 is_down Up = false
 is_down Down = true
 is_down Spoilt = false
+
+-- a checkpoint is due: at least so many durable changes were made since the last snapshot, or since
+-- the store was made. 0 is never.
+abbrev pub is_due : (checkpoint : ℕ) → JournalView → Bool
+is_due checkpoint journal = not (checkpoint == 0) && nat_le checkpoint (since_of journal)

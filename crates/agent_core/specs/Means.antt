@@ -1,9 +1,10 @@
 -- What each call of an agent makes of what it stands for, in the words of the general law.
 -- Source: none.
 -- Our own choice: a batch is committed whole when its last line has run, or at a flush, and its
--- replies are given out after that. A line whose commit meets a device fault is answered `Down`.
+-- replies are given out after that. A line whose commit meets a device fault is answered `Down`. A
+-- checkpoint is made at a flush with nothing held, and an agent stands for the same afterwards.
 use Rattle.std.specs.Prelude.{◌≡◌, ◌⊎◌, ℕ, ◌+◌, ◌<◌, ◌≤◌, ◌^◌, true, List, map, length, Result}
-use Rattle.std.specs.Prelude.{Ok, Err, IsErrOf, OnOk, false}
+use Rattle.std.specs.Prelude.{[], ◌∷◌, Ok, Err, IsErrOf, OnOk, false, if◌then◌else◌}
 use Rattle.unwinding.specs.Course.{AtBase, IsAt}
 use Rattle.unwinding.specs.CourseSteps.{GoesDown, committed, holding, reopened}
 use Rattle.agent_base.specs.Counts.{Rose}
@@ -15,11 +16,13 @@ use Rattle.journal.specs.declared.open_fault.OpenFault.TheVariants as fault
 use Rattle.suffix_list.specs.Suffix.{Rule}
 use Rattle.script_actions.specs.Action.{PlainAction}
 use Rattle.reply_lines.specs.Plain.{reply_of}
+use Rattle.reply_lines.specs.Reply.{PlainReply}
 use Rattle.agent_model.specs.Isolation.{printed}
 use Rattle.agent_model.specs.TheMachine.{machine}
 use Rattle.durable_model.specs.Keeping.{AgentDurable, durable_of, keeping}
 use Rattle.durable_model.specs.Saved.{Saved, nothing_saved}
 use Rattle.row_store.specs.Bodies.{Takes}
+use Rattle.agent_core.specs.AgentView.{AgentView, is_due}
 use Rattle.agent_core.specs.Seen.{AgentSeen}
 use Rattle.agent_core.specs.declared.outcome.Outcome.{Outcome}
 use Rattle.agent_core.specs.declared.outcome.Outcome.TheVariants.{Replies, Held, Down, NoMemory}
@@ -69,7 +72,7 @@ LineMeans rules batch line a may b may' Down =
     ((a.up ≡ true) × (length a.held + 1 ≡ batch))
 LineMeans rules batch line a may b may' NoMemory = Same a may b may'
 
--- a flush commits what is held
+-- a flush commits what is held; with nothing held, what an agent stands for stays
 abbrev pub FlushMeans : List Rule → AgentSeen → AgentMay → AgentSeen → AgentMay → Outcome → Type 0
 FlushMeans rules a may b may' (Replies given) =
     (a.up ≡ true) × GivesOut rules a b may' (Replies given)
@@ -101,6 +104,23 @@ IsBeforeOrAfter rules digest a ran file =
     × ((durable_of base ≡ a.base.state) ⊎ (durable_of base ≡ (after_commit rules ran).base.state))
 
 -- ---- the device
+
+-- how many changing calls a checkpoint makes at most, where one is due; else none is made
+abbrev pub checkpoint_calls : {D : Type 0} → AgentView D → ℕ
+checkpoint_calls v = if is_due v.checkpoint v.journal then 7 else 0
+
+-- how many a flush makes at most: those of a checkpoint with nothing held, and else a commit's
+abbrev pub calls_by : (held : List PlainReply) → (checkpoint : ℕ) → ℕ
+calls_by [] checkpoint = checkpoint
+calls_by (reply ∷ held) checkpoint = 4
+
+abbrev pub flush_calls : {D : Type 0} → AgentView D → ℕ
+flush_calls v = calls_by v.held (checkpoint_calls v)
+
+-- where replies are given out, no checkpoint is due
+abbrev pub IsTidy : {D : Type 0} → Outcome → AgentView D → Type 0
+IsTidy (Replies given) v = is_due v.checkpoint v.journal ≡ false
+IsTidy other v = Unit {0}
 
 -- a line or a flush of an agent that is up answers `Down` exactly where a call of the disk failed;
 -- so many changing calls are made at most

@@ -23,6 +23,7 @@ use Rattle.durable_model.specs.Saved.{IsValid, Saved, nothing_saved}
 use Rattle.durable_model.specs.Sound.{IsSavedOf, IsSoundWorld}
 use Rattle.spelled_model.specs.Worlds.{IsReadWorld}
 use Rattle.row_store.specs.Bodies.{Takes}
+use Rattle.row_store.specs.Laws.{IsSpelledState, IsStorable}
 use Rattle.agent_memory.specs.AgentState.{world_of}
 use Rattle.agent_memory.specs.Written.{AgentChange, body_of}
 use Rattle.agent_core.specs.AgentView.{AgentView, since_opening}
@@ -46,7 +47,8 @@ pub record IsBatch (rules : List Rule) (base : Saved) (pending : List AgentChang
 abbrev pub IsAtBase : List Rule → JournalView → View → Saved → Type 0
 IsAtBase rules journal view base = StandsAt (Takes rules) nothing_saved journal view base
 
--- An agent that is up stands for this. The number of changes since the opening does not wrap.
+-- An agent that is up stands for this. The number of changes since the opening does not wrap, and a
+-- snapshot can be made of what the store stands for.
 pub record IsUp {D : Type 0} (v : AgentView D) (view : View) (a : AgentSeen) : Type 0 where
   pub world : a.world ≡ world_of v.memory
   pub sound : IsSoundWorld a.world
@@ -57,6 +59,8 @@ pub record IsUp {D : Type 0} (v : AgentView D) (view : View) (a : AgentSeen) : T
   pub fits : a.base.count + length a.pending < 2 ^ 64
   pub base : Saved
   pub valid : IsValid base
+  pub storable : IsStorable base
+  pub spelled : IsSpelledState v.memory.rules base
   pub state : a.base.state ≡ durable_of base
   pub batch : IsBatch v.memory.rules base a.pending v.body a.world
   pub store : IsAtBase v.memory.rules v.journal view base

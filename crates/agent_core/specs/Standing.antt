@@ -1,11 +1,12 @@
 -- What each agent keeps, whatever it stands for, and what the commit of its open batch makes of it.
 -- Source: none.
-use Rattle.std.specs.Prelude.{◌≡◌, ◌⊎◌, ℕ, ◌≤◌, List, map, length}
+use Rattle.std.specs.Prelude.{◌≡◌, ◌⊎◌, ℕ, ◌≤◌, List, [], map, length}
 use Rattle.unwinding.specs.Course.{AtBase, IsAt}
 use Rattle.disk_model.specs.Disk.{View}
 use Rattle.journal.specs.Journal.{JournalView}
 use Rattle.journal.specs.declared.open_fault.OpenFault.{OpenFault}
 use Rattle.journal.specs.declared.open_fault.OpenFault.TheVariants as fault
+use Rattle.access_grants.specs.Grant.{PlainGrants}
 use Rattle.suffix_list.specs.ListText.{RuleList}
 use Rattle.suffix_list.specs.Suffix.{Rule}
 use Rattle.reply_lines.specs.Plain.{reply_of}
@@ -13,6 +14,8 @@ use Rattle.agent_model.specs.Isolation.{printed}
 use Rattle.agent_model.specs.Rest.{last_moment}
 use Rattle.durable_model.specs.Keeping.{AgentDurable, durable_of}
 use Rattle.durable_model.specs.Saved.{Saved}
+use Rattle.row_store.specs.Kept.{kept_of}
+use Rattle.row_store.specs.Stored.{saved_in}
 use Rattle.agent_memory.specs.AgentState.{AgentState}
 use Rattle.agent_core.specs.AgentView.{AgentView}
 use Rattle.agent_core.specs.Batch.{PlainBatch}
@@ -34,6 +37,17 @@ pub record IsStanding (list : RuleList) (memory : AgentState) (now : ℕ) (batch
   pub least : 1 ≤ batch.size
   pub most : batch.size ≤ 256
   pub ready : power ≡ Up → IsReady journal view
+
+-- no line waits, so that there is no durable change
+pub record HasNone {D : Type 0} (v : AgentView D) : Type 0 where
+  pub held : v.held ≡ []
+  pub changes : v.changes ≡ 0
+
+-- what outlives a restart of what is in memory
+abbrev pub kept_in : AgentState → Saved
+kept_in memory =
+    let grants : PlainGrants = record { rows = memory.grants; spare = 0 } in
+    kept_of (saved_in memory.entries memory.cookies grants)
 
 -- the open batch leads on from what the store stands for
 pub record IsHeld {D : Type 0} (v : AgentView D) (view : View) (a : AgentSeen) : Type 0 where

@@ -1,5 +1,5 @@
 //! The agent over a disk.
-ghost use Rattle.std.specs.Prelude.{◌≡◌, ◌⊎◌, ◌↔◌, ◌≤◌, ◌+◌, ℕ, List, Some, Ok, Err, IfOk, IfErr};
+ghost use Rattle.std.specs.Prelude.{◌≡◌, ◌⊎◌, ◌↔◌, ◌≤◌, ◌+◌, ℕ, List, [], Some, Ok, Err, IfOk, IfErr};
 ghost use Rattle.std.specs.Prelude.{IsErrOf, MatchResult, OnErr, OnOk, length, true};
 ghost use Rattle.unwinding.specs.Course.{AtBase};
 ghost use Rattle.unwinding.specs.CourseSteps.{reopened};
@@ -19,8 +19,9 @@ ghost use Rattle.suffix_list.specs.ListText.{RuleList};
 ghost use Rattle.row_store.specs.Stored.{HasNoSession, saved_of};
 ghost use Rattle.agent_core.specs.AgentView.{is_down, may_of, since_opening};
 ghost use Rattle.open_store.specs.Commits.{HasRoomFor};
-ghost use Rattle.agent_core.specs.Means.{Fits, FlushMeans, IsBeforeOrAfter, LineMeans};
+ghost use Rattle.agent_core.specs.Means.{Fits, FlushMeans, IsBeforeOrAfter, IsTidy, LineMeans};
 ghost use Rattle.agent_core.specs.Means.{OutcomeDevice, RestartDevice, RestartMeans, after_line};
+ghost use Rattle.agent_core.specs.Means.{flush_calls};
 ghost use Rattle.agent_core.specs.Seen.{AgentSeen, IsSeen, IsUp};
 ghost use Rattle.agent_core.specs.Openings.{IsOpened, resumed};
 ghost use Rattle.agent_core.specs.Standing.{Finishes, IsHeld, power_of};
@@ -59,6 +60,8 @@ pub struct Options {
     pub start: u64,
     /// How many lines are committed together, from 1 to 256.
     pub batch: u16,
+    /// After so many durable changes since the last snapshot a checkpoint is due; 0 is never.
+    pub checkpoint: u32,
 }
 
 /// Why no agent was opened, and its disk.
@@ -71,14 +74,15 @@ pub struct Refused<D: Disk + Drop> {
 /// The storage of a browser over a disk, under a suffix list.
 #[derive(Debug, Drop)]
 pub struct Agent<'l, D: Disk + Drop> {
-    alloc: Global,
+    pub(crate) alloc: Global,
     list: &'l SuffixList,
     now: u64,
-    memory: Memory<'l>,
+    pub(crate) memory: Memory<'l>,
     batch: OpenBatch,
     opened: u64,
-    power: Power,
-    store: Store<D>,
+    pub(crate) checkpoint: u32,
+    pub(crate) power: Power,
+    pub(crate) store: Store<D>,
 }
 
 impl<'l, D: Disk + Drop> Model for Agent<'l, D> {
@@ -96,6 +100,7 @@ impl<'l, D: Disk + Drop> Model for Agent<'l, D> {
       held = a.batch.held;
       journal = a.store.journal;
       opened = a.opened;
+      checkpoint = a.checkpoint;
       power = a.power;
       disk = a.store.disk;
     } };
@@ -142,7 +147,8 @@ fn begin<'l, D: Disk + Drop>(
         IsSeen result (D.view result.disk) s × AtBase s.base (may_of result (D.view result.disk)) }
     ensures disk { result.disk ≡ disk }
     ensures rules { (result.memory.rules ≡ list.now.rules)
-        × (result.journal.digest ≡ list.now.digest) × (result.batch ≡ options.batch) }
+        × (result.journal.digest ≡ list.now.digest) × (result.batch ≡ options.batch)
+        × (result.checkpoint ≡ options.checkpoint) }
 {
     durable_states();
     spelled_lines();
@@ -154,6 +160,7 @@ fn begin<'l, D: Disk + Drop>(
         memory: resume(alloc, list, options.start, opened.parts),
         batch: OpenBatch::new(alloc, options.batch),
         opened: changes,
+        checkpoint: options.checkpoint,
         power: Power::Up,
         store: Store {
             journal: opened.journal,
@@ -182,7 +189,8 @@ impl<'l, D: Disk + Drop> Agent<'l, D> {
             × ((c : List ℕ) (d : Saved) (n : ℕ) → (D.view disk).contents ≡ Some c
             → FileMeans (Takes list.now.rules) nothing_saved list.now.digest c d n → base ≡ d))) }
         ensures rules { IfOk result (λ a. (a.memory.rules ≡ list.now.rules)
-            × (a.journal.digest ≡ list.now.digest) × (a.batch ≡ options.batch)) }
+            × (a.journal.digest ≡ list.now.digest) × (a.batch ≡ options.batch)
+            × (a.checkpoint ≡ options.checkpoint)) }
         ensures refused { IfErr result (λ r. (c : List ℕ)
             → (D.view disk).contents ≡ Some c
             → IsRefusal (Takes list.now.rules) (Refuses list.now.rules) nothing_saved true
@@ -241,9 +249,18 @@ impl<'l, D: Disk + Drop> Agent<'l, D> {
             (after_line self.old.memory.rules a (action_of action.now))) }
         ensures rules { (self.new.memory.rules ≡ self.old.memory.rules)
             × (self.new.journal.digest ≡ self.old.journal.digest)
-            × (self.new.batch ≡ self.old.batch) }
+            × (self.new.batch ≡ self.old.batch)
+            × (self.new.checkpoint ≡ self.old.checkpoint) }
         ensures device { self.old.power ≡ Power.Up
             → OutcomeDevice 4 result (D.view self.old.disk) (D.view self.new.disk) }
+
+        // No call is made where no line of the batch has a durable change, or where it waits.
+        ensures idle { (a : AgentSeen) → IsSeen self.old (D.view self.old.disk) a
+            → (after_line self.old.memory.rules a (action_of action.now)).pending ≡ []
+            → (D.view self.new.disk).changing ≡ (D.view self.old.disk).changing }
+        ensures waits { result ≡ Outcome.Held
+            → (D.view self.new.disk).changing ≡ (D.view self.old.disk).changing }
+
         ensures off { (self.old.power ≡ Power.Up → ⊥) → self.new ≡ self.old }
         ensures answer { (self.old.power ≡ Power.Down → result ≡ Outcome.Down)
             × (self.old.power ≡ Power.Spoilt → result ≡ Outcome.NoMemory) }
@@ -255,7 +272,11 @@ impl<'l, D: Disk + Drop> Agent<'l, D> {
         }
     }
 
-    /// Commits what is held, and gives out its replies. At most four changing calls of the disk.
+    /// Commits what is held, and gives out its replies. With nothing held it makes the checkpoint
+    /// that is due, if one is due: the store has a snapshot then in the place of its frames.
+    ///
+    /// All memory of it is taken before anything changes. At most four changing calls are made, for
+    /// a checkpoint seven, and none where nothing durable is held and no checkpoint is due.
     pub fn flush(&mut self) -> Outcome
         ensures means { (a : AgentSeen) → IsSeen self.old (D.view self.old.disk) a
             → (b : AgentSeen) × IsSeen self.new (D.view self.new.disk) b
@@ -268,9 +289,17 @@ impl<'l, D: Disk + Drop> Agent<'l, D> {
             (IsBeforeOrAfter self.old.memory.rules self.old.journal.digest a a) }
         ensures rules { (self.new.memory.rules ≡ self.old.memory.rules)
             × (self.new.journal.digest ≡ self.old.journal.digest)
-            × (self.new.batch ≡ self.old.batch) }
+            × (self.new.batch ≡ self.old.batch)
+            × (self.new.checkpoint ≡ self.old.checkpoint) }
         ensures device { self.old.power ≡ Power.Up
-            → OutcomeDevice 4 result (D.view self.old.disk) (D.view self.new.disk) }
+            → OutcomeDevice (flush_calls self.old) result
+            (D.view self.old.disk) (D.view self.new.disk) }
+        // No call is made where lines are held, none of which has a durable change.
+        ensures idle { (a : AgentSeen) → IsSeen self.old (D.view self.old.disk) a
+            → a.pending ≡ [] → (self.old.held ≡ [] → ⊥)
+            → (D.view self.new.disk).changing ≡ (D.view self.old.disk).changing }
+        // With nothing held no checkpoint is due afterwards.
+        ensures tidy { self.old.held ≡ [] → IsTidy result self.new }
         ensures off { (self.old.power ≡ Power.Up → ⊥) → self.new ≡ self.old }
         ensures answer { (self.old.power ≡ Power.Down → result ≡ Outcome.Down)
             × (self.old.power ≡ Power.Spoilt → result ≡ Outcome.NoMemory) }
@@ -294,7 +323,8 @@ impl<'l, D: Disk + Drop> Agent<'l, D> {
             result }
         ensures rules { (self.new.memory.rules ≡ self.old.memory.rules)
             × (self.new.journal.digest ≡ self.old.journal.digest)
-            × (self.new.batch ≡ self.old.batch) }
+            × (self.new.batch ≡ self.old.batch)
+            × (self.new.checkpoint ≡ self.old.checkpoint) }
         ensures device { RestartDevice result (D.view self.old.disk) (D.view self.new.disk) }
         ensures power { MatchResult result (λ _. self.new.power ≡ Power.Up)
             (λ why. self.new.power ≡ power_of why) }
@@ -324,7 +354,8 @@ impl<'l, D: Disk + Drop> Agent<'l, D> {
         ensures disk { self.new.disk ≡ self.old.disk }
         ensures rules { (self.new.memory.rules ≡ self.old.memory.rules)
             × (self.new.journal.digest ≡ self.old.journal.digest)
-            × (self.new.batch ≡ self.old.batch) }
+            × (self.new.batch ≡ self.old.batch)
+            × (self.new.checkpoint ≡ self.old.checkpoint) }
     {
         durable_states();
         spelled_lines();
@@ -353,8 +384,14 @@ impl<'l, D: Disk + Drop> Agent<'l, D> {
             (after_line self.old.memory.rules a (action_of action.now))) }
         ensures rules { (self.new.memory.rules ≡ self.old.memory.rules)
             × (self.new.journal.digest ≡ self.old.journal.digest)
-            × (self.new.batch ≡ self.old.batch) }
+            × (self.new.batch ≡ self.old.batch)
+            × (self.new.checkpoint ≡ self.old.checkpoint) }
         ensures device { OutcomeDevice 4 result (D.view self.old.disk) (D.view self.new.disk) }
+        ensures idle { (a : AgentSeen) → IsSeen self.old (D.view self.old.disk) a
+            → (after_line self.old.memory.rules a (action_of action.now)).pending ≡ []
+            → (D.view self.new.disk).changing ≡ (D.view self.old.disk).changing }
+        ensures waits { result ≡ Outcome.Held
+            → (D.view self.new.disk).changing ≡ (D.view self.old.disk).changing }
     {
         durable_states();
         spelled_lines();
@@ -370,7 +407,7 @@ impl<'l, D: Disk + Drop> Agent<'l, D> {
         }
     }
 
-    // Makes room for the commit of an agent that is up, and commits.
+    // Commits what an agent that is up holds, or else makes the checkpoint that is due.
     fn settle(&mut self) -> Outcome
         requires up { self.old.power ≡ Power.Up }
         ensures means { (a : AgentSeen) → IsSeen self.old (D.view self.old.disk) a
@@ -384,9 +421,18 @@ impl<'l, D: Disk + Drop> Agent<'l, D> {
             (IsBeforeOrAfter self.old.memory.rules self.old.journal.digest a a) }
         ensures rules { (self.new.memory.rules ≡ self.old.memory.rules)
             × (self.new.journal.digest ≡ self.old.journal.digest)
-            × (self.new.batch ≡ self.old.batch) }
-        ensures device { OutcomeDevice 4 result (D.view self.old.disk) (D.view self.new.disk) }
+            × (self.new.batch ≡ self.old.batch)
+            × (self.new.checkpoint ≡ self.old.checkpoint) }
+        ensures device { OutcomeDevice (flush_calls self.old) result
+            (D.view self.old.disk) (D.view self.new.disk) }
+        ensures idle { (a : AgentSeen) → IsSeen self.old (D.view self.old.disk) a
+            → a.pending ≡ [] → (self.old.held ≡ [] → ⊥)
+            → (D.view self.new.disk).changing ≡ (D.view self.old.disk).changing }
+        ensures tidy { self.old.held ≡ [] → IsTidy result self.new }
     {
+        if self.batch.is_empty() {
+            return self.tend();
+        }
         match self.store.reserve(self.batch.bytes().len()) {
             Err(NoMemory) => Outcome::NoMemory,
             Ok(()) => self.finish(),
@@ -407,8 +453,12 @@ impl<'l, D: Disk + Drop> Agent<'l, D> {
             (IsBeforeOrAfter self.old.memory.rules self.old.journal.digest ran ran) }
         ensures rules { (self.new.memory.rules ≡ self.old.memory.rules)
             × (self.new.journal.digest ≡ self.old.journal.digest)
-            × (self.new.batch ≡ self.old.batch) }
+            × (self.new.batch ≡ self.old.batch)
+            × (self.new.checkpoint ≡ self.old.checkpoint) }
         ensures device { OutcomeDevice 4 result (D.view self.old.disk) (D.view self.new.disk) }
+        ensures idle { self.old.body ≡ []
+            → (D.view self.new.disk).changing ≡ (D.view self.old.disk).changing }
+        ensures ends { result ≡ Outcome.Held → ⊥ }
     {
         durable_states();
         written();

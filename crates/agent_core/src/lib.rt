@@ -6,6 +6,7 @@
 #![tactic(auto)]
 
 mod agent;
+mod checkpoint;
 mod open_batch;
 mod opening;
 mod outcome;

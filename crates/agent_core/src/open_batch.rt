@@ -70,6 +70,14 @@ impl OpenBatch {
         self.changes
     }
 
+    /// Whether no line waits. Then there is no durable change.
+    pub fn is_empty(&self) -> bool
+        ensures empty { IsTrue result ↔ (self.now.held ≡ []) }
+        ensures none { IsTrue result → self.now.changes ≡ 0 }
+    {
+        self.held.is_empty()
+    }
+
     /// Whether the batch has all its lines.
     pub fn is_full(&self) -> bool
         ensures { IsTrue result ↔ (self.now.size ≤ length self.now.held) }

@@ -7,7 +7,8 @@ use Rattle.agent_core.proofs.agent.begin.Goals as goal
 pub returns-clause-seen : goal.returns-clause-seen
 returns-clause-seen g c =
     resumed_seen c.args.list.now c.resume.result c.new.result c.args.opened.journal
-    c.args.options.start c.changes-changes.result Up c.args.disk (g.D.Disk.view c.args.disk)
+    c.args.options.start c.changes-changes.result
+    c.args.options.checkpoint Up c.args.disk (g.D.Disk.view c.args.disk)
     c.args.opened.parts c.durable_states.ensures.opens c.spelled_lines.ensures.opens
     c.resume.ensures.state c.requires.start
     (omega (arith, c.changes-changes.ensures, c.changes-changes.type_inv))

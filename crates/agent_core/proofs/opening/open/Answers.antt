@@ -19,7 +19,8 @@ returns-in-Ok-clause-opened g c =
     c.into_parts.ensures.parts (c.open.ensures.rules ∙ by)
     (subst (λ (r : List Rule). IsAtBase r c.in-Ok.journal view (saved_of rows.parts)) by at)
     (c.in-Ok.ensures.usable.1 ∙ c.digest.ensures.value) c.into_parts.ensures.valid
-    c.into_parts.ensures.read c.into_parts.ensures.sessions
+    c.into_parts.ensures.read c.into_parts.ensures.storable c.into_parts.ensures.spelled
+    c.into_parts.ensures.sessions
 
 pub returns-in-Ok-clause-means : goal.returns-in-Ok-clause-means
 returns-in-Ok-clause-means g c file d n is within means =

@@ -16,7 +16,8 @@ returns-in-Ok-clause-opened g c =
     (subst (λ (r : List Rule). IsAtBase r c.in-Ok.journal view (saved_of rows.parts)) by
     c.in-Ok.ensures.stands)
     (c.in-Ok.ensures.digest ∙ c.digest.ensures.value) c.into_parts.ensures.valid
-    c.into_parts.ensures.read c.into_parts.ensures.sessions
+    c.into_parts.ensures.read c.into_parts.ensures.storable c.into_parts.ensures.spelled
+    c.into_parts.ensures.sessions
 
 pub returns-in-Ok-clause-found : goal.returns-in-Ok-clause-found
 returns-in-Ok-clause-found g c tells stores =

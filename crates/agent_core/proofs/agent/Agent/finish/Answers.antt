@@ -1,5 +1,5 @@
 -- A commit leads to the state that the open batch leads to, or fails and leaves one or the other.
-use Rattle.std.proofs.Common.{arith, refl}
+use Rattle.std.proofs.Common.{arith, refl, ◌∙◌}
 use Rattle.agent_core.proofs.FinishLemmas.{commits_same, finish_failed, finish_gave, finish_moments, leaves_same}
 use Rattle.agent_core.proofs.LineLemmas.{after_commit_standing, after_fault_standing, power_is, room_is}
 use Rattle.agent_core.proofs.OutcomeLemmas.{device_failed, device_gave}
@@ -23,7 +23,7 @@ invariant_of-self g c =
 pub returns-in-Err-clause-finishes : goal.returns-in-Err-clause-finishes
 returns-in-Err-clause-finishes g c = rw (← c.self.view_is) (λ ran up.
     finish_failed c.self.inside.memory c.self.inside.now c.self.inside.batch
-    c.self.inside.store.journal c.commit.new.self.journal c.self.inside.opened
+    c.self.inside.store.journal c.commit.new.self.journal c.self.inside.opened c.self.inside.checkpoint
     c.self.inside.power c.self.inside.store.disk c.commit.new.self.disk
     (g.D.Disk.view c.self.inside.store.disk) (g.D.Disk.view c.commit.new.self.disk) ran
     c.written.ensures.bodies up
@@ -45,11 +45,11 @@ returns-in-Err-clause-any_moment g c = rw (← c.self.view_is) (λ ran held tell
     c.changes-changes.ensures.changes c.in-Err.ensures.any_moment) tells)
 
 pub returns-in-Err-clause-rules : goal.returns-in-Err-clause-rules
-returns-in-Err-clause-rules g c = rw (← c.self.view_is) (refl, c.in-Err.ensures.digest, refl)
+returns-in-Err-clause-rules g c = rw (← c.self.view_is) (refl, c.in-Err.ensures.digest, refl, refl)
 
 pub returns-in-Err-clause-device : goal.returns-in-Err-clause-device
 returns-in-Err-clause-device g c = rw (← c.self.view_is)
-    (device_failed _ _ _ c.in-Err.ensures.device.failed c.in-Err.ensures.device)
+    (device_failed 4 _ _ _ c.in-Err.ensures.device.failed c.in-Err.ensures.device)
 
 pub invariant_of-self-in-Ok : goal.invariant_of-self-in-Ok
 invariant_of-self-in-Ok g c =
@@ -63,10 +63,11 @@ invariant_of-self-in-Ok g c =
 pub returns-in-Ok-clause-finishes : goal.returns-in-Ok-clause-finishes
 returns-in-Ok-clause-finishes g c = rw (← c.self.view_is, c.now-self-inside.ensures.now) (λ ran up.
     finish_gave c.self.inside.memory c.self.inside.now c.self.inside.batch
-    c.self.inside.store.journal c.commit.new.self.journal c.self.inside.opened
+    c.self.inside.store.journal c.commit.new.self.journal c.self.inside.opened c.self.inside.checkpoint
     c.self.inside.power c.self.inside.store.disk c.commit.new.self.disk
     (g.D.Disk.view c.self.inside.store.disk) (g.D.Disk.view c.commit.new.self.disk) ran
     c.written.ensures.bodies up c.give.new.self c.give.result c.durable_states.ensures.valid
+    c.written.ensures.storable c.written.ensures.spelled
     (power_is _ _ c.self.view_is c.requires.up)
     c.give.ensures.body c.give.ensures.changes c.give.ensures.held
     (omega (arith, c.give.ensures.size, c.self.invariant.least))
@@ -88,8 +89,16 @@ returns-in-Ok-clause-any_moment g c = rw (← c.self.view_is) (λ ran held tells
 
 pub returns-in-Ok-clause-rules : goal.returns-in-Ok-clause-rules
 returns-in-Ok-clause-rules g c = rw (← c.self.view_is)
-    (refl, c.in-Ok.ensures.digest, c.give.ensures.size)
+    (refl, c.in-Ok.ensures.digest, c.give.ensures.size, refl)
 
 pub returns-in-Ok-clause-device : goal.returns-in-Ok-clause-device
 returns-in-Ok-clause-device g c = rw (← c.self.view_is)
-    (device_gave _ _ _ c.give.result c.in-Ok.ensures.device.fine c.in-Ok.ensures.device)
+    (device_gave 4 _ _ _ c.give.result c.in-Ok.ensures.device.fine c.in-Ok.ensures.device)
+
+pub returns-in-Err-clause-idle : goal.returns-in-Err-clause-idle
+returns-in-Err-clause-idle g c = rw (← c.self.view_is) (λ empty.
+    c.in-Err.ensures.idle (c.bytes.ensures.bytes ∙ empty))
+
+pub returns-in-Ok-clause-idle : goal.returns-in-Ok-clause-idle
+returns-in-Ok-clause-idle g c = rw (← c.self.view_is) (λ empty.
+    c.in-Ok.ensures.idle (c.bytes.ensures.bytes ∙ empty))

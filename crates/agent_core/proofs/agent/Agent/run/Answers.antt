@@ -1,8 +1,8 @@
 -- A line runs and waits, or it is the last of its batch, which is committed; or it changes nothing.
-use Rattle.std.proofs.Common.{ap, ◌∙◌}
+use Rattle.std.proofs.Common.{ap, refl, ◌∙◌}
 use Rattle.journal.specs.Journal.{JournalView}
 use Rattle.script_actions.specs.Plain.{action_of}
-use Rattle.agent_core.proofs.LineLemmas.{held_down, line_ends, line_held, line_leaves, memory_down, not_full, power_is, still_standing, up_moments, wanting}
+use Rattle.agent_core.proofs.LineLemmas.{held_down, line_ends, line_held, line_leaves, memory_down, memory_held, no_body_ran, not_full, power_is, still_standing, up_moments, wanting}
 use Rattle.agent_core.proofs.OutcomeLemmas.{device_before, device_none}
 use Rattle.agent_core.proofs.ReadLemmas.{action_read}
 use Rattle.agent_core.proofs.agent.Agent.run.Goals as goal
@@ -20,7 +20,7 @@ pub returns-in-Err-clause-means : goal.returns-in-Err-clause-means
 returns-in-Err-clause-means g c = rw (← c.self.view_is) (λ a seen fits.
     wanting c.self.inside.memory c.run_line.new.memory c.self.inside.batch c.run_line.new.batch
     c.self.inside.store.journal c.run_line.new.store.journal c.self.inside.now
-    c.self.inside.opened c.self.inside.power c.self.inside.store.disk c.run_line.new.store.disk
+    c.self.inside.opened c.self.inside.checkpoint c.self.inside.power c.self.inside.store.disk c.run_line.new.store.disk
     (g.D.Disk.view c.self.inside.store.disk) (g.D.Disk.view c.run_line.new.store.disk) a
     c.in-Err.ensures.unchanged c.in-Err.ensures.roomier seen)
 
@@ -34,11 +34,12 @@ returns-in-Err-clause-rules g c = rw (← c.self.view_is) (
   c.in-Err.ensures.unchanged.rules,
   ap (λ (i : JournalView). i.digest) c.in-Err.ensures.roomier.journal,
   c.in-Err.ensures.unchanged.size,
+  refl,
 )
 
 pub returns-in-Err-clause-device : goal.returns-in-Err-clause-device
 returns-in-Err-clause-device g c = rw (← c.self.view_is)
-    (device_none _ _ _ _ (g.D.Disk.view c.run_line.new.store.disk) c.in-Err.ensures.roomier _
+    (device_none _ _ _ _ (g.D.Disk.view c.run_line.new.store.disk) c.in-Err.ensures.roomier 4 _
     memory_down)
 
 pub invariant_of-self-then-is_full : goal.invariant_of-self-then-is_full
@@ -60,7 +61,7 @@ pub returns-then-is_full-clause-means : goal.returns-then-is_full-clause-means
 returns-then-is_full-clause-means g c = rw (← c.self.view_is) (λ a seen fits.
     line_ends c.self.inside.memory c.run_line.new.memory c.self.inside.batch c.run_line.new.batch
     c.self.inside.store.journal c.run_line.new.store.journal c.self.inside.now
-    c.self.inside.opened c.self.inside.power c.self.inside.store.disk c.run_line.new.store.disk
+    c.self.inside.opened c.self.inside.checkpoint c.self.inside.power c.self.inside.store.disk c.run_line.new.store.disk
     (g.D.Disk.view c.self.inside.store.disk) (g.D.Disk.view c.run_line.new.store.disk)
     (action_of c.args.action.now) c.in-Ok.ensures.ran c.in-Ok.ensures.roomier a seen
     c.durable_states.ensures.follows c.durable_states.ensures.valid_lines
@@ -73,7 +74,7 @@ pub returns-then-is_full-clause-any_moment : goal.returns-then-is_full-clause-an
 returns-then-is_full-clause-any_moment g c = rw (← c.self.view_is) (λ a seen.
     line_leaves c.self.inside.memory c.run_line.new.memory c.self.inside.batch c.run_line.new.batch
     c.self.inside.store.journal c.run_line.new.store.journal c.self.inside.now
-    c.self.inside.opened c.self.inside.power c.self.inside.store.disk c.run_line.new.store.disk
+    c.self.inside.opened c.self.inside.checkpoint c.self.inside.power c.self.inside.store.disk c.run_line.new.store.disk
     (g.D.Disk.view c.self.inside.store.disk) (g.D.Disk.view c.run_line.new.store.disk)
     (action_of c.args.action.now) c.in-Ok.ensures.ran c.in-Ok.ensures.roomier a seen
     c.durable_states.ensures.follows c.durable_states.ensures.valid_lines
@@ -86,11 +87,12 @@ returns-then-is_full-clause-rules g c = rw (← c.self.view_is) (
   c.finish.ensures.rules.0 ∙ c.in-Ok.ensures.ran.rules,
   c.finish.ensures.rules.1 ∙ ap (λ (i : JournalView). i.digest) c.in-Ok.ensures.roomier.journal,
   c.finish.ensures.rules.2 ∙ c.in-Ok.ensures.ran.size,
+  c.finish.ensures.rules.3,
 )
 
 pub returns-then-is_full-clause-device : goal.returns-then-is_full-clause-device
 returns-then-is_full-clause-device g c = rw (← c.self.view_is)
-    (device_before _ _ _ (g.D.Disk.view c.run_line.new.store.disk) _ c.in-Ok.ensures.roomier
+    (device_before _ _ _ (g.D.Disk.view c.run_line.new.store.disk) _ c.in-Ok.ensures.roomier 4
     c.finish.result c.finish.ensures.device)
 
 pub invariant_of-self-in-Ok : goal.invariant_of-self-in-Ok
@@ -106,7 +108,7 @@ pub returns-else-is_full-clause-means : goal.returns-else-is_full-clause-means
 returns-else-is_full-clause-means g c = rw (← c.self.view_is, c.now-self-inside.ensures.now) (λ a seen fits.
     line_held c.self.inside.memory c.run_line.new.memory c.self.inside.batch c.run_line.new.batch
     c.self.inside.store.journal c.run_line.new.store.journal c.self.inside.now
-    c.self.inside.opened c.self.inside.power c.self.inside.store.disk c.run_line.new.store.disk
+    c.self.inside.opened c.self.inside.checkpoint c.self.inside.power c.self.inside.store.disk c.run_line.new.store.disk
     (g.D.Disk.view c.self.inside.store.disk) (g.D.Disk.view c.run_line.new.store.disk)
     (action_of c.args.action.now) c.in-Ok.ensures.ran c.in-Ok.ensures.roomier a seen
     c.durable_states.ensures.follows c.durable_states.ensures.valid_lines
@@ -125,9 +127,38 @@ returns-else-is_full-clause-rules g c = rw (← c.self.view_is) (
   c.in-Ok.ensures.ran.rules,
   ap (λ (i : JournalView). i.digest) c.in-Ok.ensures.roomier.journal,
   c.in-Ok.ensures.ran.size,
+  refl,
 )
 
 pub returns-else-is_full-clause-device : goal.returns-else-is_full-clause-device
 returns-else-is_full-clause-device g c = rw (← c.self.view_is)
-    (device_none _ _ _ _ (g.D.Disk.view c.run_line.new.store.disk) c.in-Ok.ensures.roomier _
+    (device_none _ _ _ _ (g.D.Disk.view c.run_line.new.store.disk) c.in-Ok.ensures.roomier 4 _
     held_down)
+
+pub returns-in-Err-clause-idle : goal.returns-in-Err-clause-idle
+returns-in-Err-clause-idle g c = rw (← c.self.view_is) (λ a seen none.
+    c.in-Err.ensures.roomier.stays.changing)
+
+pub returns-in-Err-clause-waits : goal.returns-in-Err-clause-waits
+returns-in-Err-clause-waits g c = λ is. absurd (memory_held is)
+
+pub returns-then-is_full-clause-idle : goal.returns-then-is_full-clause-idle
+returns-then-is_full-clause-idle g c = rw (← c.self.view_is) (λ a seen none.
+    c.finish.ensures.idle
+    (no_body_ran c.self.inside.memory c.run_line.new.memory c.self.inside.batch
+    c.run_line.new.batch c.self.inside.store.journal c.self.inside.now c.self.inside.opened
+    c.self.inside.checkpoint c.self.inside.power c.self.inside.store.disk
+    (g.D.Disk.view c.self.inside.store.disk) (action_of c.args.action.now) a
+    c.in-Ok.ensures.ran (power_is _ _ c.self.view_is c.requires.up) seen none)
+    ∙ c.in-Ok.ensures.roomier.stays.changing)
+
+pub returns-then-is_full-clause-waits : goal.returns-then-is_full-clause-waits
+returns-then-is_full-clause-waits g c = λ is. absurd (c.finish.ensures.ends is)
+
+pub returns-else-is_full-clause-idle : goal.returns-else-is_full-clause-idle
+returns-else-is_full-clause-idle g c = rw (← c.self.view_is) (λ a seen none.
+    c.in-Ok.ensures.roomier.stays.changing)
+
+pub returns-else-is_full-clause-waits : goal.returns-else-is_full-clause-waits
+returns-else-is_full-clause-waits g c = rw (← c.self.view_is) (λ is.
+    c.in-Ok.ensures.roomier.stays.changing)

@@ -45,7 +45,7 @@ const KEPT: &str = concat!(
     "{\"do\":\"get\",\"is\":\"ok\",\"site\":\"https://a.test\",\"value\":\"v\"}\n",
 );
 
-const RUNS: [Run; 14] = [
+const RUNS: [Run; 15] = [
     Run {
         name: "no line",
         batch: 1,
@@ -116,6 +116,14 @@ const RUNS: [Run; 14] = [
         name: "a cut in an opening of an empty disk",
         batch: 1,
         cut: Some(Cut { call: 3, pick: 1 }),
+        lines: STORED,
+        ending: Ending::Device,
+        out: "",
+    },
+    Run {
+        name: "a cut in the last call of such an opening",
+        batch: 1,
+        cut: Some(Cut { call: 7, pick: 1 }),
         lines: STORED,
         ending: Ending::Device,
         out: "",

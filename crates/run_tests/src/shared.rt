@@ -23,6 +23,7 @@ pub fn options(batch: u16) -> Options
     Options {
         start: 1_000_000_000,
         batch: batch.max(1).min(256),
+        checkpoint: 0,
     }
 }
 

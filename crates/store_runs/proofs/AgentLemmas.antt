@@ -17,14 +17,14 @@ use Rattle.agent_model.specs.Isolation.{printed, text_of}
 use Rattle.agent_model.specs.TheMachine.{machine}
 use Rattle.durable_model.specs.Keeping.{AgentDurable, keeping}
 use Rattle.agent_core.specs.AgentView.{AgentView, may_of}
-use Rattle.agent_core.specs.Means.{Fits, FlushMeans, LineMeans, OutcomeDevice, RestartDevice, RestartMeans, after_commit, after_line}
+use Rattle.agent_core.specs.Means.{AgentMay, Fits, FlushMeans, LineMeans, OutcomeDevice, RestartDevice, RestartMeans, after_commit, after_line}
 use Rattle.agent_core.specs.Seen.{AgentSeen, IsSeen}
 use Rattle.agent_core.specs.declared.agent.Power.{Power}
 use Rattle.agent_core.specs.declared.agent.Power.TheVariants.{Up, Down as PowerDown, Spoilt}
 use Rattle.agent_core.specs.declared.outcome.Outcome.{Outcome}
 use Rattle.agent_core.specs.declared.outcome.Outcome.TheVariants.{Replies, Held, Down, NoMemory}
 use Rattle.store_runs.specs.Courses.{Steps}
-use Rattle.store_runs.specs.Calls.{Called, Ends, IsQuiet, StaysOrRose, Stops}
+use Rattle.store_runs.specs.Calls.{Called, Ends, IsQuiet, StaysOrRose, Stops, over_call}
 use Rattle.printed_model.specs.Histories.{down_reply, restart_reply}
 use Rattle.store_runs.specs.Waiting.{replies_text}
 use Rattle.store_runs.specs.Endings.{ending_of}
@@ -138,7 +138,7 @@ wanting_stops (Err e) P err stops = subst P (sym err) stops
 
 -- ---- counts of faults
 
-device_counts : (outcome : Outcome) (old new : View) → OutcomeDevice 4 outcome old new → StaysOrRose old.faults new.faults
+device_counts : {most : ℕ} (outcome : Outcome) (old new : View) → OutcomeDevice most outcome old new → StaysOrRose old.faults new.faults
 device_counts (Replies given) old new device = inl (device.others (not_down (Replies given) (λ wrong. wrong))).faults
 device_counts Held old new device = inl (device.others (not_down Held (λ wrong. wrong))).faults
 device_counts Down old new device = inr (device.down refl).0
@@ -147,9 +147,19 @@ device_counts NoMemory old new device = inl (device.others (not_down NoMemory (�
 restart_counts : (result : Result ℕ OpenFault) (old new : View) → RestartDevice result old new → StaysOrRose old.faults new.faults
 restart_counts result old new device = ⊎_elim (λ is. inr (device.counted is)) (λ none. inl none.0) device.others
 
+-- some lines ran, and the run stops
+stops_after : (rules : List Rule) (batch : ℕ) (ran : List PlainStep) (a b : AgentSeen) (may may' : AgentMay) (old new : View) (text : List ℕ) → Steps rules batch ran (over_call a old new (Unit {0})) a may b may' text
+    → Steps rules batch ran (over_call a old new ⊥) a may b may' text
+stops_after rules batch ran a b may may' old new text steps x r on =
+    let next = steps x r on in (
+      next.0,
+      next.1,
+      record { steps = next.2.steps; prints = next.2.prints; downs = next.2.downs; counted = next.2.counted; shows = λ never. absurd never },
+    )
+
 module _ {D : Type 0} (tell : D → View) (old new : AgentView D) where
   -- the count of a call that leaves an agent that is not up as it is
-  call_counts : (outcome : Outcome) (a : AgentSeen) → IsSeen old (tell old.disk) a → (old.power ≡ Up → OutcomeDevice 4 outcome (tell old.disk) (tell new.disk)) → ((old.power ≡ Up → ⊥) → new ≡ old)
+  call_counts : {most : ℕ} (outcome : Outcome) (a : AgentSeen) → IsSeen old (tell old.disk) a → (old.power ≡ Up → OutcomeDevice most outcome (tell old.disk) (tell new.disk)) → ((old.power ≡ Up → ⊥) → new ≡ old)
       → StaysOrRose (tell old.disk).faults (tell new.disk).faults
   call_counts outcome a seen device off = ⊎_elim
       (λ up. device_counts outcome (tell old.disk) (tell new.disk) (device (seen.up.0 up)))
@@ -169,13 +179,9 @@ module _ {D : Type 0} (tell : D → View) (old new : AgentView D) where
       let text : text_of ran.held ≡ replies_text (map reply_of given.items) = text_printed ran.held ∙ ap replies_text (sym m.2.0) in (
         b,
         all.1,
-        subst (λ t. Steps old.memory.rules old.batch (Acts l ∷ []) (IsQuiet a (tell old.disk)) a (may_of old (tell old.disk)) b (may_of new (tell new.disk)) t) text
-            (replied_line old.memory.rules old.batch l (IsQuiet a (tell old.disk)) a b (may_of old (tell old.disk)) (may_of new (tell new.disk)) m.0 m.1 m.2.1 m.2.2),
-        (λ on. record {
-          quiet = λ q. stays_quiet a b (tell old.disk) (tell new.disk) up ((device (seen.up.0 q.0)).others (not_down (Replies given) (λ wrong. wrong))) q;
-          counts = call_counts (Replies given) a seen device off;
-          down = λ down. absurd (true≢false (sym up ∙ down));
-        }),
+        subst (λ t. Steps old.memory.rules old.batch (Acts l ∷ []) (over_call a (tell old.disk) (tell new.disk) (Unit {0})) a (may_of old (tell old.disk)) b (may_of new (tell new.disk)) t) text
+            (replied_line old.memory.rules old.batch l (over_call a (tell old.disk) (tell new.disk) (Unit {0})) a b (may_of old (tell old.disk)) (may_of new (tell new.disk)) (call_counts (Replies given) a seen device off) up m.0 m.1 m.2.1 m.2.2),
+        (λ on q. stays_quiet a b (tell old.disk) (tell new.disk) up ((device (seen.up.0 q.0)).others (not_down (Replies given) (λ wrong. wrong))) q),
       )
   line_called l Held means device off told some a seen fits =
       let all = means a seen fits in
@@ -184,12 +190,8 @@ module _ {D : Type 0} (tell : D → View) (old new : AgentView D) where
       let up : b.up ≡ true = ap (λ s. s.up) m.2 ∙ up_after_line old.memory.rules a l in (
         b,
         all.1,
-        held_line old.memory.rules old.batch l (IsQuiet a (tell old.disk)) a b (may_of old (tell old.disk)) (may_of new (tell new.disk)) m.0 m.1 m.2 m.3,
-        (λ on. record {
-          quiet = λ q. stays_quiet a b (tell old.disk) (tell new.disk) up ((device (seen.up.0 q.0)).others (not_down Held (λ wrong. wrong))) q;
-          counts = call_counts Held a seen device off;
-          down = λ down. absurd (true≢false (sym up ∙ down));
-        }),
+        held_line old.memory.rules old.batch l (over_call a (tell old.disk) (tell new.disk) (Unit {0})) a b (may_of old (tell old.disk)) (may_of new (tell new.disk)) (call_counts Held a seen device off) up m.0 m.1 m.2 m.3,
+        (λ on q. stays_quiet a b (tell old.disk) (tell new.disk) up ((device (seen.up.0 q.0)).others (not_down Held (λ wrong. wrong))) q),
       )
   line_called l Down means device off told some a seen fits =
       let all = means a seen fits in
@@ -197,18 +199,14 @@ module _ {D : Type 0} (tell : D → View) (old new : AgentView D) where
       let loud : IsQuiet a (tell old.disk) → ⊥ = λ q. never_fails a (tell old.disk) (tell new.disk) q ((device (seen.up.0 q.0)).down refl).1 in (
         b,
         all.1,
-        down_line old.memory.rules old.batch l (IsQuiet a (tell old.disk)) a b (may_of old (tell old.disk)) (may_of new (tell new.disk)) loud all.2,
-        (λ on. record {
-          quiet = λ q. absurd (loud q);
-          counts = call_counts Down a seen device off;
-          down = λ down. ⊎_elim (λ up. inr ((device (seen.up.0 up)).down refl).0) (λ was. inl was) (cases_Bool a.up);
-        }),
+        down_line old.memory.rules old.batch l (over_call a (tell old.disk) (tell new.disk) (Unit {0})) a b (may_of old (tell old.disk)) (may_of new (tell new.disk)) (call_counts Down a seen device off) (λ up. ((device (seen.up.0 up)).down refl).0) loud all.2,
+        (λ on q. absurd (loud q)),
       )
   line_called l NoMemory means device off told some a seen fits =
       let all = means a seen fits in (
         all.0,
         all.1,
-        same_stands old.memory.rules old.batch (IsQuiet a (tell old.disk)) a all.0 (may_of old (tell old.disk)) (may_of new (tell new.disk)) all.2,
+        same_stands old.memory.rules old.batch (over_call a (tell old.disk) (tell new.disk) ⊥) a all.0 (may_of old (tell old.disk)) (may_of new (tell new.disk)) (call_counts NoMemory a seen device off) (λ on. on) all.2,
         (λ on. absurd on),
       )
 
@@ -223,12 +221,8 @@ module _ {D : Type 0} (tell : D → View) (old new : AgentView D) where
       let up : b.up ≡ true = ap (λ s. s.up) m.2 ∙ up_reopened old.memory.rules a m.0 in (
         b,
         all.1,
-        restart_line old.memory.rules old.batch kept m.0 (IsQuiet a (tell old.disk)) a b (may_of old (tell old.disk)) (may_of new (tell new.disk)) some m.1 m.2 m.3,
-        (λ on. record {
-          quiet = λ q. (up, device.on, restart_cuts kept (tell old.disk) (tell new.disk) device ∙ q.2);
-          counts = restart_counts (Ok kept) (tell old.disk) (tell new.disk) device;
-          down = λ down. absurd (true≢false (sym up ∙ down));
-        }),
+        restart_line old.memory.rules old.batch kept m.0 (over_call a (tell old.disk) (tell new.disk) (Unit {0})) a b (may_of old (tell old.disk)) (may_of new (tell new.disk)) (restart_counts (Ok kept) (tell old.disk) (tell new.disk) device) up some m.1 m.2 m.3,
+        (λ on q. (up, device.on, restart_cuts kept (tell old.disk) (tell new.disk) device ∙ q.2)),
       )
   restart_called (Err fault.DeviceFault) means device told some a seen fits =
       let all = means told a seen in
@@ -236,14 +230,14 @@ module _ {D : Type 0} (tell : D → View) (old new : AgentView D) where
       let loud : IsQuiet a (tell old.disk) → ⊥ = λ q. never_reopens a (tell old.disk) (tell new.disk) q (device.failed refl) in (
         b,
         all.1,
-        down_restart old.memory.rules old.batch (IsQuiet a (tell old.disk)) a b (may_of old (tell old.disk)) (may_of new (tell new.disk)) loud all.2,
-        (λ on. record { quiet = λ q. absurd (loud q); counts = restart_counts (Err fault.DeviceFault) (tell old.disk) (tell new.disk) device; down = λ down. inr (device.counted refl) }),
+        down_restart old.memory.rules old.batch (over_call a (tell old.disk) (tell new.disk) (Unit {0})) a b (may_of old (tell old.disk)) (may_of new (tell new.disk)) (device.counted refl) loud all.2,
+        (λ on q. absurd (loud q)),
       )
   restart_called (Err fault.NoMemory) means device told some a seen fits =
       let all = means told a seen in (
         all.0,
         all.1,
-        spoilt_stands old.memory.rules old.batch (IsQuiet a (tell old.disk)) a all.0 (may_of old (tell old.disk)) (may_of new (tell new.disk)) all.2,
+        spoilt_stands old.memory.rules old.batch (over_call a (tell old.disk) (tell new.disk) ⊥) a all.0 (may_of old (tell old.disk)) (may_of new (tell new.disk)) (restart_counts (Err fault.NoMemory) (tell old.disk) (tell new.disk) device) (λ on. on) all.2,
         (λ on. absurd on),
       )
   restart_called (Err (fault.NotAStore offset)) means device told some a seen fits = absurd (means told a seen).2
@@ -267,11 +261,12 @@ module _ {D : Type 0} (tell : D → View) (old new : AgentView D) where
 
   -- a line ran, and its text has no room to wait
   pub stops_ran : (step : PlainStep) (text : List ℕ) → Called tell old new (Unit {0}) (step ∷ []) text → Stops tell old new step Memory
-  stops_ran step text called = (step ∷ [], inr refl, (text, λ told some a seen fits. let all = called told some a seen fits in (all.0, all.1, all.2, λ on. absurd on)))
+  stops_ran step text called = (step ∷ [], inr refl, (text, λ told some a seen fits. let all = called told some a seen fits in (all.0, all.1, stops_after old.memory.rules old.batch (step ∷ []) a all.0 (may_of old (tell old.disk)) (may_of new (tell new.disk)) (tell old.disk) (tell new.disk) text all.2, λ on. absurd on)))
 
   -- the last commit, by what it is answered
-  module _ (outcome : Outcome)
+  module _ {most : ℕ} (outcome : Outcome)
       (means : (a : AgentSeen) → IsSeen old (tell old.disk) a → (b : AgentSeen) × IsSeen new (tell new.disk) b × FlushMeans old.memory.rules a (may_of old (tell old.disk)) b (may_of new (tell new.disk)) outcome)
+      (device : old.power ≡ Up → OutcomeDevice most outcome (tell old.disk) (tell new.disk)) (off : (old.power ≡ Up → ⊥) → new ≡ old)
       (before now : List ℕ) where
     pub replies_end : (given : Vec Reply Global) → outcome ≡ Replies given → now ≡ before ++ replies_text (map reply_of given.items) → Ends tell old new Done before now
     replies_end given is shows a seen =
@@ -280,6 +275,7 @@ module _ {D : Type 0} (tell : D → View) (old new : AgentView D) where
           all.0,
           all.1,
           ((m.0, m.1.1, m.1.2), shows ∙ ap (λ t. before ++ t) (ap replies_text m.1.0 ∙ sym (text_printed a.held))),
+          call_counts outcome a seen device off,
         )
 
     pub replies_lost : (given : Vec Reply Global) → outcome ≡ Replies given → now ≡ before → Ends tell old new Memory before now
@@ -289,10 +285,11 @@ module _ {D : Type 0} (tell : D → View) (old new : AgentView D) where
           all.0,
           all.1,
           (inl (m.0, m.1.1, m.1.2), shows),
+          call_counts outcome a seen device off,
         )
 
-    pub down_ends : outcome ≡ Down → (old.power ≡ Up → OutcomeDevice 4 outcome (tell old.disk) (tell new.disk)) → ((old.power ≡ Up → ⊥) → new ≡ old) → now ≡ before → Ends tell old new Device before now
-    down_ends is device off shows a seen =
+    pub down_ends : outcome ≡ Down → now ≡ before → Ends tell old new Device before now
+    down_ends is shows a seen =
         let all = means a seen in
         let m : FlushMeans old.memory.rules a (may_of old (tell old.disk)) all.0 (may_of new (tell new.disk)) Down = subst (λ o. FlushMeans old.memory.rules a (may_of old (tell old.disk)) all.0 (may_of new (tell new.disk)) o) is all.2 in (
           all.0,
@@ -301,8 +298,9 @@ module _ {D : Type 0} (tell : D → View) (old new : AgentView D) where
             m,
             shows,
             (λ q. never_fails a (tell old.disk) (tell new.disk) q ((device (seen.up.0 q.0)).down is).1),
-            (call_counts outcome a seen device off, λ up. ((device (seen.up.0 up)).down is).0),
+            (λ up. ((device (seen.up.0 up)).down is).0),
           ),
+          call_counts outcome a seen device off,
         )
 
     pub held_ends : outcome ≡ Held → Ends tell old new Memory before now
@@ -317,4 +315,5 @@ module _ {D : Type 0} (tell : D → View) (old new : AgentView D) where
           all.0,
           all.1,
           (inr m, shows),
+          call_counts outcome a seen device off,
         )

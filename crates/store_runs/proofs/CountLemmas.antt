@@ -1,38 +1,73 @@
--- Counts of faults over the calls of a run.
-use Rattle.std.proofs.Common.{◌≡◌, inl, inr, ⊎_elim, ℕ, true, refl, sym, subst, ◌∙◌, arith}
-use Rattle.std.proofs.lemmas.Bool.{cases_Bool, true≢false}
+-- Counts of faults over the calls of a run, and the faults that a course shows.
+use Rattle.std.proofs.Common.{◌≡◌, ◌≢◌, inl, inr, ℕ, ◌+◌, ◌≤◌, List, [], ◌∷◌, ◌++◌, refl, arith}
 use Rattle.agent_base.specs.Counts.{Rose}
-use Rattle.disk_model.specs.Disk.{View}
-use Rattle.agent_core.specs.Seen.{AgentSeen}
-use Rattle.store_runs.specs.Calls.{Faults, IsCounted, StaysOrRose}
+use Rattle.unwinding.specs.Admissible.{Acts, Reopens, Stretch}
+use Rattle.script_actions.specs.Action.{PlainAction, PlainStep}
+use Rattle.store_runs.specs.Calls.{StaysOrRose}
+use Rattle.store_runs.specs.Faults.{RoseBy, closed_faults, epoch_faults, last_faults, restart_faults}
+use Rattle.store_runs.specs.declared.ending.Ending.TheVariants.{Device}
 
--- a count that rose after it stayed or rose, and one that rose before
-pub rose_later : (first before now : ℕ) → StaysOrRose first before → Rose before now → Rose first now
-rose_later first before now (inl stays) rose = subst (λ n. Rose n now) stays rose
-rose_later first before now (inr was) rose = omega (arith, was, rose)
+-- ---- counts
 
-pub rose_before : (first before now : ℕ) → Rose first before → StaysOrRose before now → Rose first now
-rose_before first before now rose (inl stays) = subst (Rose first) (sym stays) rose
-rose_before first before now rose (inr more) = omega (arith, rose, more)
+-- a count rose by no faults yet
+pub rose_by_none : (first now : ℕ) → first ≤ now → RoseBy 0 first now
+rose_by_none first now later = omega (arith, later)
 
-stays_then : (first before now : ℕ) → StaysOrRose first before → StaysOrRose before now → StaysOrRose first now
-stays_then first before now was (inl stays) = subst (StaysOrRose first) (sym stays) was
-stays_then first before now was (inr rose) = inr (rose_later first before now was rose)
+-- it stayed or rose, and shows no fault more
+pub rose_by_stays : (n m first before now : ℕ) → m ≤ n → StaysOrRose before now → RoseBy n first before → RoseBy m first now
+rose_by_stays n m first before now few (inl stays) was = omega (arith, few, stays, was)
+rose_by_stays n m first before now few (inr rose) was = omega (arith, few, rose, was)
 
--- no call has been made yet
-pub counted_none : (first : ℕ) (a : AgentSeen) → a.up ≡ true → IsCounted first first a
-counted_none first a up = (inl refl, λ down. absurd (true≢false (sym up ∙ down)))
+-- it rose, and shows one fault more at most
+pub rose_by_rose : (n m first before now : ℕ) → m ≤ n + 1 → Rose before now → RoseBy n first before → RoseBy m first now
+rose_by_rose n m first before now few rose was = omega (arith, few, rose, was)
 
--- one call more
-pub counted_more : (first : ℕ) (a b : AgentSeen) (old new : View) → IsCounted first old.faults a → Faults a b old new → IsCounted first new.faults b
-counted_more first a b old new was call = (
-  stays_then first old.faults new.faults was.0 call.counts,
-  λ down. ⊎_elim (λ before. rose_before first old.faults new.faults (was.1 before) call.counts) (λ rose. rose_later first old.faults new.faults was.0 rose) (call.down down),
-)
+-- ---- the faults of an epoch
 
--- a last call that failed, or found the agent down
-pub counted_end : (first : ℕ) (a : AgentSeen) (old new : View) → IsCounted first old.faults a → StaysOrRose old.faults new.faults → (a.up ≡ true → Rose old.faults new.faults) → Rose first new.faults
-counted_end first a old new was stays failed = ⊎_elim
-    (λ up. rose_later first old.faults new.faults was.0 (failed up))
-    (λ down. rose_before first old.faults new.faults (was.1 down) stays)
-    (cases_Bool a.up)
+restarts_acts : (ds : List PlainStep) (l : PlainAction) → restart_faults (ds ++ Acts l ∷ []) ≡ restart_faults ds
+restarts_acts [] l = refl
+restarts_acts (Acts j ∷ ds) l = restarts_acts ds l
+restarts_acts (Reopens ∷ ds) l = omega (arith, restarts_acts ds l)
+
+restarts_reopens : (ds : List PlainStep) → restart_faults (ds ++ Reopens ∷ []) ≡ restart_faults ds + 1
+restarts_reopens [] = refl
+restarts_reopens (Acts j ∷ ds) = restarts_reopens ds
+restarts_reopens (Reopens ∷ ds) = omega (arith, restarts_reopens ds)
+
+-- a line more that is answered `down` is one fault at most
+pub one_fault_more : (ds : List PlainStep) (step : PlainStep) → epoch_faults (ds ++ step ∷ []) ≤ epoch_faults ds + 1
+one_fault_more [] (Acts l) = omega arith
+one_fault_more [] Reopens = omega arith
+one_fault_more (Acts j ∷ ds) (Acts l) = omega (arith, restarts_acts ds l)
+one_fault_more (Acts j ∷ ds) Reopens = omega (arith, restarts_reopens ds)
+one_fault_more (Reopens ∷ ds) (Acts l) = omega (arith, restarts_acts ds l)
+one_fault_more (Reopens ∷ ds) Reopens = omega (arith, restarts_reopens ds)
+
+-- and none where it acts, and one was answered so before it
+pub no_fault_more : (ds : List PlainStep) (l : PlainAction) → ds ≢ [] → epoch_faults (ds ++ Acts l ∷ []) ≤ epoch_faults ds
+no_fault_more [] l shown = absurd (shown refl)
+no_fault_more (Acts j ∷ ds) l shown = omega (arith, restarts_acts ds l)
+no_fault_more (Reopens ∷ ds) l shown = omega (arith, restarts_acts ds l)
+
+-- where a line was answered `down`, there is one
+pub some_fault : (ds : List PlainStep) → ds ≢ [] → 1 ≤ epoch_faults ds
+some_fault [] shown = absurd (shown refl)
+some_fault (Acts j ∷ ds) shown = omega arith
+some_fault (Reopens ∷ ds) shown = omega arith
+
+-- ---- the faults of closed epochs, and of the last one
+
+-- a closed epoch more
+pub closed_faults_more : (ss : List (Stretch PlainAction)) (s : Stretch PlainAction) → closed_faults (ss ++ s ∷ []) ≡ closed_faults ss + epoch_faults s.downs
+closed_faults_more [] s = omega arith
+closed_faults_more (t ∷ ss) s = omega (arith, closed_faults_more ss s)
+
+-- the end of a run whose agent is down is one fault at most, and none where a line shows it
+pub last_fault_more : (ds : List PlainStep) → last_faults Device ds ≤ epoch_faults ds + 1
+last_fault_more [] = omega arith
+last_fault_more (Acts j ∷ ds) = omega arith
+last_fault_more (Reopens ∷ ds) = omega arith
+
+pub last_fault_shown : (ds : List PlainStep) → ds ≢ [] → last_faults Device ds ≤ epoch_faults ds
+last_fault_shown [] shown = absurd (shown refl)
+last_fault_shown (d ∷ ds) shown = omega arith

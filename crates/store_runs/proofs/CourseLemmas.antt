@@ -1,5 +1,7 @@
 -- What each answer of an agent makes of a course.
-use Rattle.std.proofs.Common.{◌≡◌, ℕ, ◌+◌, ◌<◌, ◌^◌, true, List, [], ◌∷◌, ◌++◌, length, refl, sym, ap, ◌∙◌, append-nil, append_assoc, arith}
+use Rattle.std.proofs.Common.{◌≡◌, ◌≢◌, ℕ, ◌+◌, ◌<◌, ◌≤◌, ◌^◌, true, List, [], ◌∷◌, ◌++◌, length, refl, sym, ap, ⊎_elim, ◌∙◌, append-nil, append_assoc, arith}
+use Rattle.std.proofs.lemmas.Bool.{cases_Bool, true≢false}
+use Rattle.agent_base.specs.Counts.{Rose}
 use Rattle.unwinding.specs.Admissible.{Acts, Reopens, Stretch}
 use Rattle.unwinding.specs.Course.{AtBase, Course, IsAt, answer_all, course_steps, down_one, empty_course, reopen, stretch_of, wait}
 use Rattle.unwinding.specs.CourseSteps.{GoesDown, last_opening, reopened, stands}
@@ -11,7 +13,7 @@ use Rattle.unwinding.proofs.CourseScript.{steps_answered, steps_down, steps_reop
 use Rattle.unwinding.proofs.CourseSums.{holding_stands}
 use Rattle.unwinding.proofs.Transcripts.{transcript_answered, transcript_down, transcript_reopened, transcript_wait}
 use Rattle.suffix_list.specs.Suffix.{Rule}
-use Rattle.script_actions.specs.Action.{PlainAction}
+use Rattle.script_actions.specs.Action.{PlainAction, PlainStep}
 use Rattle.reply_lines.specs.Reply.{reply_text}
 use Rattle.agent_model.specs.Isolation.{printed, text_of}
 use Rattle.agent_model.specs.TheMachine.{machine}
@@ -19,9 +21,40 @@ use Rattle.durable_model.specs.Histories.{AgentOpening}
 use Rattle.durable_model.specs.Keeping.{AgentDurable, keeping}
 use Rattle.agent_core.specs.Means.{AgentMay, Fits, Same, after_commit, after_line}
 use Rattle.agent_core.specs.Seen.{AgentSeen}
-use Rattle.store_runs.specs.Courses.{Adds, On, Steps, downs_on, text_on}
+use Rattle.store_runs.specs.Calls.{StaysOrRose}
+use Rattle.store_runs.specs.Courses.{Adds, On, Shows, Steps, Watch, downs_on, faults_on, text_on}
+use Rattle.store_runs.specs.Faults.{RoseBy, closed_faults, epoch_faults}
 use Rattle.printed_model.specs.Histories.{closed_downs, down_reply, restart_reply}
+use Rattle.store_runs.proofs.CountLemmas.{closed_faults_more, no_fault_more, one_fault_more, rose_by_rose, rose_by_stays}
 use Rattle.store_runs.proofs.TextLemmas.{text_append, text_one}
+
+-- an agent that is up shows nothing
+pub up_shows : (b : AgentSeen) (q : Course PlainAction) → b.up ≡ true → Shows b q
+up_shows b q up down = absurd (true≢false (sym up ∙ down))
+
+-- a line that was answered `down` is shown
+one_shows : (ds : List PlainStep) (step : PlainStep) → (ds ++ step ∷ []) ≢ []
+one_shows [] step is = cc
+one_shows (d ∷ ds) step is = cc
+
+-- ---- faults that some lines show, by what they do to the lines that were answered `down`
+
+module _ (r q : Course PlainAction) (first before now : ℕ) (same : q.closed ≡ r.closed) where
+  -- none more
+  pub counted_same : epoch_faults q.downs ≤ epoch_faults r.downs → StaysOrRose before now → RoseBy (faults_on r) first before → RoseBy (faults_on q) first now
+  unfolding faults_on
+  counted_same few stays was = rose_by_stays _ _ first before now (omega (arith, ap closed_faults same, few)) stays was
+
+  -- one more at most
+  pub counted_one : epoch_faults q.downs ≤ epoch_faults r.downs + 1 → Rose before now → RoseBy (faults_on r) first before → RoseBy (faults_on q) first now
+  unfolding faults_on
+  counted_one few rose was = rose_by_rose _ _ first before now (omega (arith, ap closed_faults same, few)) rose was
+
+-- a restart closes the open epoch, with its faults
+pub counted_closed : (r : Course PlainAction) (kept first before now : ℕ) → StaysOrRose before now → RoseBy (faults_on r) first before → RoseBy (faults_on (reopen r kept)) first now
+unfolding faults_on
+counted_closed r kept first before now stays was =
+    rose_by_stays _ _ first before now (omega (arith, closed_faults_more r.closed (stretch_of r kept))) stays was
 
 -- the lines that were answered `down` in one closed stretch more
 closed_downs_more : (ss : List (Stretch PlainAction)) (s : Stretch PlainAction) → closed_downs (ss ++ s ∷ []) ≡ closed_downs ss ++ s.downs
@@ -43,23 +76,26 @@ module _ (rules : List Rule) (batch : ℕ) where
   on_begun x a may some is base = on_opened (machine rules) keeping batch x a may some is base
 
   -- the line waits
-  pub held_line : (l : PlainAction) (Quiet : Type 0) (a b : AgentSeen) (may may' : AgentMay) → a.up ≡ true → length a.held + 1 < batch → b ≡ after_line rules a l → AtBase b.base may' → Steps rules batch (Acts l ∷ []) Quiet a may b may' []
+  pub held_line : (l : PlainAction) (watch : Watch) (a b : AgentSeen) (may may' : AgentMay) → StaysOrRose watch.before watch.now → b.up ≡ true → a.up ≡ true → length a.held + 1 < batch → b ≡ after_line rules a l → AtBase b.base may'
+      → Steps rules batch (Acts l ∷ []) watch a may b may' []
   unfolding On text_on downs_on
-  held_line l Quiet a b may may' up less is base x r on = (
+  held_line l watch a b may may' stays still up less is base x r on = (
     wait r l,
     on_held (machine rules) keeping batch x r l a b may may' on up less is base,
     record {
       steps = steps_wait r l (on_up x r a may on up).0;
       prints = ap text_of (transcript_wait (machine rules) keeping x restart_reply down_reply r l) ∙ sym (append-nil _);
       downs = λ q. refl;
+      counted = λ first shown was. counted_same r (wait r l) first watch.before watch.now refl (omega arith) stays was;
+      shows = λ on. up_shows b (wait r l) still;
     },
   )
 
   -- the line and all that waited are answered
-  pub replied_line : (l : PlainAction) (Quiet : Type 0) (a b : AgentSeen) (may may' : AgentMay) → a.up ≡ true → length a.held + 1 ≡ batch → b ≡ after_commit rules (after_line rules a l) → AtBase b.base may'
-      → Steps rules batch (Acts l ∷ []) Quiet a may b may' (text_of (after_line rules a l).held)
+  pub replied_line : (l : PlainAction) (watch : Watch) (a b : AgentSeen) (may may' : AgentMay) → StaysOrRose watch.before watch.now → b.up ≡ true → a.up ≡ true → length a.held + 1 ≡ batch → b ≡ after_commit rules (after_line rules a l) → AtBase b.base may'
+      → Steps rules batch (Acts l ∷ []) watch a may b may' (text_of (after_line rules a l).held)
   unfolding On text_on downs_on
-  replied_line l Quiet a b may may' up full is base x r on =
+  replied_line l watch a b may may' stays still up full is base x r on =
       let m = machine rules in
       let was = on_up x r a may on up in
       let o = last_opening m keeping x r in
@@ -73,15 +109,17 @@ module _ (rules : List Rule) (batch : ℕ) where
               ∙ ap (λ ts. text_of ts ++ text_of (stands m keeping o (wait r l)).held) (transcript_wait m keeping x restart_reply down_reply r l)
               ∙ ap (λ ts. text_on rules x r ++ text_of ts) (sym held);
           downs = λ q. refl;
+          counted = λ first shown was. counted_same r (answer_all (wait r l)) first watch.before watch.now refl (omega arith) stays was;
+          shows = λ on. up_shows b (answer_all (wait r l)) still;
         },
       )
 
   -- the line is answered `down`
-  pub down_line : (l : PlainAction) (Quiet : Type 0) (a b : AgentSeen) (may may' : AgentMay) → (Quiet → ⊥)
+  pub down_line : (l : PlainAction) (watch : Watch) (a b : AgentSeen) (may may' : AgentMay) → StaysOrRose watch.before watch.now → (a.up ≡ true → Rose watch.before watch.now) → (watch.Quiet → ⊥)
       → GoesDown (machine rules) keeping a b may may' (λ d n. ((a.up ≡ true) × (length a.held + 1 ≡ batch)) × IsAt (after_commit rules (after_line rules a l)).base d n)
-      → Steps rules batch (Acts l ∷ []) Quiet a may b may' (reply_text (printed (down_reply (Acts l))))
+      → Steps rules batch (Acts l ∷ []) watch a may b may' (reply_text (printed (down_reply (Acts l))))
   unfolding On text_on downs_on
-  down_line l Quiet a b may may' loud goes x r on = (
+  down_line l watch a b may may' stays fell loud goes x r on = (
     down_one r (Acts l),
     on_down (machine rules) keeping batch x r (Acts l) a b may may' _ on goes (λ d n other. tried_keeps (machine rules) keeping batch x r l a may d n on other.0.0 other.0.1 other.1),
     record {
@@ -90,13 +128,18 @@ module _ (rules : List Rule) (batch : ℕ) where
           ap text_of (transcript_down (machine rules) keeping x restart_reply down_reply r (Acts l)) ∙ text_append _ _
           ∙ ap (λ t. text_on rules x r ++ t) (text_one (down_reply (Acts l)));
       downs = λ q. absurd (loud q);
+      counted = λ first shown was. ⊎_elim
+          (λ up. counted_one r (down_one r (Acts l)) first watch.before watch.now refl (one_fault_more r.downs (Acts l)) (fell up) was)
+          (λ down. counted_same r (down_one r (Acts l)) first watch.before watch.now refl (no_fault_more r.downs l (shown down)) stays was)
+          (cases_Bool a.up);
+      shows = λ on down. one_shows r.downs (Acts l);
     },
   )
 
-  pub down_restart : (Quiet : Type 0) (a b : AgentSeen) (may may' : AgentMay) → (Quiet → ⊥) → GoesDown (machine rules) keeping a b may may' (λ d n. ⊥)
-      → Steps rules batch (Reopens ∷ []) Quiet a may b may' (reply_text (printed (down_reply Reopens)))
+  pub down_restart : (watch : Watch) (a b : AgentSeen) (may may' : AgentMay) → Rose watch.before watch.now → (watch.Quiet → ⊥) → GoesDown (machine rules) keeping a b may may' (λ d n. ⊥)
+      → Steps rules batch (Reopens ∷ []) watch a may b may' (reply_text (printed (down_reply Reopens)))
   unfolding On text_on downs_on
-  down_restart Quiet a b may may' loud goes x r on = (
+  down_restart watch a b may may' rose loud goes x r on = (
     down_one r Reopens,
     on_down (machine rules) keeping batch x r Reopens a b may may' _ on goes (λ d n other. absurd other),
     record {
@@ -105,14 +148,16 @@ module _ (rules : List Rule) (batch : ℕ) where
           ap text_of (transcript_down (machine rules) keeping x restart_reply down_reply r Reopens) ∙ text_append _ _
           ∙ ap (λ t. text_on rules x r ++ t) (text_one (down_reply Reopens));
       downs = λ q. absurd (loud q);
+      counted = λ first shown was. counted_one r (down_one r Reopens) first watch.before watch.now refl (one_fault_more r.downs Reopens) rose was;
+      shows = λ on down. one_shows r.downs Reopens;
     },
   )
 
   -- the store is opened again
-  pub restart_line : (kept : ℕ) (d : AgentDurable) (Quiet : Type 0) (a b : AgentSeen) (may may' : AgentMay) → 0 < batch → may d kept → b ≡ reopened (machine rules) keeping a.world.rest d → AtBase b.base may'
-      → Steps rules batch (Reopens ∷ []) Quiet a may b may' (reply_text (printed (restart_reply kept)))
+  pub restart_line : (kept : ℕ) (d : AgentDurable) (watch : Watch) (a b : AgentSeen) (may may' : AgentMay) → StaysOrRose watch.before watch.now → b.up ≡ true → 0 < batch → may d kept → b ≡ reopened (machine rules) keeping a.world.rest d → AtBase b.base may'
+      → Steps rules batch (Reopens ∷ []) watch a may b may' (reply_text (printed (restart_reply kept)))
   unfolding On text_on downs_on
-  restart_line kept d Quiet a b may may' some left is base x r on = (
+  restart_line kept d watch a b may may' stays up some left is base x r on = (
     reopen r kept,
     on_reopened (machine rules) keeping batch x r kept d a b may may' some on left is base,
     record {
@@ -121,17 +166,25 @@ module _ (rules : List Rule) (batch : ℕ) where
           ap text_of (transcript_reopened (machine rules) keeping x restart_reply down_reply r kept) ∙ text_append _ _
           ∙ ap (λ t. text_on rules x r ++ t) (text_one (restart_reply kept));
       downs = λ q. append-nil _ ∙ closed_downs_more r.closed (stretch_of r kept);
+      counted = λ first shown was. counted_closed r kept first watch.before watch.now stays was;
+      shows = λ on. up_shows b (reopen r kept) up;
     },
   )
 
   -- no line runs, and the course goes on by nothing
-  adds_nothing : (x : AgentOpening) (r : Course PlainAction) (Quiet : Type 0) → Adds rules x r r [] Quiet []
-  adds_nothing x r Quiet = record { steps = sym (append-nil _); prints = sym (append-nil _); downs = λ q. refl }
+  adds_nothing : (x : AgentOpening) (a b : AgentSeen) (r : Course PlainAction) (watch : Watch) → StaysOrRose watch.before watch.now → (watch.GoesOn → ⊥) → Adds rules x a b r r [] watch []
+  adds_nothing x a b r watch stays stops = record {
+    steps = sym (append-nil _);
+    prints = sym (append-nil _);
+    downs = λ q. refl;
+    counted = λ first shown was. counted_same r r first watch.before watch.now refl (omega arith) stays was;
+    shows = λ on. absurd (stops on);
+  }
 
   -- memory was wanting, and the agent is as it was
-  pub same_stands : (Quiet : Type 0) (a b : AgentSeen) (may may' : AgentMay) → Same a may b may' → Steps rules batch [] Quiet a may b may' []
+  pub same_stands : (watch : Watch) (a b : AgentSeen) (may may' : AgentMay) → StaysOrRose watch.before watch.now → (watch.GoesOn → ⊥) → Same a may b may' → Steps rules batch [] watch a may b may' []
   unfolding On
-  same_stands Quiet a b may may' same x r on = (
+  same_stands watch a b may may' stays stops same x r on = (
     r,
     record {
       admissible = on.admissible;
@@ -142,13 +195,14 @@ module _ (rules : List Rule) (batch : ℕ) where
       up = λ up. ((on.up (sym (ap (λ s. s.up) same.0) ∙ up)).0, same.0 ∙ (on.up (sym (ap (λ s. s.up) same.0) ∙ up)).1);
       images = λ d n left. on.images d n (same.1 d n left);
     },
-    adds_nothing x r Quiet,
+    adds_nothing x a b r watch stays stops,
   )
 
   -- memory was wanting at a restart, and the agent is not up
-  pub spoilt_stands : (Quiet : Type 0) (a b : AgentSeen) (may may' : AgentMay) → GoesDown (machine rules) keeping a b may may' (λ d n. ⊥) → Steps rules batch [] Quiet a may b may' []
+  pub spoilt_stands : (watch : Watch) (a b : AgentSeen) (may may' : AgentMay) → StaysOrRose watch.before watch.now → (watch.GoesOn → ⊥) → GoesDown (machine rules) keeping a b may may' (λ d n. ⊥)
+      → Steps rules batch [] watch a may b may' []
   unfolding On
-  spoilt_stands Quiet a b may may' goes x r on = (r, on_quiet_down (machine rules) keeping batch x r a b may may' on goes, adds_nothing x r Quiet)
+  spoilt_stands watch a b may may' stays stops goes x r on = (r, on_quiet_down (machine rules) keeping batch x r a b may may' on goes, adds_nothing x a b r watch stays stops)
 
   -- what waits is answered at the end
   pub text_answered : (x : AgentOpening) (r : Course PlainAction) (a : AgentSeen) (may : AgentMay) → On rules batch x r a may → a.up ≡ true → text_on rules x (answer_all r) ≡ text_on rules x r ++ text_of a.held

@@ -1,5 +1,6 @@
 -- The store on a disk, when a run opens it.
-use Rattle.std.proofs.Common.{◌≡◌, ◌⊎◌, ℕ, ◌<◌, ◌≤◌, true, List, [], ◌∷◌, Option, Some, inl, inr, refl, sym, ap, subst, ◌∙◌, arith, length}
+use Rattle.std.proofs.Common.{◌≡◌, ◌⊎◌, ℕ, ◌+◌, ◌-◌, ◌^◌, ◌<◌, ◌≤◌, min, true, false, List, [], ◌∷◌, Option, Some, inl, inr, refl, sym, ap, subst, ◌∙◌, arith, length}
+use Rattle.std.specs.Prelude.{Result, Ok, Err}
 use Rattle.unwinding.specs.Admissible.{History}
 use Rattle.unwinding.specs.Course.{AtBase}
 use Rattle.agent_base.specs.Counts.{Rose}
@@ -9,7 +10,7 @@ use Rattle.disk_model.specs.DiskLaws.{IsLawful}
 use Rattle.disk_model.specs.History.{Event, Past, held}
 use Rattle.disk_model.specs.MemDisk.{numbers_of}
 use Rattle.disk_model.specs.declared.schedule.Cut.{Cut}
-use Rattle.journal.specs.Opening.{IsExcused, IsOfFile, IsOpening, IsRefusal}
+use Rattle.journal.specs.Opening.{AnswersByCuts, IsExcused, IsOfFile, IsOpening, IsRefusal}
 use Rattle.journal.specs.declared.open_fault.OpenFault.{OpenFault}
 use Rattle.journal.specs.declared.open_fault.OpenFault.TheVariants as fault
 use Rattle.suffix_list.specs.ListText.{RuleList}
@@ -20,13 +21,14 @@ use Rattle.row_store.specs.Bodies.{Refuses}
 use Rattle.row_store.specs.Bodies as bodies
 use Rattle.agent_core.specs.AgentView.{AgentView, may_of}
 use Rattle.agent_core.specs.Seen.{IsSeen}
-use Rattle.store_runs.specs.Disks.{IsMeantBy, IsRefusedOn, IsUnopened, WritesInMemory, WritesOn}
+use Rattle.journal.proofs.Cuts.{fails_by_cut, first_ahead}
+use Rattle.store_runs.specs.Disks.{CutsOpening, IsMeantBy, IsRefusedOn, IsUnopened, OpensByCuts, WritesInMemory, WritesOn}
 use Rattle.store_runs.specs.Endings.{ending_of}
 use Rattle.store_runs.specs.Openings.{IsOpenedAt, just_opened, list_of}
-use Rattle.store_runs.specs.Runs.{HasNoCuts, LeavesHistory, WritesLines}
+use Rattle.store_runs.specs.Faults.{LeavesDisk, RoseBy, faults_of}
+use Rattle.store_runs.specs.Runs.{HasNoCuts, WritesLines}
 use Rattle.store_runs.specs.declared.ending.Ending.{Ending}
 use Rattle.store_runs.specs.declared.ending.Ending.TheVariants.{Device, Memory, Store}
-use Rattle.store_runs.proofs.AgentLemmas.{off_or_cut}
 use Rattle.store_runs.proofs.EndLemmas.{refused_exactly}
 use Rattle.store_runs.proofs.StopLemmas.{writes_other}
 
@@ -38,24 +40,47 @@ held_nothing past first events = by past.first past.events first events
     by file [] is none = ap Some is
     by file (e ∷ made) is none = cc
 
--- no cut is told where there is none
-pub no_numbers : (cuts : List Cut) (told : Option (List ℕ)) → told ≡ Some (numbers_of cuts) → cuts ≡ [] → told ≡ Some []
-no_numbers cuts told is none = is ∙ ap (λ cs. Some (numbers_of cs)) none
+-- ---- the cuts to come, and the first opening
+
+err_is : (why other : OpenFault) → ◌≡◌ {A = Result (Unit {0}) OpenFault} (Err why) (Err other) → why ≡ other
+err_is why other is = cc
+
+opened : (why : OpenFault) → ◌≡◌ {A = Result (Unit {0}) OpenFault} (Ok tt) (Err why) → ⊥
+opened why is = cc
+
+module _ (old new : View) (calls : ℕ) (before : IsLawful old) (after : IsLawful new) where
+  -- at `Ok` the first of them lies past it
+  pub opens_past : IsPowered old new → min (old.changing + calls) (2 ^ 64 - 1) ≤ new.changing → (cuts : List ℕ) → old.cuts ≡ Some cuts → AnswersByCuts {T = Unit {0}} (Ok tt) old.changing calls cuts
+  opens_past powered all [] told = λ never. opened fault.DeviceFault never
+  opens_past powered all (cut ∷ cuts) told = (
+    omega (arith, all, first_ahead new cut cuts after (powered.cuts ∙ told)),
+    λ never. absurd (opened fault.DeviceFault never),
+  )
+
+  -- and a device fault is the first of them
+  pub fails_within : (why : OpenFault) → (why ≡ fault.DeviceFault → HasFailed old new) → new.changing ≤ old.changing + calls → old.off ≡ false → (cuts : List ℕ) → old.cuts ≡ Some cuts
+      → AnswersByCuts {T = Unit {0}} (Err why) old.changing calls cuts
+  fails_within why failed most on [] told = λ is. fails_by_cut old new [] (failed (err_is why fault.DeviceFault is)) on told
+  fails_within why failed most on (cut ∷ cuts) told = (
+    tt,
+    λ is. let call = (fails_by_cut old new (cut ∷ cuts) (failed (err_is why fault.DeviceFault is)) on told).1 in (first_ahead old cut cuts before told, omega (arith, call, most)),
+  )
 
 -- ---- a run over a disk
 
 -- the first opening was refused
 pub refused_writes : (ending : Ending) (list : RuleList) (start batch : ℕ) (why : OpenFault) (old new : View) (steps : List PlainStep) (taken : Option (List ℕ)) → ending ≡ ending_of why
-    → ((c : List ℕ) → old.contents ≡ Some c → IsRefusal (bodies.Takes list.rules) (Refuses list.rules) nothing_saved true list.digest c why) → (why ≡ fault.DeviceFault → Rose old.faults new.faults × HasFailed old new)
+    → ((c : List ℕ) → old.contents ≡ Some c → IsRefusal (bodies.Takes list.rules) (Refuses list.rules) nothing_saved true list.digest c why) → (why ≡ fault.DeviceFault → Rose old.faults new.faults × HasFailed old new) → OpensByCuts (Err why) old
     → (IsOfFile why → new.contents ≡ old.contents) → (IsSettled old → (c : List ℕ) → old.contents ≡ Some c → LeavesOnly old new (IsOpening list.digest c)) → IsLawful new
     → WritesOn ending list start batch old steps taken taken new
-refused_writes ending list start batch why old new steps taken is cause device unchanged moments lawful = inl (
+refused_writes ending list start batch why old new steps taken is cause device cuts unchanged moments lawful = inl (
   why,
   is,
   record {
     text = takes_none taken;
     cause = cause;
     device = device;
+    cuts = cuts;
     unchanged = unchanged;
     images = λ settled c contents file leaves.
         let only = moments settled c contents in
@@ -78,45 +103,66 @@ module _ {D : Type 0} (list : RuleList) (start batch : ℕ) (old view : View) (a
   }
 
   -- and the lines ran
-  pub opened_writes : IsValid base → (ending : Ending) (new : View) (steps : List PlainStep) (before after : Option (List ℕ)) → IsPowered old view → IsMeantBy list old base
-      → WritesLines ending agent.memory.rules agent.batch (opened_at start base) (HasNoCuts view) steps before after (LeavesHistory (list_of agent) agent.batch (opened_at start base) new.may_leave) → WritesOn ending list start batch old steps before after new
-  opened_writes valid ending new steps before after powered means written =
+  pub opened_writes : IsValid base → (ending : Ending) (new : View) (steps : List PlainStep) (before after : Option (List ℕ)) → IsPowered old view → view.faults ≡ old.faults → IsMeantBy list old base → OpensByCuts (Ok tt) old
+      → WritesLines ending agent.memory.rules agent.batch (opened_at start base) (HasNoCuts view) steps before after (LeavesDisk ending (list_of agent) agent.batch (opened_at start base) view new) → WritesOn ending list start batch old steps before after new
+  opened_writes valid ending new steps before after powered faults means cuts written =
       let x : AgentOpening = opened_at start base in
-      let left : History PlainAction → Type 0 = LeavesHistory list batch x new.may_leave in
-      let in_batches : WritesLines ending agent.memory.rules batch x (HasNoCuts view) steps before after (LeavesHistory (list_of agent) batch x new.may_leave) =
-      subst (λ n. WritesLines ending agent.memory.rules n x (HasNoCuts view) steps before after (LeavesHistory (list_of agent) n x new.may_leave)) is_batch written in
+      let left : History PlainAction → Type 0 = LeavesDisk ending list batch x view new in
+      let in_batches : WritesLines ending agent.memory.rules batch x (HasNoCuts view) steps before after (LeavesDisk ending (list_of agent) batch x view new) =
+      subst (λ n. WritesLines ending agent.memory.rules n x (HasNoCuts view) steps before after (LeavesDisk ending (list_of agent) n x view new)) is_batch written in
       let same : list_of agent ≡ list = λ i. record { rules = is_rules i; digest = is_digest i } in
       let under : WritesLines ending list.rules batch x (HasNoCuts view) steps before after left =
-      subst (λ (l : RuleList). WritesLines ending l.rules batch x (HasNoCuts view) steps before after (LeavesHistory l batch x new.may_leave)) same in_batches in
-      inr (base, valid, means, writes_other list.rules batch x (HasNoCuts old) (HasNoCuts view) left left (λ none. (powered.after, powered.cuts ∙ none.1)) (λ history l. l) before after ending steps under)
+      subst (λ (l : RuleList). WritesLines ending l.rules batch x (HasNoCuts view) steps before after (LeavesDisk ending l batch x view new)) same in_batches in
+      inr (
+        base,
+        valid,
+        means,
+        cuts,
+        writes_other list.rules batch x (HasNoCuts old) (HasNoCuts view) left (LeavesDisk ending list batch x old new) (λ none. (powered.after, powered.cuts ∙ none.1))
+            (λ history l. (l.0, subst (λ n. RoseBy (faults_of ending history) n new.faults) faults l.1)) before after ending steps under,
+      )
 
 -- ---- a run in memory
 
--- why the store on an empty disk was not opened
-unopened : (why : OpenFault) (P : Type 0) (list : RuleList) (old new : View) (before after : Option (List ℕ)) → old.contents ≡ Some [] → (P → HasNoCuts old) → IsRefusedOn list why old new before after → IsUnopened (ending_of why) P
-unopened fault.DeviceFault P list old new before after empty quiet refused = λ none. off_or_cut old new (quiet none).0 (quiet none).1 (refused.device refl).1
-unopened fault.NoMemory P list old new before after empty quiet refused = tt
-unopened (fault.NotAStore offset) P list old new before after empty quiet refused = absurd (few (refused.cause [] empty).2)
-  where
-    few : 1 < length {A = ℕ} [] → ⊥
-    few less = omega (arith, less)
-unopened (fault.OtherList kept given) P list old new before after empty quiet refused = absurd (few (refused.cause [] empty).2)
-  where
-    few : 1 < length {A = ℕ} [] → ⊥
-    few less = omega (arith, less)
-unopened (fault.TooLarge len) P list old new before after empty quiet refused = absurd (few len (refused.cause [] empty).1 (refused.cause [] empty).2)
-  where
-    few : (len : ℕ) → len ≡ length {A = ℕ} [] → 1073741824 < len → ⊥
-    few len is less = omega (arith, is, less)
+module _ (cuts : List Cut) (old : View) (empty : old.contents ≡ Some []) (on : old.off ≡ false) (told : old.cuts ≡ Some (numbers_of cuts)) (first : old.changing ≡ 0) where
+  -- where there are no cuts, no call can fail
+  no_cuts : cuts ≡ [] → HasNoCuts old
+  no_cuts none = (on, told ∙ ap (λ cs. Some (numbers_of cs)) none)
 
--- a run over an empty disk
-pub memory_writes : (ending : Ending) (list : RuleList) (start batch : ℕ) (P : Type 0) (old new : View) (steps : List PlainStep) (before after : Option (List ℕ)) → old.contents ≡ Some [] → (P → HasNoCuts old)
-    → WritesOn ending list start batch old steps before after new → WritesInMemory ending list.rules start batch P steps before after
-memory_writes ending list start batch P old new steps before after empty quiet (inl (why, is, refused)) =
-    inl (subst (λ e. IsUnopened e P) (sym is) (unopened why P list old new before after empty quiet refused), refused.text)
-memory_writes ending list start batch P old new steps before after empty quiet (inr (base, valid, means, written)) =
-    let nothing : base ≡ nothing_saved = means [] nothing_saved 0 empty (inr (inl (omega arith), refl, refl)) in
-    let left : History PlainAction → Type 0 = LeavesHistory list batch (opened_at start base) new.may_leave in
-    let told : WritesLines ending list.rules batch (opened_at start base) P steps before after (λ history. Unit {0}) =
-    writes_other list.rules batch (opened_at start base) P (HasNoCuts old) left (λ history. Unit {0}) quiet (λ history l. tt) before after ending steps written in
-    inr (subst (λ d. WritesLines ending list.rules batch (opened_at start d) P steps before after (λ history. Unit {0})) nothing told)
+  -- a device fault of the opening is the first cut
+  fails_in_opening : (cs : List Cut) → old.cuts ≡ Some (numbers_of cs) → OpensByCuts (Err fault.DeviceFault) old → CutsOpening cs
+  fails_in_opening [] none opens = absurd (opens [] [] empty on none refl)
+  fails_in_opening (cut ∷ cs) some opens = omega (arith, first, ((opens [] (numbers_of (cut ∷ cs)) empty on some).1 refl).1)
+
+  -- a store was not opened where the first cut falls into the opening
+  opens_beyond : (cs : List Cut) → old.cuts ≡ Some (numbers_of cs) → OpensByCuts (Ok tt) old → CutsOpening cs → ⊥
+  opens_beyond [] none opens within = within
+  opens_beyond (cut ∷ cs) some opens within = omega (arith, first, within, (opens [] (numbers_of (cut ∷ cs)) empty on some).0)
+
+  -- why the store on an empty disk was not opened
+  unopened : (why : OpenFault) (list : RuleList) (new : View) (before after : Option (List ℕ)) → IsRefusedOn list why old new before after → IsUnopened (ending_of why) cuts
+  unopened fault.DeviceFault list new before after refused = fails_in_opening cuts told refused.cuts
+  unopened fault.NoMemory list new before after refused = tt
+  unopened (fault.NotAStore offset) list new before after refused = absurd (few (refused.cause [] empty).2)
+    where
+      few : 1 < length {A = ℕ} [] → ⊥
+      few less = omega (arith, less)
+  unopened (fault.OtherList kept given) list new before after refused = absurd (few (refused.cause [] empty).2)
+    where
+      few : 1 < length {A = ℕ} [] → ⊥
+      few less = omega (arith, less)
+  unopened (fault.TooLarge len) list new before after refused = absurd (few len (refused.cause [] empty).1 (refused.cause [] empty).2)
+    where
+      few : (len : ℕ) → len ≡ length {A = ℕ} [] → 1073741824 < len → ⊥
+      few len is less = omega (arith, is, less)
+
+  -- a run over an empty disk
+  pub memory_writes : (ending : Ending) (list : RuleList) (start batch : ℕ) (new : View) (steps : List PlainStep) (before after : Option (List ℕ)) → WritesOn ending list start batch old steps before after new
+      → WritesInMemory ending list.rules start batch cuts steps before after
+  memory_writes ending list start batch new steps before after (inl (why, is, refused)) =
+      inl (subst (λ e. IsUnopened e cuts) (sym is) (unopened why list new before after refused), refused.text)
+  memory_writes ending list start batch new steps before after (inr (base, valid, means, opens, written)) =
+      let nothing : base ≡ nothing_saved = means [] nothing_saved 0 empty (inr (inl (omega arith), refl, refl)) in
+      let told_lines : WritesLines ending list.rules batch (opened_at start base) (cuts ≡ []) steps before after (λ history. Unit {0}) =
+      writes_other list.rules batch (opened_at start base) (cuts ≡ []) (HasNoCuts old) (LeavesDisk ending list batch (opened_at start base) old new) (λ history. Unit {0}) no_cuts (λ history l. tt) before after ending steps written in
+      inr (opens_beyond cuts told opens, subst (λ d. WritesLines ending list.rules batch (opened_at start d) (cuts ≡ []) steps before after (λ history. Unit {0})) nothing told_lines)

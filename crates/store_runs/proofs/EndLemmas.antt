@@ -8,18 +8,20 @@ use Rattle.journal.specs.declared.open_fault.OpenFault.{OpenFault}
 use Rattle.journal.specs.declared.open_fault.OpenFault.TheVariants as fault
 use Rattle.script_actions.specs.Action.{PlainStep}
 use Rattle.suffix_list.specs.Suffix.{Rule}
+use Rattle.durable_model.specs.Histories.{AgentOpening}
 use Rattle.agent_core.specs.AgentView.{AgentView}
 use Rattle.agent_core.specs.Means.{AgentMay}
 use Rattle.agent_core.specs.Seen.{AgentSeen}
 use Rattle.agent_core.specs.declared.agent.Power.{Power}
 use Rattle.agent_core.specs.declared.agent.Power.TheVariants.{Up}
-use Rattle.store_runs.specs.Calls.{EndsWith, IsCounted, IsEnd, Stops}
+use Rattle.store_runs.specs.Calls.{EndsWith, IsEnd, StaysOrRose, Stops, over_run}
+use Rattle.store_runs.specs.Courses.{OnCourse}
 use Rattle.store_runs.specs.Endings.{IsStoreEnding, TellsPower, WriteCounts, ending_of}
 use Rattle.store_runs.specs.Waiting.{Ended}
 use Rattle.store_runs.specs.declared.ending.Ending.{Ending}
 use Rattle.store_runs.specs.declared.ending.Ending.TheVariants.{Done, Device, Store, Write, Memory}
 use Rattle.store_runs.proofs.AgentLemmas.{up_after_commit}
-use Rattle.store_runs.proofs.CountLemmas.{counted_end}
+use Rattle.store_runs.proofs.LoopLemmas.{device_rose}
 
 -- what holds of the ending that was asked for, and of a failed write, holds of the ending
 pub ended_so : (P : Ending → Type 0) (asked answered : Ending) (before after : Option (List ℕ)) (count later : ℕ) (waiting : List ℕ) → P asked → P Write → Ended asked answered before after count later waiting → P answered
@@ -98,19 +100,20 @@ ends_power rules a b may may' old new Write before now power up is_up ends = abs
 ends_power rules a b may may' old new (Store why) before now power up is_up ends = absurd ends
 
 -- the count of the disk's faults after it
-pub ends_device : (rules : List Rule) (a b : AgentSeen) (may may' : AgentMay) (old new : View) (ending : Ending) (before now : List ℕ) (first : ℕ) → IsCounted first old.faults a → EndsWith rules a b may may' old new ending before now → ending ≡ Device
-    → Rose first new.faults
-ends_device rules a b may may' old new Done before now first was ends is = absurd (done_device is)
-  where
-    done_device : Done ≡ Device → ⊥
-    done_device e = cc
-ends_device rules a b may may' old new Device before now first was ends is = counted_end first a old new was ends.3.0 ends.3.1
-ends_device rules a b may may' old new Memory before now first was ends is = absurd (memory_device is)
-  where
-    memory_device : Memory ≡ Device → ⊥
-    memory_device e = cc
-ends_device rules a b may may' old new Write before now first was ends is = absurd ends
-ends_device rules a b may may' old new (Store why) before now first was ends is = absurd ends
+module _ (rules : List Rule) (batch : ℕ) (x : AgentOpening) (begin here : View) (a : AgentSeen) (may : AgentMay) (steps : List PlainStep) (first out : Option (List ℕ)) (waiting : List ℕ)
+    (on : OnCourse rules batch x a may steps (over_run begin here (Unit {0})) first out waiting) where
+  pub ends_device : (mine : List Rule) (b : AgentSeen) (may' : AgentMay) (new : View) (ending : Ending) (now : List ℕ) → EndsWith mine a b may may' here new ending waiting now → StaysOrRose here.faults new.faults → ending ≡ Device → Rose begin.faults new.faults
+  ends_device mine b may' new Done now ends stays is = absurd (done_device is)
+    where
+      done_device : Done ≡ Device → ⊥
+      done_device e = cc
+  ends_device mine b may' new Device now ends stays is = device_rose rules batch x (over_run begin here (Unit {0})) a may steps first out waiting on new.faults tt stays ends.3
+  ends_device mine b may' new Memory now ends stays is = absurd (memory_device is)
+    where
+      memory_device : Memory ≡ Device → ⊥
+      memory_device e = cc
+  ends_device mine b may' new Write now ends stays is = absurd ends
+  ends_device mine b may' new (Store why) now ends stays is = absurd ends
 
 -- a first opening that was refused is no fault of the output, and tells of a fault of a file
 pub refused_stays : (why : OpenFault) (count : ℕ) → WriteCounts (ending_of why) count count

@@ -1,4 +1,3 @@
-pub mod PrefixLemmas
 pub mod TextLemmas
 pub mod CourseLemmas
 pub mod LoopLemmas

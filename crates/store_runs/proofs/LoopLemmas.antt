@@ -1,6 +1,8 @@
 -- What the loop over the lines keeps, and how it ends.
-use Rattle.std.proofs.Common.{◌≡◌, ℕ, ◌+◌, ◌<◌, ◌≤◌, ◌^◌, true, false, List, [], ◌∷◌, ◌++◌, Option, take, drop, length, get_or, inr, refl, sym, ap, subst, ⊎_elim, ◌∙◌, append-nil, arith}
+use Rattle.std.proofs.Common.{◌≡◌, ℕ, ◌+◌, ◌<◌, ◌≤◌, ◌^◌, true, false, List, [], ◌∷◌, ◌++◌, Option, take, drop, length, get_or, inl, inr, refl, sym, ap, subst, ⊎_elim, ◌∙◌, append-nil, arith}
+use Rattle.std.proofs.lemmas.Bool.{cases_Bool}
 use Rattle.std.proofs.lemmas.List.{length-map, length-take-le, map-append, take-append-drop, take_more}
+use Rattle.agent_base.specs.Counts.{Rose}
 use Rattle.unwinding.specs.Admissible.{History}
 use Rattle.unwinding.specs.Course.{AtBase, IsAt, answer_all, empty_course, executed_lines}
 use Rattle.unwinding.specs.CourseSteps.{base_of, committed, history_of, last_opening, reopened}
@@ -21,16 +23,19 @@ use Rattle.agent_core.specs.Means.{AgentMay, Fails, Fits, Same, after_commit}
 use Rattle.agent_core.specs.Seen.{AgentSeen}
 use Rattle.printed_model.specs.Histories.{IsHistoryOf, history_text}
 use Rattle.printed_model.proofs.LeftLemmas.{left_of_answered, left_of_executed, left_of_kept}
-use Rattle.store_runs.specs.Calls.{Commits, EndsWith, IsQuiet}
-use Rattle.store_runs.specs.Courses.{Leaves, On, OnCourse, Steps, downs_on, text_on}
+use Rattle.store_runs.specs.Calls.{Commits, EndsWith, IsQuiet, StaysOrRose}
+use Rattle.store_runs.specs.Courses.{Leaves, Marks, On, OnCourse, Steps, Watch, downs_on, faults_on, text_on}
+use Rattle.store_runs.specs.Faults.{RoseBy, epoch_faults, faults_of, last_faults}
 use Rattle.store_runs.specs.Openings.{just_opened}
 use Rattle.store_runs.specs.Runs.{Stopped, WritesLines}
 use Rattle.store_runs.specs.Steps.{steps_of}
-use Rattle.store_runs.specs.Waiting.{Ended, TakesFront}
+use Rattle.store_runs.specs.Waiting.{Ended}
+use Rattle.waiting_lines.specs.Waiting.{TakesFront}
 use Rattle.store_runs.specs.declared.ending.Ending.{Ending}
 use Rattle.store_runs.specs.declared.ending.Ending.TheVariants.{Done, Device, Store, Write, Memory}
-use Rattle.store_runs.proofs.CourseLemmas.{nothing_printed, on_begun, on_fits, on_up, text_answered}
-use Rattle.store_runs.proofs.PrefixLemmas.{front_end, front_more, front_none, front_part, front_then, prefix_all, prefix_front, prefix_longer}
+use Rattle.store_runs.proofs.CountLemmas.{last_fault_more, last_fault_shown, rose_by_none, rose_by_rose, rose_by_stays, some_fault}
+use Rattle.store_runs.proofs.CourseLemmas.{nothing_printed, on_begun, on_fits, on_up, text_answered, up_shows}
+use Rattle.waiting_lines.proofs.PrefixLemmas.{front_end, front_more, front_none, front_part, front_then, prefix_all, prefix_front, prefix_longer}
 
 -- ---- steps
 
@@ -48,43 +53,49 @@ pub opens_up : (rules : List Rule) (x : AgentOpening) → (just_opened rules x).
 unfolding reopened
 opens_up rules x = refl
 
-module _ (rules : List Rule) (batch : ℕ) (x : AgentOpening) (Quiet : Type 0) where
+module _ (rules : List Rule) (batch : ℕ) (x : AgentOpening) (watch : Watch) where
   -- no line has run yet
-  pub course_begins : (a : AgentSeen) (may : AgentMay) (out : Option (List ℕ)) → 0 < batch → a ≡ reopened (machine rules) keeping x.rest x.state → AtBase a.base may
-      → OnCourse rules batch x a may [] Quiet out out []
-  unfolding downs_on
-  course_begins a may out some is base = record {
+  pub course_begins : (a : AgentSeen) (may : AgentMay) (out : Option (List ℕ)) → watch.before ≤ watch.now → a.up ≡ true → 0 < batch → a ≡ reopened (machine rules) keeping x.rest x.state → AtBase a.base may
+      → OnCourse rules batch x a may [] watch out out []
+  unfolding downs_on faults_on
+  course_begins a may out later up some is base = record {
     course = empty_course;
     on = on_begun rules batch x a may some is base;
     runs = refl;
     downs = λ q. refl;
+    faults = rose_by_none watch.before watch.now later;
+    shows = λ on. up_shows a empty_course up;
     text = subst (λ t. TakesFront out out t []) (sym (nothing_printed rules x)) (front_none out);
   }
 
   -- some lines more
-  pub course_more : (ran : List PlainStep) (Now : Type 0) (a b : AgentSeen) (may may' : AgentMay) (steps : List PlainStep) (first out : Option (List ℕ)) (waiting now text : List ℕ) → (Quiet → Now)
-      → OnCourse rules batch x a may steps Quiet first out waiting → Steps rules batch ran Now a may b may' text → now ≡ waiting ++ text
-      → OnCourse rules batch x b may' (steps ++ ran) Quiet first out now
-  course_more ran Now a b may may' steps first out waiting now text still on line is =
+  pub course_more : (ran : List PlainStep) (Now GoesOn : Type 0) (faults : ℕ) (a b : AgentSeen) (may may' : AgentMay) (steps : List PlainStep) (first out : Option (List ℕ)) (waiting now text : List ℕ) → (watch.Quiet → Now) → watch.GoesOn
+      → OnCourse rules batch x a may steps watch first out waiting → Steps rules batch ran (record { Quiet = Now; GoesOn = GoesOn; before = watch.now; now = faults }) a may b may' text → now ≡ waiting ++ text
+      → OnCourse rules batch x b may' (steps ++ ran) (record { Quiet = watch.Quiet; GoesOn = GoesOn; before = watch.before; now = faults }) first out now
+  course_more ran Now GoesOn faults a b may may' steps first out waiting now text still goes on line is =
       let next = line x on.course on.on in
       record {
         course = next.0;
         on = next.1;
         runs = next.2.steps ∙ ap (λ ss. ss ++ ran) on.runs;
         downs = λ q. next.2.downs (still q) ∙ on.downs q;
+        faults = next.2.counted watch.before (on.shows goes) on.faults;
+        shows = next.2.shows;
         text =
             subst (λ t. TakesFront first out t now) (sym next.2.prints)
             (subst (TakesFront first out (text_on rules x on.course ++ text)) (sym is) (front_more first out out (text_on rules x on.course) waiting on.text text));
       }
 
-  module _ (a : AgentSeen) (may : AgentMay) (steps : List PlainStep) (first out : Option (List ℕ)) (waiting : List ℕ) (on : OnCourse rules batch x a may steps Quiet first out waiting) where
+  module _ (a : AgentSeen) (may : AgentMay) (steps : List PlainStep) (first out : Option (List ℕ)) (waiting : List ℕ) (on : OnCourse rules batch x a may steps watch first out waiting) where
     -- some of what waits was written
-    pub course_written : (later : Option (List ℕ)) (rest : List ℕ) → TakesFront out later waiting rest → OnCourse rules batch x a may steps Quiet first later rest
+    pub course_written : (later : Option (List ℕ)) (rest : List ℕ) → TakesFront out later waiting rest → OnCourse rules batch x a may steps watch first later rest
     course_written later rest took = record {
       course = on.course;
       on = on.on;
       runs = on.runs;
       downs = on.downs;
+      faults = on.faults;
+      shows = on.shows;
       text = front_then first out later (text_on rules x on.course) waiting on.text rest took;
     }
 
@@ -96,13 +107,34 @@ module _ (rules : List Rule) (batch : ℕ) (x : AgentOpening) (Quiet : Type 0) w
     abbrev lost : History PlainAction
     lost = history_of (machine rules) keeping x false on.course
 
-    lost_is : IsHistoryOf rules batch x Quiet steps lost
+    lost_is : IsHistoryOf rules batch x watch.Quiet steps lost
     unfolding On downs_on
     lost_is = record { admissible = ends_lost (machine rules) keeping batch x on.course a may on.on; lines = on.runs; quiet = on.downs }
 
     lost_text : history_text rules x lost ≡ text_on rules x on.course
     unfolding history_replies text_on
     lost_text = refl
+
+    -- the faults that it shows
+    lost_faults : (ending : Ending) (now : ℕ) → last_faults ending on.course.downs ≤ epoch_faults on.course.downs → StaysOrRose watch.now now → RoseBy (faults_of ending lost) watch.before now
+    unfolding faults_on
+    lost_faults ending now few stays = rose_by_stays _ _ watch.before watch.now now (omega (arith, few)) stays on.faults
+
+    -- the commit at the end met one fault more, unless the agent was down
+    lost_device : (now : ℕ) → watch.GoesOn → StaysOrRose watch.now now → (a.up ≡ true → Rose watch.now now) → RoseBy (faults_of Device lost) watch.before now
+    unfolding faults_on
+    lost_device now goes stays fell = ⊎_elim
+        (λ up. rose_by_rose _ _ watch.before watch.now now (omega (arith, last_fault_more on.course.downs)) (fell up) on.faults)
+        (λ down. lost_faults Device now (last_fault_shown on.course.downs (on.shows goes down)) stays)
+        (cases_Bool a.up)
+
+    -- so the count rose
+    pub device_rose : (now : ℕ) → watch.GoesOn → StaysOrRose watch.now now → (a.up ≡ true → Rose watch.now now) → Rose watch.before now
+    unfolding faults_on
+    device_rose now goes stays fell = ⊎_elim
+        (λ up. rose_by_rose (faults_on on.course) 1 watch.before watch.now now (omega arith) (fell up) on.faults)
+        (λ down. rose_by_stays (faults_on on.course) 1 watch.before watch.now now (omega (arith, some_fault on.course.downs (on.shows goes down))) stays on.faults)
+        (cases_Bool a.up)
 
     lost_leaves : Leaves rules batch x may lost
     unfolding On
@@ -112,7 +144,7 @@ module _ (rules : List Rule) (batch : ℕ) (x : AgentOpening) (Quiet : Type 0) w
     abbrev answered : History PlainAction
     answered = history_of (machine rules) keeping x true (answer_all on.course)
 
-    answered_is : a.up ≡ true → IsHistoryOf rules batch x Quiet steps answered
+    answered_is : a.up ≡ true → IsHistoryOf rules batch x watch.Quiet steps answered
     unfolding On downs_on
     answered_is up = record {
       admissible = ends_answered (machine rules) keeping batch x on.course a may (on_up rules batch x on.course a may on.on up).0 on.on;
@@ -140,125 +172,128 @@ module _ (rules : List Rule) (batch : ℕ) (x : AgentOpening) (Quiet : Type 0) w
         (λ tried. left_of_executed rules batch x on.course d n (on_up rules batch x on.course a may on.on tried.0).0 (subst (λ base. IsAt base d n) (committed_base tried.0) tried.1))
         (goes.images d n left)
 
+    -- what a run wrote and left that ended so
+    abbrev Writes : (all : List PlainStep) → (later : Option (List ℕ)) → AgentMay → (now : ℕ) → Ending → Type 0
+    Writes all later may' now ending = WritesLines ending rules batch x watch.Quiet all first later (Marks rules batch x may' ending watch.before now)
+
     -- the run was stopped after these lines, and a part of what waits was written
-    pub course_stopped : (all rest : List PlainStep) (later : Option (List ℕ)) → all ≡ steps ++ rest → TakesPrefix out later waiting → Stopped rules batch x Quiet all first later (Leaves rules batch x may)
-    course_stopped all rest later parts took = record {
+    stopped : (all rest : List PlainStep) (later : Option (List ℕ)) (ending : Ending) (may' : AgentMay) (now : ℕ) → all ≡ steps ++ rest → TakesPrefix out later waiting
+        → Marks rules batch x may' ending watch.before now lost → Stopped rules batch x watch.Quiet all first later (Marks rules batch x may' ending watch.before now)
+    stopped all rest later ending may' now parts took left = record {
       front = steps;
       rest = rest;
       parts = parts;
       history = lost;
       «is» = lost_is;
       text = subst (TakesPrefix first later) (sym lost_text) (front_part first out later (text_on rules x on.course) waiting on.text took);
-      left = lost_leaves;
+      left = left;
     }
+
+    same_faults : StaysOrRose watch.now watch.now
+    same_faults = inl refl
+
+    pub course_stopped : (all rest : List PlainStep) (later : Option (List ℕ)) → all ≡ steps ++ rest → TakesPrefix out later waiting → Writes all later may watch.now Write
+    course_stopped all rest later parts took = stopped all rest later Write may watch.now parts took (lost_leaves, lost_faults Write watch.now (omega arith) same_faults)
 
     -- memory was wanting, and a part of what should wait does
     pub course_memory : (all rest : List PlainStep) (later : Option (List ℕ)) (shown more : List ℕ) (ending : Ending) (count rose : ℕ) → all ≡ steps ++ rest → waiting ≡ shown ++ more → Ended Memory ending out later count rose shown
-        → WritesLines ending rules batch x Quiet all first later (Leaves rules batch x may)
+        → Writes all later may watch.now ending
     course_memory all rest later shown more ending count rose parts is ended = ⊎_elim
-        (λ ok. subst (λ s. WritesLines s rules batch x Quiet all first later (Leaves rules batch x may)) (sym ok.0) (course_stopped all rest later parts (subst (TakesPrefix out later) (sym is) (prefix_front out later shown more ok.1.0))))
-        (λ fault. subst (λ s. WritesLines s rules batch x Quiet all first later (Leaves rules batch x may)) (sym fault.0) (course_stopped all rest later parts (subst (TakesPrefix out later) (sym is) (prefix_longer out later shown more fault.1.0))))
+        (λ ok. subst (Writes all later may watch.now) (sym ok.0)
+        (stopped all rest later Memory may watch.now parts (subst (TakesPrefix out later) (sym is) (prefix_front out later shown more ok.1.0)) (lost_leaves, lost_faults Memory watch.now (omega arith) same_faults)))
+        (λ fault. subst (Writes all later may watch.now) (sym fault.0) (course_stopped all rest later parts (subst (TakesPrefix out later) (sym is) (prefix_longer out later shown more fault.1.0))))
         ended
 
     no_rest : steps ≡ steps ++ []
     no_rest = sym (append-nil steps)
 
-    -- the lines that waited were committed, and a part of the text was written
-    answered_stopped : (b : AgentSeen) (may' : AgentMay) (later : Option (List ℕ)) → Commits rules a b may' → TakesPrefix out later (waiting ++ text_of a.held) → Stopped rules batch x Quiet steps first later (Leaves rules batch x may')
-    answered_stopped b may' later done took = record {
-      front = steps;
-      rest = [];
-      parts = no_rest;
-      history = answered;
-      «is» = answered_is done.0;
-      text =
-          subst (TakesPrefix first later) (sym (answered_text done.0))
-          (front_part first out later (text_on rules x on.course ++ text_of a.held) (waiting ++ text_of a.held) (front_more first out out (text_on rules x on.course) waiting on.text (text_of a.held)) took);
-      left = answered_leaves b may' done;
-    }
+    -- the commit at the end left this
+    module _ (b : AgentSeen) (may' : AgentMay) (now : ℕ) (stays : StaysOrRose watch.now now) where
+      -- the lines that waited were committed
+      answered_marks : (ending : Ending) → last_faults ending on.course.downs ≤ epoch_faults on.course.downs → Commits rules a b may' → Marks rules batch x may' ending watch.before now answered
+      answered_marks ending few done = (answered_leaves b may' done, lost_faults ending now few stays)
 
-    -- they were, and all that waits was written or a part
-    done_ended : (b : AgentSeen) (may' : AgentMay) (ending : Ending) (now : List ℕ) (later : Option (List ℕ)) (count rose : ℕ) → Commits rules a b may' → now ≡ waiting ++ text_of a.held → Ended Done ending out later count rose now
-        → WritesLines ending rules batch x Quiet steps first later (Leaves rules batch x may')
-    done_ended b may' ending now later count rose done is ended =
-        let front : TakesFront first out (text_on rules x on.course ++ text_of a.held) (waiting ++ text_of a.held) = front_more first out out (text_on rules x on.course) waiting on.text (text_of a.held) in
-        ⊎_elim
-        (λ ok. subst (λ s. WritesLines s rules batch x Quiet steps first later (Leaves rules batch x may')) (sym ok.0) (
-          record {
-            history = answered;
-            «is» = answered_is done.0;
-            text = subst (Takes first later) (sym (answered_text done.0)) (front_end first out later (text_on rules x on.course ++ text_of a.held) (waiting ++ text_of a.held) front (subst (Takes out later) is ok.1.0));
-            left = answered_leaves b may' done;
-          },
-          ((on_up rules batch x on.course a may on.on done.0).0, refl),
-        ))
-        (λ fault. subst (λ s. WritesLines s rules batch x Quiet steps first later (Leaves rules batch x may')) (sym fault.0) (answered_stopped b may' later done (subst (TakesPrefix out later) is fault.1.0)))
-        ended
+      -- and a part of the text was written
+      answered_stopped : (ending : Ending) (later : Option (List ℕ)) → last_faults ending on.course.downs ≤ epoch_faults on.course.downs → Commits rules a b may' → TakesPrefix out later (waiting ++ text_of a.held)
+          → Stopped rules batch x watch.Quiet steps first later (Marks rules batch x may' ending watch.before now)
+      answered_stopped ending later few done took = record {
+        front = steps;
+        rest = [];
+        parts = no_rest;
+        history = answered;
+        «is» = answered_is done.0;
+        text =
+            subst (TakesPrefix first later) (sym (answered_text done.0))
+            (front_part first out later (text_on rules x on.course ++ text_of a.held) (waiting ++ text_of a.held) (front_more first out out (text_on rules x on.course) waiting on.text (text_of a.held)) took);
+        left = answered_marks ending few done;
+      }
 
-    -- they were, and memory was wanting for their text
-    answered_memory : (b : AgentSeen) (may' : AgentMay) (ending : Ending) (later : Option (List ℕ)) (count rose : ℕ) → Commits rules a b may' → Ended Memory ending out later count rose waiting
-        → WritesLines ending rules batch x Quiet steps first later (Leaves rules batch x may')
-    answered_memory b may' ending later count rose done ended = ⊎_elim
-        (λ ok. subst (λ s. WritesLines s rules batch x Quiet steps first later (Leaves rules batch x may')) (sym ok.0) (answered_stopped b may' later done (prefix_front out later waiting (text_of a.held) ok.1.0)))
-        (λ fault. subst (λ s. WritesLines s rules batch x Quiet steps first later (Leaves rules batch x may')) (sym fault.0) (answered_stopped b may' later done (prefix_longer out later waiting (text_of a.held) fault.1.0)))
-        ended
+      -- they were, and all that waits was written or a part
+      done_ended : (ending : Ending) (waits : List ℕ) (later : Option (List ℕ)) (count rose : ℕ) → Commits rules a b may' → waits ≡ waiting ++ text_of a.held → Ended Done ending out later count rose waits → Writes steps later may' now ending
+      done_ended ending waits later count rose done is ended =
+          let front : TakesFront first out (text_on rules x on.course ++ text_of a.held) (waiting ++ text_of a.held) = front_more first out out (text_on rules x on.course) waiting on.text (text_of a.held) in
+          ⊎_elim
+          (λ ok. subst (Writes steps later may' now) (sym ok.0) (
+            record {
+              history = answered;
+              «is» = answered_is done.0;
+              text = subst (Takes first later) (sym (answered_text done.0)) (front_end first out later (text_on rules x on.course ++ text_of a.held) (waiting ++ text_of a.held) front (subst (Takes out later) is ok.1.0));
+              left = answered_marks Done (omega arith) done;
+            },
+            ((on_up rules batch x on.course a may on.on done.0).0, refl),
+          ))
+          (λ fault. subst (Writes steps later may' now) (sym fault.0) (answered_stopped Write later (omega arith) done (subst (TakesPrefix out later) is fault.1.0)))
+          ended
 
-    -- the last commit failed
-    device_ended : (b : AgentSeen) (may' : AgentMay) (ending : Ending) (later : Option (List ℕ)) (count rose : ℕ) → (Quiet → ⊥) → Fails rules a a b may may' (a.up ≡ true) → Ended Device ending out later count rose waiting
-        → WritesLines ending rules batch x Quiet steps first later (Leaves rules batch x may')
-    device_ended b may' ending later count rose loud goes ended = ⊎_elim
-        (λ ok. subst (λ s. WritesLines s rules batch x Quiet steps first later (Leaves rules batch x may')) (sym ok.0) (
-          record {
-            history = lost;
-            «is» = lost_is;
-            text = subst (Takes first later) (sym lost_text) (front_end first out later (text_on rules x on.course) waiting on.text ok.1.0);
-            left = tried_leaves b may' goes;
-          },
-          inr refl,
-          loud,
-        ))
-        (λ fault. subst (λ s. WritesLines s rules batch x Quiet steps first later (Leaves rules batch x may')) (sym fault.0) (record {
-          front = steps;
-          rest = [];
-          parts = no_rest;
-          history = lost;
-          «is» = lost_is;
-          text = subst (TakesPrefix first later) (sym lost_text) (front_part first out later (text_on rules x on.course) waiting on.text fault.1.0);
-          left = tried_leaves b may' goes;
-        }))
-        ended
+      -- they were, and memory was wanting for their text
+      answered_memory : (ending : Ending) (later : Option (List ℕ)) (count rose : ℕ) → Commits rules a b may' → Ended Memory ending out later count rose waiting → Writes steps later may' now ending
+      answered_memory ending later count rose done ended = ⊎_elim
+          (λ ok. subst (Writes steps later may' now) (sym ok.0) (answered_stopped Memory later (omega arith) done (prefix_front out later waiting (text_of a.held) ok.1.0)))
+          (λ fault. subst (Writes steps later may' now) (sym fault.0) (answered_stopped Write later (omega arith) done (prefix_longer out later waiting (text_of a.held) fault.1.0)))
+          ended
 
-    -- memory was wanting, and the agent is as it was
-    same_memory : (b : AgentSeen) (may' : AgentMay) (ending : Ending) (later : Option (List ℕ)) (count rose : ℕ) → Same a may b may' → Ended Memory ending out later count rose waiting
-        → WritesLines ending rules batch x Quiet steps first later (Leaves rules batch x may')
-    same_memory b may' ending later count rose same ended =
-        let stopped : TakesPrefix out later waiting → Stopped rules batch x Quiet steps first later (Leaves rules batch x may') = λ took. record {
-          front = steps;
-          rest = [];
-          parts = no_rest;
-          history = lost;
-          «is» = lost_is;
-          text = subst (TakesPrefix first later) (sym lost_text) (front_part first out later (text_on rules x on.course) waiting on.text took);
-          left = λ d n left. lost_leaves d n (same.1 d n left);
-        } in
-        ⊎_elim
-        (λ ok. subst (λ s. WritesLines s rules batch x Quiet steps first later (Leaves rules batch x may')) (sym ok.0) (stopped (prefix_all out later waiting ok.1.0)))
-        (λ fault. subst (λ s. WritesLines s rules batch x Quiet steps first later (Leaves rules batch x may')) (sym fault.0) (stopped fault.1.0))
-        ended
+      -- the last commit failed
+      device_ended : (ending : Ending) (later : Option (List ℕ)) (count rose : ℕ) → watch.GoesOn → (a.up ≡ true → Rose watch.now now) → (watch.Quiet → ⊥) → Fails rules a a b may may' (a.up ≡ true) → Ended Device ending out later count rose waiting
+          → Writes steps later may' now ending
+      device_ended ending later count rose on_goes fell loud goes ended = ⊎_elim
+          (λ ok. subst (Writes steps later may' now) (sym ok.0) (
+            record {
+              history = lost;
+              «is» = lost_is;
+              text = subst (Takes first later) (sym lost_text) (front_end first out later (text_on rules x on.course) waiting on.text ok.1.0);
+              left = (tried_leaves b may' goes, lost_device now on_goes stays fell);
+            },
+            inr refl,
+            loud,
+          ))
+          (λ fault. subst (Writes steps later may' now) (sym fault.0) (stopped steps [] later Write may' now no_rest fault.1.0 (tried_leaves b may' goes, lost_faults Write now (omega arith) stays)))
+          ended
+
+      -- memory was wanting, and the agent is as it was
+      same_memory : (ending : Ending) (later : Option (List ℕ)) (count rose : ℕ) → Same a may b may' → Ended Memory ending out later count rose waiting → Writes steps later may' now ending
+      same_memory ending later count rose same ended =
+          let leaves : Leaves rules batch x may' lost = λ d n left. lost_leaves d n (same.1 d n left) in
+          ⊎_elim
+          (λ ok. subst (Writes steps later may' now) (sym ok.0) (stopped steps [] later Memory may' now no_rest (prefix_all out later waiting ok.1.0) (leaves, lost_faults Memory now (omega arith) stays)))
+          (λ fault. subst (Writes steps later may' now) (sym fault.0) (stopped steps [] later Write may' now no_rest fault.1.0 (leaves, lost_faults Write now (omega arith) stays)))
+          ended
 
     -- the end of the lines
-    pub course_ends : (b : AgentSeen) (may' : AgentMay) (old new : View) (asking ending : Ending) (now : List ℕ) (later : Option (List ℕ)) (count rose : ℕ) → (Quiet → IsQuiet a old) → EndsWith rules a b may may' old new asking waiting now
-        → Ended asking ending out later count rose now → WritesLines ending rules batch x Quiet steps first later (Leaves rules batch x may')
-    course_ends b may' old new Done ending now later count rose still ends ended = done_ended b may' ending now later count rose ends.0 ends.1 ended
-    course_ends b may' old new Device ending now later count rose still ends ended = device_ended b may' ending later count rose (λ q. ends.2 (still q)) ends.0 (subst (Ended Device ending out later count rose) ends.1 ended)
-    course_ends b may' old new Memory ending now later count rose still ends ended =
-        let waits : Ended Memory ending out later count rose waiting = subst (Ended Memory ending out later count rose) ends.1 ended in
-        ⊎_elim (λ done. answered_memory b may' ending later count rose done waits) (λ same. same_memory b may' ending later count rose same waits) ends.0
-    course_ends b may' old new Write ending now later count rose still ends ended = absurd ends
-    course_ends b may' old new (Store why) ending now later count rose still ends ended = absurd ends
+    pub course_ends : (b : AgentSeen) (may' : AgentMay) (old new : View) (asking ending : Ending) (waits : List ℕ) (later : Option (List ℕ)) (count rose : ℕ) → watch.now ≡ old.faults → watch.GoesOn → (watch.Quiet → IsQuiet a old)
+        → EndsWith rules a b may may' old new asking waiting waits → StaysOrRose old.faults new.faults → Ended asking ending out later count rose waits → Writes steps later may' new.faults ending
+    course_ends b may' old new Done ending waits later count rose is goes still ends stays ended = done_ended b may' new.faults (subst (λ n. StaysOrRose n new.faults) (sym is) stays) ending waits later count rose ends.0 ends.1 ended
+    course_ends b may' old new Device ending waits later count rose is goes still ends stays ended =
+        device_ended b may' new.faults (subst (λ n. StaysOrRose n new.faults) (sym is) stays) ending later count rose goes (λ up. subst (λ n. Rose n new.faults) (sym is) (ends.3 up)) (λ q. ends.2 (still q)) ends.0
+        (subst (Ended Device ending out later count rose) ends.1 ended)
+    course_ends b may' old new Memory ending waits later count rose is goes still ends stays ended =
+        let left : Ended Memory ending out later count rose waiting = subst (Ended Memory ending out later count rose) ends.1 ended in
+        let stayed = subst (λ n. StaysOrRose n new.faults) (sym is) stays in
+        ⊎_elim (λ done. answered_memory b may' new.faults stayed ending later count rose done left) (λ same. same_memory b may' new.faults stayed ending later count rose same left) ends.0
+    course_ends b may' old new Write ending waits later count rose is goes still ends stays ended = absurd ends
+    course_ends b may' old new (Store why) ending waits later count rose is goes still ends stays ended = absurd ends
 
 -- changes stay in range before each line
-pub lines_fit : (rules : List Rule) (batch : ℕ) (x : AgentOpening) (Quiet : Type 0) (lines : List Line) (i : ℕ) (a : AgentSeen) (may : AgentMay) (first out : Option (List ℕ)) (waiting : List ℕ) → i ≤ length lines → length lines + 2 < 2 ^ 64
-    → OnCourse rules batch x a may (steps_of (take i lines)) Quiet first out waiting → Fits a
-lines_fit rules batch x Quiet lines i a may first out waiting h fits on =
-    course_fits rules batch x Quiet a may (steps_of (take i lines)) first out waiting on (omega (arith, steps_few lines i h, h, fits))
+pub lines_fit : (rules : List Rule) (batch : ℕ) (x : AgentOpening) (watch : Watch) (lines : List Line) (i : ℕ) (a : AgentSeen) (may : AgentMay) (first out : Option (List ℕ)) (waiting : List ℕ) → i ≤ length lines → length lines + 2 < 2 ^ 64
+    → OnCourse rules batch x a may (steps_of (take i lines)) watch first out waiting → Fits a
+lines_fit rules batch x watch lines i a may first out waiting h fits on =
+    course_fits rules batch x watch a may (steps_of (take i lines)) first out waiting on (omega (arith, steps_few lines i h, h, fits))

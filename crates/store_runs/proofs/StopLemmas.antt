@@ -16,9 +16,10 @@ use Rattle.agent_core.specs.AgentView.{AgentView, may_find, may_of, since_openin
 use Rattle.agent_core.specs.Means.{AgentMay, Fits}
 use Rattle.agent_core.specs.Seen.{AgentSeen, IsSeen}
 use Rattle.printed_model.specs.Histories.{IsHistoryOf}
-use Rattle.store_runs.specs.Calls.{IsQuiet, Stops}
-use Rattle.store_runs.specs.Courses.{Leaves, OnCourse, Steps}
-use Rattle.store_runs.specs.Runs.{LeavesHistory, Ran, Stopped, WritesLines}
+use Rattle.store_runs.specs.Calls.{IsQuiet, Stops, over_call, over_run}
+use Rattle.store_runs.specs.Courses.{Leaves, Marks, OnCourse, Steps, Watch}
+use Rattle.store_runs.specs.Faults.{LeavesDisk}
+use Rattle.store_runs.specs.Runs.{HasNoCuts, LeavesHistory, Ran, Stopped, WritesLines}
 use Rattle.store_runs.specs.Steps.{steps_of}
 use Rattle.store_runs.specs.Waiting.{Ended}
 use Rattle.store_runs.specs.declared.ending.Ending.{Ending}
@@ -67,32 +68,32 @@ left_files v view b list batch x history told seen is_rules is_digest leaves fil
       leaves (durable_of store.0) (since_opening store.1 v.opened) (file, image, store.0, store.1, store.2, refl, refl),
     )
 
--- so a run leaves what it leaves to a restart
-pub writes_files : {D : Type 0} (v : AgentView D) (view : View) (b : AgentSeen) (list : RuleList) (batch : ℕ) (x : AgentOpening) (Quiet : Type 0) (steps : List PlainStep) (before after : Option (List ℕ)) (ending : Ending)
+-- so a run leaves what it leaves to a restart, and the count of its disk
+pub writes_files : {D : Type 0} (v : AgentView D) (old view : View) (b : AgentSeen) (list : RuleList) (batch : ℕ) (x : AgentOpening) (Quiet : Type 0) (steps : List PlainStep) (before after : Option (List ℕ)) (ending : Ending)
     → view.tells ≡ true → IsSeen v view b → v.memory.rules ≡ list.rules → v.journal.digest ≡ list.digest
-    → WritesLines ending list.rules batch x Quiet steps before after (Leaves list.rules batch x (may_of v view)) → WritesLines ending list.rules batch x Quiet steps before after (LeavesHistory list batch x view.may_leave)
-writes_files v view b list batch x Quiet steps before after ending told seen is_rules is_digest written =
-    writes_other list.rules batch x Quiet Quiet (Leaves list.rules batch x (may_of v view)) (LeavesHistory list batch x view.may_leave) (λ q. q)
-    (λ history leaves. left_files v view b list batch x history told seen is_rules is_digest leaves) before after ending steps written
+    → WritesLines ending list.rules batch x Quiet steps before after (Marks list.rules batch x (may_of v view) ending old.faults view.faults) → WritesLines ending list.rules batch x Quiet steps before after (LeavesDisk ending list batch x old view)
+writes_files v old view b list batch x Quiet steps before after ending told seen is_rules is_digest written =
+    writes_other list.rules batch x Quiet Quiet (Marks list.rules batch x (may_of v view) ending old.faults view.faults) (LeavesDisk ending list batch x old view) (λ q. q)
+    (λ history marks. (left_files v view b list batch x history told seen is_rules is_digest marks.0, marks.1)) before after ending steps written
 
 -- ---- one line
 
 -- what lines do under these rules and in batches of so many, by equal ones
-steps_under : (rules mine : List Rule) (batch size : ℕ) (ran : List PlainStep) (Quiet : Type 0) (a : AgentSeen) (may : AgentMay) (b : AgentSeen) (may' : AgentMay) (text : List ℕ) → mine ≡ rules → size ≡ batch
-    → Steps mine size ran Quiet a may b may' text → Steps rules batch ran Quiet a may b may' text
-steps_under rules mine batch size ran Quiet a may b may' text is_rules is_batch steps =
-    subst (λ n. Steps rules n ran Quiet a may b may' text) is_batch (subst (λ rs. Steps rs size ran Quiet a may b may' text) is_rules steps)
+steps_under : (rules mine : List Rule) (batch size : ℕ) (ran : List PlainStep) (watch : Watch) (a : AgentSeen) (may : AgentMay) (b : AgentSeen) (may' : AgentMay) (text : List ℕ) → mine ≡ rules → size ≡ batch
+    → Steps mine size ran watch a may b may' text → Steps rules batch ran watch a may b may' text
+steps_under rules mine batch size ran watch a may b may' text is_rules is_batch steps =
+    subst (λ n. Steps rules n ran watch a may b may' text) is_batch (subst (λ rs. Steps rs size ran watch a may b may' text) is_rules steps)
 
 -- one line more of those that are given
-pub line_more : (rules mine : List Rule) (batch size : ℕ) (x : AgentOpening) (Quiet Now : Type 0) (lines : List Line) (i : ℕ) (item : Line) (a b : AgentSeen) (may may' : AgentMay) (first out : Option (List ℕ)) (waiting now text : List ℕ)
-    → i < length lines → item ≡ get_or lines i item → mine ≡ rules → size ≡ batch → (Quiet → Now) → OnCourse rules batch x a may (steps_of (take i lines)) Quiet first out waiting
-    → Steps mine size (step_of item.step ∷ []) Now a may b may' text → now ≡ waiting ++ text → OnCourse rules batch x b may' (steps_of (take (i + 1) lines)) Quiet first out now
-line_more rules mine batch size x Quiet Now lines i item a b may may' first out waiting now text within is_item is_rules is_batch still on line waits =
+pub line_more : (rules mine : List Rule) (batch size : ℕ) (x : AgentOpening) (begin old new : View) (lines : List Line) (i : ℕ) (item : Line) (a b : AgentSeen) (may may' : AgentMay) (first out : Option (List ℕ)) (waiting now text : List ℕ)
+    → i < length lines → item ≡ get_or lines i item → mine ≡ rules → size ≡ batch → (HasNoCuts begin → IsQuiet a old) → OnCourse rules batch x a may (steps_of (take i lines)) (over_run begin old (Unit {0})) first out waiting
+    → Steps mine size (step_of item.step ∷ []) (over_call a old new (Unit {0})) a may b may' text → now ≡ waiting ++ text → OnCourse rules batch x b may' (steps_of (take (i + 1) lines)) (over_run begin new (Unit {0})) first out now
+line_more rules mine batch size x begin old new lines i item a b may may' first out waiting now text within is_item is_rules is_batch still on line waits =
     let steps : steps_of (take i lines) ++ step_of item.step ∷ [] ≡ steps_of (take (i + 1) lines) =
     ap (λ (l : Line). steps_of (take i lines) ++ step_of l.step ∷ []) is_item ∙ sym (steps_more lines i item within) in
-    subst (λ ss. OnCourse rules batch x b may' ss Quiet first out now) steps
-    (course_more rules batch x Quiet (step_of item.step ∷ []) Now a b may may' (steps_of (take i lines)) first out waiting now text still on
-    (steps_under rules mine batch size (step_of item.step ∷ []) Now a may b may' text is_rules is_batch line) waits)
+    subst (λ ss. OnCourse rules batch x b may' ss (over_run begin new (Unit {0})) first out now) steps
+    (course_more rules batch x (over_run begin old (Unit {0})) (step_of item.step ∷ []) (IsQuiet a old) (Unit {0}) new.faults a b may may' (steps_of (take i lines)) first out waiting now text still tt on
+    (steps_under rules mine batch size (step_of item.step ∷ []) (over_call a old new (Unit {0})) a may b may' text is_rules is_batch line) waits)
 
 -- the lines that ran and the rest, where a run stopped at a line
 stop_parts : (lines : List Line) (i : ℕ) (item : Line) (ran : List PlainStep) → i < length lines → item ≡ get_or lines i item → (ran ≡ []) ⊎ (ran ≡ step_of item.step ∷ [])
@@ -108,22 +109,22 @@ stop_parts lines i item ran within is_item (inr one) = (
 )
 
 -- a run that stopped at a line
-module _ {D : Type 0} (tell : D → View) (old new : AgentView D) (list : RuleList) (batch : ℕ) (x : AgentOpening) (Quiet : Type 0) (lines : List Line) (i : ℕ) (item : Line) (a : AgentSeen) (first out later : Option (List ℕ)) (waiting : List ℕ)
+module _ {D : Type 0} (tell : D → View) (old new : AgentView D) (list : RuleList) (batch : ℕ) (x : AgentOpening) (begin : View) (lines : List Line) (i : ℕ) (item : Line) (a : AgentSeen) (first out later : Option (List ℕ)) (waiting : List ℕ)
     (within : i < length lines) (is_item : item ≡ get_or lines i item) (old_rules : old.memory.rules ≡ list.rules) (is_batch : old.batch ≡ batch) (new_rules : new.memory.rules ≡ list.rules) (new_digest : new.journal.digest ≡ list.digest)
-    (told : (tell old.disk).tells ≡ true) (tells : (tell new.disk).tells ≡ true) (some : 0 < old.batch) (seen : IsSeen old (tell old.disk) a) (fits : Fits a) (still : Quiet → IsQuiet a (tell old.disk))
-    (on : OnCourse list.rules batch x a (may_of old (tell old.disk)) (steps_of (take i lines)) Quiet first out waiting) where
+    (told : (tell old.disk).tells ≡ true) (tells : (tell new.disk).tells ≡ true) (some : 0 < old.batch) (seen : IsSeen old (tell old.disk) a) (fits : Fits a) (still : HasNoCuts begin → IsQuiet a (tell old.disk))
+    (on : OnCourse list.rules batch x a (may_of old (tell old.disk)) (steps_of (take i lines)) (over_run begin (tell old.disk) (Unit {0})) first out waiting) where
   pub stops_writes : (asked answered : Ending) (count rose : ℕ) → Stops tell old new (step_of item.step) asked → Ended asked answered out later count rose waiting
-      → WritesLines answered list.rules batch x Quiet (steps_of lines) first later (LeavesHistory list batch x (tell new.disk).may_leave)
+      → WritesLines answered list.rules batch x (HasNoCuts begin) (steps_of lines) first later (LeavesDisk answered list batch x begin (tell new.disk))
   stops_writes Memory answered count rose (ran, one, (text, called)) ended =
       let all = called told some a seen fits in
       let may = may_of old (tell old.disk) in
       let may' = may_of new (tell new.disk) in
       let parts = stop_parts lines i item ran within is_item one in
-      let more : OnCourse list.rules batch x all.0 may' (steps_of (take i lines) ++ ran) Quiet first out (waiting ++ text) =
-      course_more list.rules batch x Quiet ran (IsQuiet a (tell old.disk)) a all.0 may may' (steps_of (take i lines)) first out waiting (waiting ++ text) text still on
-      (steps_under list.rules old.memory.rules batch old.batch ran (IsQuiet a (tell old.disk)) a may all.0 may' text old_rules is_batch all.2) refl in
-      writes_files new (tell new.disk) all.0 list batch x Quiet (steps_of lines) first later answered tells all.1 new_rules new_digest
-      (course_memory list.rules batch x Quiet all.0 may' (steps_of (take i lines) ++ ran) first out (waiting ++ text) more (steps_of lines) parts.0 later waiting text answered count rose parts.1 refl ended)
+      let more : OnCourse list.rules batch x all.0 may' (steps_of (take i lines) ++ ran) (over_run begin (tell new.disk) ⊥) first out (waiting ++ text) =
+      course_more list.rules batch x (over_run begin (tell old.disk) (Unit {0})) ran (IsQuiet a (tell old.disk)) ⊥ (tell new.disk).faults a all.0 may may' (steps_of (take i lines)) first out waiting (waiting ++ text) text still tt on
+      (steps_under list.rules old.memory.rules batch old.batch ran (over_call a (tell old.disk) (tell new.disk) ⊥) a may all.0 may' text old_rules is_batch all.2) refl in
+      writes_files new begin (tell new.disk) all.0 list batch x (HasNoCuts begin) (steps_of lines) first later answered tells all.1 new_rules new_digest
+      (course_memory list.rules batch x (over_run begin (tell new.disk) ⊥) all.0 may' (steps_of (take i lines) ++ ran) first out (waiting ++ text) more (steps_of lines) parts.0 later waiting text answered count rose parts.1 refl ended)
   stops_writes (Store why) answered count rose stops ended = absurd (stops.1 told a seen)
   stops_writes Done answered count rose stops ended = absurd stops
   stops_writes Device answered count rose stops ended = absurd stops

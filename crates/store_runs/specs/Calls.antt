@@ -12,7 +12,8 @@ use Rattle.agent_model.specs.Isolation.{text_of}
 use Rattle.agent_core.specs.AgentView.{AgentView, may_of}
 use Rattle.agent_core.specs.Means.{AgentMay, Fails, Fits, Same, after_commit}
 use Rattle.agent_core.specs.Seen.{AgentSeen, IsSeen}
-use Rattle.store_runs.specs.Courses.{Steps}
+use Rattle.store_runs.specs.Courses.{Steps, Watch}
+use Rattle.store_runs.specs.Runs.{HasNoCuts}
 use Rattle.store_runs.specs.declared.ending.Ending.{Ending}
 use Rattle.store_runs.specs.declared.ending.Ending.TheVariants.{Done, Device, Store, Write, Memory}
 
@@ -24,16 +25,25 @@ IsQuiet a view = (a.up ≡ true) × (view.off ≡ false) × (view.cuts ≡ Some 
 abbrev pub StaysOrRose : (before now : ℕ) → Type 0
 StaysOrRose before now = (now ≡ before) ⊎ Rose before now
 
--- what an agent that goes on makes of faults: none where no call of the disk can fail, and its
--- disk's count rises where it goes down
-pub record Faults (a b : AgentSeen) (old new : View) : Type 0 where
-  pub quiet : IsQuiet a old → IsQuiet b new
-  pub counts : StaysOrRose old.faults new.faults
-  pub down : b.up ≡ false → (a.up ≡ false) ⊎ Rose old.faults new.faults
+-- what is known of faults over a call, by what the disk told before it and tells now
+abbrev pub over_call : AgentSeen → (old new : View) → (GoesOn : Type 0) → Watch
+over_call a old new GoesOn =
+    record {
+      Quiet = IsQuiet a old;
+      GoesOn = GoesOn;
+      before = old.faults;
+      now = new.faults;
+    }
 
--- since a first count, faults stayed or rose, and they rose where the agent is not up
-abbrev pub IsCounted : (first now : ℕ) → AgentSeen → Type 0
-IsCounted first now a = StaysOrRose first now × (a.up ≡ false → Rose first now)
+-- the same over a run so far
+abbrev pub over_run : (old new : View) → (GoesOn : Type 0) → Watch
+over_run old new GoesOn =
+    record {
+      Quiet = HasNoCuts old;
+      GoesOn = GoesOn;
+      before = old.faults;
+      now = new.faults;
+    }
 
 -- a call of an agent whose disk tells its contents ran these lines, whose text is this; and it goes
 -- on, or the run stops
@@ -43,9 +53,9 @@ Called tell old new GoesOn ran text =
     (tell old.disk).tells ≡ true → 0 < old.batch
     → (a : AgentSeen) → IsSeen old (tell old.disk) a → Fits a
     → (b : AgentSeen) × IsSeen new (tell new.disk) b
-    × Steps old.memory.rules old.batch ran (IsQuiet a (tell old.disk)) a
-    (may_of old (tell old.disk)) b (may_of new (tell new.disk)) text
-    × (GoesOn → Faults a b (tell old.disk) (tell new.disk))
+    × Steps old.memory.rules old.batch ran (over_call a (tell old.disk) (tell new.disk) GoesOn)
+    a (may_of old (tell old.disk)) b (may_of new (tell new.disk)) text
+    × (GoesOn → IsQuiet a (tell old.disk) → IsQuiet b (tell new.disk))
 
 -- a line ran, and its text waits
 abbrev pub Stepped : {D : Type 0} → (tell : D → View) → (old new : AgentView D) → PlainStep
@@ -86,13 +96,13 @@ EndsWith rules a b may may' old new Done before now =
     Commits rules a b may' × (now ≡ before ++ text_of a.held)
 EndsWith rules a b may may' old new Device before now =
     Fails rules a a b may may' (a.up ≡ true) × (now ≡ before) × (IsQuiet a old → ⊥)
-    × (StaysOrRose old.faults new.faults × (a.up ≡ true → Rose old.faults new.faults))
+    × (a.up ≡ true → Rose old.faults new.faults)
 EndsWith rules a b may may' old new Memory before now =
     (Commits rules a b may' ⊎ Same a may b may') × (now ≡ before)
 EndsWith rules a b may may' old new Write before now = ⊥
 EndsWith rules a b may may' old new (Store why) before now = ⊥
 
--- the same of an agent
+-- the same of an agent; the disk's count stays or rises
 abbrev pub Ends : {D : Type 0} → (tell : D → View) → (old new : AgentView D) → Ending
     → (before now : List ℕ) → Type 0
 Ends tell old new ending before now =
@@ -100,3 +110,4 @@ Ends tell old new ending before now =
     → (b : AgentSeen) × IsSeen new (tell new.disk) b
     × EndsWith old.memory.rules a b (may_of old (tell old.disk)) (may_of new (tell new.disk))
     (tell old.disk) (tell new.disk) ending before now
+    × StaysOrRose (tell old.disk).faults (tell new.disk).faults

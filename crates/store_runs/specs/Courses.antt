@@ -1,6 +1,6 @@
 -- How lines go on over an agent. Only private functions see it.
 -- Source: none; these are the words of the general law.
-use Rattle.std.specs.Prelude.{◌≡◌, ℕ, List, [], ◌++◌, Option}
+use Rattle.std.specs.Prelude.{◌≡◌, ◌≢◌, ℕ, ◌+◌, false, List, [], ◌++◌, Option}
 use Rattle.unwinding.specs.Admissible.{History}
 use Rattle.unwinding.specs.Course.{Course, course_steps}
 use Rattle.unwinding.specs.CourseSteps.{IsOn, course_transcript}
@@ -14,7 +14,9 @@ use Rattle.agent_core.specs.Means.{AgentMay}
 use Rattle.agent_core.specs.Seen.{AgentSeen}
 use Rattle.printed_model.specs.Histories.{closed_downs, down_reply, restart_reply}
 use Rattle.printed_model.specs.Left.{IsLeft}
-use Rattle.store_runs.specs.Waiting.{TakesFront}
+use Rattle.waiting_lines.specs.Waiting.{TakesFront}
+use Rattle.store_runs.specs.Faults.{RoseBy, closed_faults, epoch_faults, faults_of}
+use Rattle.store_runs.specs.declared.ending.Ending.{Ending}
 
 -- ---- courses
 
@@ -32,33 +34,60 @@ text_on rules x r =
 unfoldable pub downs_on : Course PlainAction → List PlainStep
 downs_on r = closed_downs r.closed ++ r.downs
 
+-- the faults that it shows so far
+unfoldable pub faults_on : Course PlainAction → ℕ
+faults_on r = closed_faults r.closed + epoch_faults r.downs
+
+-- where the agent is not up, a line of the open epoch was answered `down`
+abbrev pub Shows : AgentSeen → Course PlainAction → Type 0
+Shows a r = a.up ≡ false → r.downs ≢ []
+
+-- what is known of faults over some lines: when no call of the disk can fail, when the run goes on
+-- after them, and the disk's counts of faults before and after them
+pub record Watch : Type 1 where
+  pub Quiet : Type 0
+  pub GoesOn : Type 0
+  pub before : ℕ
+  pub now : ℕ
+
 -- a course goes on by some lines, which print a text. Where the disk cannot fail, none of them is
--- answered `down`.
-pub record Adds (rules : List Rule) (x : AgentOpening) (r q : Course PlainAction)
-    (ran : List PlainStep) (Quiet : Type 0) (text : List ℕ) : Type 0 where
+-- answered `down`. Since any first count, the disk's rose by all faults that are shown.
+pub record Adds (rules : List Rule) (x : AgentOpening) (a b : AgentSeen) (r q : Course PlainAction)
+    (ran : List PlainStep) (watch : Watch) (text : List ℕ) : Type 0 where
   pub steps : course_steps q ≡ course_steps r ++ ran
   pub prints : text_on rules x q ≡ text_on rules x r ++ text
-  pub downs : Quiet → downs_on q ≡ downs_on r
+  pub downs : watch.Quiet → downs_on q ≡ downs_on r
+  pub counted : (first : ℕ) → Shows a r → RoseBy (faults_on r) first watch.before
+      → RoseBy (faults_on q) first watch.now
+  pub shows : watch.GoesOn → Shows b q
 
 -- what some lines do to every course that the agent stands on
-abbrev pub Steps : List Rule → ℕ → List PlainStep → Type 0 → AgentSeen → AgentMay → AgentSeen
+abbrev pub Steps : List Rule → ℕ → List PlainStep → Watch → AgentSeen → AgentMay → AgentSeen
     → AgentMay → List ℕ → Type 0
-Steps rules batch ran Quiet a may b may' text =
+Steps rules batch ran watch a may b may' text =
     (x : AgentOpening) (r : Course PlainAction) → On rules batch x r a may
-    → (q : Course PlainAction) × On rules batch x q b may' × Adds rules x r q ran Quiet text
+    → (q : Course PlainAction) × On rules batch x q b may' × Adds rules x a b r q ran watch text
 
 -- a restart may find what a history leaves, and nothing else
 abbrev pub Leaves : List Rule → ℕ → AgentOpening → AgentMay → History PlainAction → Type 0
 Leaves rules batch x may history =
     (d : AgentDurable) (n : ℕ) → may d n → IsLeft rules batch x history d
 
--- the agent stands on a course of these lines, and of its text the sink took the front, and the
--- rest waits
+-- and the disk's count rose by the faults of a run that ended so
+abbrev pub Marks : List Rule → ℕ → AgentOpening → AgentMay → Ending → (before now : ℕ)
+    → History PlainAction → Type 0
+Marks rules batch x may ending before now history =
+    Leaves rules batch x may history × RoseBy (faults_of ending history) before now
+
+-- The agent stands on a course of these lines, and of its text the sink took the front, and the
+-- rest waits. The disk's count rose by the faults that are shown.
 pub record OnCourse (rules : List Rule) (batch : ℕ) (x : AgentOpening) (a : AgentSeen)
-    (may : AgentMay) (steps : List PlainStep) (Quiet : Type 0)
+    (may : AgentMay) (steps : List PlainStep) (watch : Watch)
     (before after : Option (List ℕ)) (waiting : List ℕ) : Type 0 where
   pub course : Course PlainAction
   pub on : On rules batch x course a may
   pub runs : course_steps course ≡ steps
-  pub downs : Quiet → downs_on course ≡ []
+  pub downs : watch.Quiet → downs_on course ≡ []
+  pub faults : RoseBy (faults_on course) watch.before watch.now
+  pub shows : watch.GoesOn → Shows a course
   pub text : TakesFront before after (text_on rules x course) waiting

@@ -1,10 +1,13 @@
 -- What a run over a disk writes and leaves, from the opening of its store on.
 -- Source: none; these are the words of the promise.
-use Rattle.std.specs.Prelude.{◌≡◌, ◌⊎◌, ℕ, true, List, [], Option, Some}
+use Rattle.std.specs.Prelude.{◌≡◌, ◌⊎◌, ℕ, ◌≤◌, true, false, List, [], ◌∷◌, Option, Some, Result}
+use Rattle.std.specs.Prelude.{Ok, Err}
 use Rattle.agent_base.specs.Counts.{Rose}
 use Rattle.agent_base.specs.Streams.{Takes}
 use Rattle.disk_model.specs.Disk.{HasFailed, IsSettled, View}
-use Rattle.journal.specs.Opening.{FileMeans, IsOfFile, IsOpening, IsRefusal}
+use Rattle.disk_model.specs.declared.schedule.Cut.{Cut}
+use Rattle.journal.specs.Opening.{AnswersByCuts, FileMeans, IsOfFile, IsOpening, IsRefusal}
+use Rattle.journal.specs.Opening.{opening_calls}
 use Rattle.journal.specs.declared.open_fault.OpenFault.{OpenFault}
 use Rattle.journal.specs.declared.open_fault.OpenFault.TheVariants as fault
 use Rattle.suffix_list.specs.ListText.{RuleList}
@@ -16,9 +19,17 @@ use Rattle.row_store.specs.Bodies.{Refuses}
 use Rattle.row_store.specs.Bodies as bodies
 use Rattle.printed_model.specs.Histories.{begins_at}
 use Rattle.store_runs.specs.Endings.{ending_of}
-use Rattle.store_runs.specs.Runs.{HasNoCuts, LeavesHistory, WritesLines}
+use Rattle.store_runs.specs.Faults.{LeavesDisk}
+use Rattle.store_runs.specs.Runs.{HasNoCuts, WritesLines}
 use Rattle.store_runs.specs.declared.ending.Ending.{Ending}
 use Rattle.store_runs.specs.declared.ending.Ending.TheVariants.{Device, Memory}
+
+-- the first opening answered so by the cuts that are to come, where these are told and the power is
+-- on: a device fault is the first of them, and at `Ok` that lies past the opening
+abbrev pub OpensByCuts : Result (Unit {0}) OpenFault → View → Type 0
+OpensByCuts answer view =
+    (c cuts : List ℕ) → view.contents ≡ Some c → view.off ≡ false → view.cuts ≡ Some cuts
+    → AnswersByCuts answer view.changing (opening_calls c) cuts
 
 -- The first opening was refused so: the sink took nothing, and a file that is no store of the list
 -- is as it was. Where nothing was pending, a cut leaves what it leaves of an opening.
@@ -29,6 +40,7 @@ pub record IsRefusedOn (list : RuleList) (why : OpenFault) (old new : View)
       → IsRefusal (bodies.Takes list.rules) (Refuses list.rules) nothing_saved true list.digest c
       why
   pub device : why ≡ fault.DeviceFault → Rose old.faults new.faults × HasFailed old new
+  pub cuts : OpensByCuts (Err why) old
   pub unchanged : IsOfFile why → new.contents ≡ old.contents
   pub images : IsSettled old → (c : List ℕ) → old.contents ≡ Some c → (file : List ℕ)
       → new.may_leave file → IsOpening list.digest c file
@@ -45,21 +57,31 @@ abbrev pub WritesOn : Ending → RuleList → (start batch : ℕ) → View → L
     → (before after : Option (List ℕ)) → View → Type 0
 WritesOn ending list start batch old steps before after new =
     ((why : OpenFault) × (ending ≡ ending_of why) × IsRefusedOn list why old new before after)
-    ⊎ ((base : Saved) × IsValid base × IsMeantBy list old base
+    ⊎ ((base : Saved) × IsValid base × IsMeantBy list old base × OpensByCuts (Ok tt) old
     × WritesLines ending list.rules batch (opened_at start base) (HasNoCuts old) steps before after
-    (LeavesHistory list batch (opened_at start base) new.may_leave))
+    (LeavesDisk ending list batch (opened_at start base) old new))
 
--- no store was made on an empty disk: memory was wanting, or a call of a disk with cuts failed
-abbrev pub IsUnopened : Ending → Type 0 → Type 0
-IsUnopened Device NoCuts = NoCuts → ⊥
-IsUnopened Memory NoCuts = Unit {0}
-IsUnopened ending NoCuts = ⊥
+-- ---- in memory
 
--- A run over a new store ended so. The sink took nothing where the first opening failed. Of what is
--- left nothing is said, since the disk is gone.
-abbrev pub WritesInMemory : Ending → List Rule → (start batch : ℕ) → Type 0 → List PlainStep
+-- the power is cut while a store is made on an empty disk: the number of the first cut is at most
+-- 7, for so many changing calls are made
+abbrev pub CutsOpening : List Cut → Type 0
+CutsOpening [] = ⊥
+CutsOpening (cut ∷ cuts) = cut.call ≤ opening_calls []
+
+-- no store was made on an empty disk: the power was cut before that, or memory was wanting
+abbrev pub IsUnopened : Ending → List Cut → Type 0
+IsUnopened Device cuts = CutsOpening cuts
+IsUnopened Memory cuts = Unit {0}
+IsUnopened ending cuts = ⊥
+
+-- A run over a new store, whose power is cut so, ended so. The sink took nothing where the first
+-- opening failed. It is not opened where a cut falls into the opening. Of what is left nothing is
+-- said, since the disk is gone.
+abbrev pub WritesInMemory : Ending → List Rule → (start batch : ℕ) → List Cut → List PlainStep
     → (before after : Option (List ℕ)) → Type 0
-WritesInMemory ending rules start batch NoCuts steps before after =
-    (IsUnopened ending NoCuts × Takes before after [])
-    ⊎ WritesLines ending rules batch (begins_at start) NoCuts steps before after
-    (λ history. Unit {0})
+WritesInMemory ending rules start batch cuts steps before after =
+    (IsUnopened ending cuts × Takes before after [])
+    ⊎ ((CutsOpening cuts → ⊥)
+    × WritesLines ending rules batch (begins_at start) (cuts ≡ []) steps before after
+    (λ history. Unit {0}))

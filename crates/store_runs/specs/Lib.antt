@@ -3,6 +3,7 @@ pub mod Steps
 pub mod Endings
 pub mod Openings
 pub mod Runs
+pub mod Faults
 pub mod Disks
 -- What private functions compute. No public clause rests on it.
 pub mod Waiting

@@ -91,7 +91,7 @@ pub fn run_in_memory<O: Sink>(
     requires cuts { AreFrom 1 cuts.items }
     requires fits { length lines.now + 2 < 2 ^ 64 }
     ensures written { WritesInMemory result list.now.rules options.start options.batch
-        (cuts.items ≡ []) (steps_of lines.now) (O.taken out.old) (O.taken out.new) }
+        cuts.items (steps_of lines.now) (O.taken out.old) (O.taken out.new) }
     ensures write { WriteCounts result (O.faults out.old) (O.faults out.new) }
 {
     let disk = MemDisk::new(alloc, Vec::new(alloc), cuts, Vec::new(alloc));

@@ -8,7 +8,8 @@ ghost use Rattle.agent_core.specs.Seen.{AgentSeen, IsSeen};
 ghost use Rattle.store_runs.specs.Calls.{Ends, IsEnd, Stepped, Stops};
 ghost use Rattle.store_runs.specs.Endings.{IsStoreEnding, TellsPower, WriteCounts};
 ghost use Rattle.store_runs.specs.Openings.{GoesOn, IsOpenedAt};
-ghost use Rattle.store_runs.specs.Runs.{HasNoCuts, LeavesHistory};
+ghost use Rattle.store_runs.specs.Faults.{LeavesDisk};
+ghost use Rattle.store_runs.specs.Runs.{HasNoCuts};
 ghost use Rattle.store_runs.specs.Openings.{list_of};
 ghost use Rattle.store_runs.specs.Runs.{WritesLines};
 ghost use Rattle.store_runs.specs.Steps.{steps_of};
@@ -16,13 +17,14 @@ ghost use Rattle.store_runs.specs.Steps.{steps_of};
 use crate::Ending;
 use crate::ending::refused;
 use crate::replies::{down, restarted};
-use crate::waiting::{end, hold, hold_all, write_many};
+use crate::waiting::{end, hold, hold_all};
 use agent_base::{NoMemory, Sink};
 use agent_core::{Agent, Outcome};
 use disk_model::Disk;
 use journal::OpenFault;
 use script_actions::{Action, Line, Step};
 use std::alloc::Global;
+use waiting_lines::write_many;
 
 /// Runs the lines over an agent, and writes the replies to `out`.
 ///
@@ -41,8 +43,8 @@ pub fn run_lines<D: Disk + Drop, O: Sink>(
         → WritesLines result agent.old.memory.rules agent.old.batch opening
         (HasNoCuts (D.view agent.old.disk)) (steps_of lines.now)
         (O.taken out.old) (O.taken out.new)
-        (LeavesHistory (list_of agent.old) agent.old.batch opening
-        (D.view agent.new.disk).may_leave) }
+        (LeavesDisk result (list_of agent.old) agent.old.batch opening
+        (D.view agent.old.disk) (D.view agent.new.disk)) }
     ensures power { (opening : AgentOpening)
         → IsOpenedAt agent.old (D.view agent.old.disk) opening
         → TellsPower result agent.new.power }

@@ -1,17 +1,12 @@
 //! Replies that wait in memory, and are written together.
 ghost use Rattle.std.specs.Prelude.{◌≡◌, ◌++◌, OnErr, OnOk, map};
-ghost use Rattle.agent_base.specs.Counts.{HasCause};
-ghost use Rattle.agent_base.specs.Streams.{TakesPrefix};
 ghost use Rattle.reply_lines.specs.Plain.{reply_of};
 ghost use Rattle.reply_lines.specs.Reply.{reply_text};
-ghost use Rattle.store_runs.specs.Waiting.{Ended, TakesFront, replies_text};
+ghost use Rattle.store_runs.specs.Waiting.{Ended, replies_text};
 
 use crate::Ending;
-use agent_base::{Failed, NoMemory, Sink, write_all};
+use agent_base::{NoMemory, Sink, write_all};
 use reply_lines::{Reply, print_into};
-
-// So many bytes of replies are written together.
-const MOST_WAITING: usize = 65_536;
 
 /// The text of a reply waits behind what waits already. It is made in a buffer that is kept from
 /// reply to reply.
@@ -44,22 +39,6 @@ pub fn hold_all(
             return Err(NoMemory);
         };
     }
-    Ok(())
-}
-
-/// Writes what waits, once it is so much that it is written together.
-pub fn write_many<O: Sink>(out: &mut O, waiting: &mut Vec<u8>) -> Result<(), Failed>
-    ensures written { OnOk result (TakesFront (O.taken out.old) (O.taken out.new)
-        waiting.old.items waiting.new.items) }
-    ensures prefix { OnErr result
-        (TakesPrefix (O.taken out.old) (O.taken out.new) waiting.old.items) }
-    ensures cause { HasCause (O.faults out.old) (O.faults out.new) result }
-{
-    if waiting.len() < MOST_WAITING {
-        return Ok(());
-    }
-    write_all(out, waiting)?;
-    waiting.clear();
     Ok(())
 }
 

@@ -1,14 +1,13 @@
-use Rattle.std.proofs.Common.{◌≡◌, [], refl, ap, ◌∙◌}
+use Rattle.std.proofs.Common.{refl, ap, ◌∙◌}
 use Rattle.std.specs.Prelude.{is_some}
 use Rattle.disk_model.specs.MemDisk.{view_of}
 use Rattle.store_runs.specs.Steps.{steps_of}
-use Rattle.store_runs.proofs.DiskLemmas.{held_nothing, memory_writes, no_numbers}
+use Rattle.store_runs.proofs.DiskLemmas.{held_nothing, memory_writes}
 use Rattle.store_runs.proofs.disks.run_in_memory.Goals as goal
 
 pub returns-clause-written : goal.returns-clause-written
 returns-clause-written g c =
     let disk = view_of c.new-disk.result in
-    memory_writes c.run_on.result.ending c.args.list.now c.args.options.start c.args.options.batch (c.args.cuts.items ≡ []) disk (view_of c.run_on.result.disk) (steps_of c.args.lines.now) (g.O.Sink.taken c.args.out.now) (g.O.Sink.taken c.run_on.new.out)
-    (held_nothing c.new-disk.result.past (c.new-disk.ensures.contents.0 ∙ c.new.ensures.items) c.new-disk.ensures.contents.1)
-    (λ none. (ap (λ plan. is_some plan.off) c.new-disk.ensures.plan, no_numbers c.args.cuts.items disk.cuts (c.new-disk.ensures.cuts c.new-2.ensures.items) none))
-    (c.run_on.ensures.written refl)
+    memory_writes c.args.cuts.items disk (held_nothing c.new-disk.result.past (c.new-disk.ensures.contents.0 ∙ c.new.ensures.items) c.new-disk.ensures.contents.1)
+    (ap (λ plan. is_some plan.off) c.new-disk.ensures.plan) (c.new-disk.ensures.cuts c.new-2.ensures.items) (ap (λ plan. plan.calls) c.new-disk.ensures.plan)
+    c.run_on.result.ending c.args.list.now c.args.options.start c.args.options.batch (view_of c.run_on.result.disk) (steps_of c.args.lines.now) (g.O.Sink.taken c.args.out.now) (g.O.Sink.taken c.run_on.new.out) (c.run_on.ensures.written refl)

@@ -2,10 +2,12 @@ use Rattle.std.proofs.Common.{sym, ap, subst, ◌∙◌}
 use Rattle.agent_base.specs.Counts.{Rose}
 use Rattle.agent_base.proofs.Pieces.{takes_none}
 use Rattle.durable_model.specs.Histories.{opened_at}
-use Rattle.store_runs.specs.Disks.{WritesOn}
+use Rattle.std.specs.Prelude.{Ok}
+use Rattle.journal.specs.Opening.{opening_calls}
+use Rattle.store_runs.specs.Disks.{OpensByCuts, WritesOn}
 use Rattle.store_runs.specs.Endings.{IsStoreEnding, WriteCounts}
 use Rattle.store_runs.specs.Steps.{steps_of}
-use Rattle.store_runs.proofs.DiskLemmas.{opened_here, opened_writes, refused_ends, refused_writes}
+use Rattle.store_runs.proofs.DiskLemmas.{fails_within, opened_here, opened_writes, opens_past, refused_ends, refused_writes}
 use Rattle.store_runs.proofs.EndLemmas.{refused_device, refused_stays, refused_store}
 use Rattle.store_runs.proofs.disks.run_on.Goals as goal
 
@@ -24,8 +26,10 @@ returns-in-Ok-clause-written g c = λ told.
     let base = seen.0 in
     let under = c.in-Ok.ensures.rules in
     let opened = opened_here list start batch old view agent base under.0 under.1 under.2 (c.in-Ok.ensures.tells ∙ told) c.requires.batch.0 seen.2.0 seen.2.1 in
+    let cuts : OpensByCuts (Ok tt) old = λ bytes numbers contents on cut.
+    opens_past old view (opening_calls bytes) (g.met.D.Disk.lawful c.args.disk) (g.met.D.Disk.lawful agent.disk) c.in-Ok.ensures.powered (c.in-Ok.ensures.calls bytes contents).all numbers cut in
     subst (λ disk. WritesOn c.run_lines-ending.result list start batch old steps before after (g.D.Disk.view disk)) (sym c.into_disk.ensures)
-    (opened_writes list start batch old view agent base under.0 under.1 under.2 seen.1 c.run_lines-ending.result (g.D.Disk.view c.run_lines-ending.new.agent.disk) steps before after c.in-Ok.ensures.powered seen.2.2 (c.run_lines-ending.ensures.written (opened_at start base) opened))
+    (opened_writes list start batch old view agent base under.0 under.1 under.2 seen.1 c.run_lines-ending.result (g.D.Disk.view c.run_lines-ending.new.agent.disk) steps before after c.in-Ok.ensures.powered c.in-Ok.ensures.others.faults seen.2.2 cuts (c.run_lines-ending.ensures.written (opened_at start base) opened))
 
 pub returns-in-Ok-clause-refused : goal.returns-in-Ok-clause-refused
 returns-in-Ok-clause-refused g c = λ why bytes contents of is. absurd (c.in-Ok.ensures.exactly why bytes contents of is)
@@ -51,7 +55,10 @@ returns-in-Ok-clause-tells g c = ap (λ disk. (g.D.Disk.view disk).tells) c.into
 pub returns-in-Err-clause-written : goal.returns-in-Err-clause-written
 returns-in-Err-clause-written g c = λ told.
     refused_writes c.refused.result c.args.list.now c.args.options.start c.args.options.batch c.in-Err.refusal.why (g.D.Disk.view c.args.disk) (g.D.Disk.view c.in-Err.refusal.disk) (steps_of c.args.lines.now) (g.O.Sink.taken c.args.out.now) c.refused.ensures
-    c.in-Err.ensures.refused c.in-Err.ensures.device c.in-Err.ensures.unchanged c.in-Err.ensures.any_moment (g.met.D.Disk.lawful c.in-Err.refusal.disk)
+    c.in-Err.ensures.refused c.in-Err.ensures.device
+    (λ bytes numbers contents on cut. fails_within (g.D.Disk.view c.args.disk) (g.D.Disk.view c.in-Err.refusal.disk) (opening_calls bytes) (g.met.D.Disk.lawful c.args.disk) (g.met.D.Disk.lawful c.in-Err.refusal.disk) c.in-Err.refusal.why
+    (λ is. (c.in-Err.ensures.device is).1) (c.in-Err.ensures.calls bytes contents).most on numbers cut)
+    c.in-Err.ensures.unchanged c.in-Err.ensures.any_moment (g.met.D.Disk.lawful c.in-Err.refusal.disk)
 
 pub returns-in-Err-clause-refused : goal.returns-in-Err-clause-refused
 returns-in-Err-clause-refused g c = λ why bytes contents of is.

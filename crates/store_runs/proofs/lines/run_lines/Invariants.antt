@@ -2,7 +2,7 @@ use Rattle.std.proofs.Common.{◌≡◌, take}
 use Rattle.durable_model.specs.Histories.{AgentOpening}
 use Rattle.agent_core.specs.AgentView.{may_of}
 use Rattle.agent_core.specs.Seen.{AgentSeen, IsSeen}
-use Rattle.store_runs.specs.Calls.{IsCounted, IsQuiet}
+use Rattle.store_runs.specs.Calls.{IsQuiet, over_run}
 use Rattle.store_runs.specs.Courses.{OnCourse}
 use Rattle.store_runs.specs.Openings.{GoesOn, IsOpenedAt}
 use Rattle.store_runs.specs.Runs.{HasNoCuts}
@@ -16,7 +16,6 @@ invariant-loop-line g l = record {
   still : g.O.Sink.faults l.out ≡ g.O.Sink.faults l.fn.out;
   course : (opening : AgentOpening) → IsOpenedAt l.fn.agent (g.D.Disk.view l.fn.agent.disk) opening
       → (b : AgentSeen) × IsSeen l.agent (g.D.Disk.view l.agent.disk) b × (HasNoCuts (g.D.Disk.view l.fn.agent.disk) → IsQuiet b (g.D.Disk.view l.agent.disk))
-      × IsCounted (g.D.Disk.view l.fn.agent.disk).faults (g.D.Disk.view l.agent.disk).faults b
-      × OnCourse l.fn.agent.memory.rules l.fn.agent.batch opening b (may_of l.agent (g.D.Disk.view l.agent.disk)) (steps_of (take l.line-index l.lines)) (HasNoCuts (g.D.Disk.view l.fn.agent.disk))
+      × OnCourse l.fn.agent.memory.rules l.fn.agent.batch opening b (may_of l.agent (g.D.Disk.view l.agent.disk)) (steps_of (take l.line-index l.lines)) (over_run (g.D.Disk.view l.fn.agent.disk) (g.D.Disk.view l.agent.disk) (Unit {0}))
       (g.O.Sink.taken l.fn.out) (g.O.Sink.taken l.out) l.waiting.items;
 }

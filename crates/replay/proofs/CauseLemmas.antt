@@ -11,7 +11,8 @@ use Rattle.replay.specs.BeforeAfter.{BeforeAfter}
 use Rattle.replay.specs.Causes.{DeviceCounts, ListCause, ReadCause, ReadCounts, RoseByStore}
 use Rattle.replay.specs.Loop.{IsAfterList, IsListOf, ScriptCounts, StoreCounts}
 use Rattle.replay.specs.Runs.{ListRead, ReadAndRan, ScriptRead, WritesScript, Written}
-use Rattle.replay.specs.Stores.{Images, RanOverStore, RanStored}
+use Rattle.replay.specs.Openings.{Images}
+use Rattle.replay.specs.Stores.{RanOverStore, RanStored}
 use Rattle.replay.specs.declared.status.Status.{Status}
 use Rattle.replay.specs.declared.status.Status.TheVariants.{Done, Usage, Script, List as ListStatus, Store, Read, Write, Device, Memory}
 use Rattle.replay.proofs.StatusLemmas.{written_weaker}
@@ -122,11 +123,11 @@ dump_device list store tells stores Memory rose = tt
 
 -- ---- what the host told before the list was read
 
-module _ (start batch : ℕ) (taken : BeforeAfter (Option (List ℕ))) (old mid after : Images) (same : SameImages old mid) where
-  pub ran_before : (e : Ending) (list : RuleList) (steps : List _) → RanOverStore start batch taken mid after e list steps → RanOverStore start batch taken old after e list steps
+module _ (start batch : ℕ) (taken : BeforeAfter (Option (List ℕ))) (counts : BeforeAfter ℕ) (old mid after : Images) (same : SameImages old mid) where
+  pub ran_before : (e : Ending) (list : RuleList) (steps : List _) → RanOverStore start batch taken counts mid after e list steps → RanOverStore start batch taken counts old after e list steps
   ran_before e list steps ran = record { file = ran.file; found = same.no_more ran.file ran.found; wrote = ran.wrote; refused = ran.refused }
 
-  pub stored_before : (tells told : Bool) → told ≡ tells → (e : Ending) (list : RuleList) (script : PlainScript) → RanStored start batch taken told mid after e list script → RanStored start batch taken tells old after e list script
+  pub stored_before : (tells told : Bool) → told ≡ tells → (e : Ending) (list : RuleList) (script : PlainScript) → RanStored start batch taken counts told mid after e list script → RanStored start batch taken counts tells old after e list script
   stored_before tells told is e list script ran tell = ran_before e list _ (ran (is ∙ tell))
 
 pub others_before : (path : List ℕ) (old mid new : List ℕ → Images) → LeavesStores old mid → LeavesOtherStores path mid new → LeavesOtherStores path old new

@@ -6,7 +6,7 @@ use Rattle.command_line.specs.Words.{PlainCommand, Help, Replay, Dump, ReadsList
 use Rattle.hosts.specs.Hosts.{LeavesStores}
 use Rattle.replay.specs.BeforeAfter.{from_to}
 use Rattle.replay.specs.Loop.{Obeys}
-use Rattle.replay.specs.Stores.{Images}
+use Rattle.replay.specs.Openings.{Images}
 use Rattle.replay.specs.declared.status.Status.{Status}
 use Rattle.replay.specs.declared.status.Status.TheVariants.{Usage, Memory}
 use Rattle.replay.proofs.CauseLemmas.{others_left, rose_by_none}

@@ -25,7 +25,8 @@ use Rattle.replay.specs.Causes.{ReadCounts, WriteCounts}
 use Rattle.replay.specs.Endings.{DumpCanEnd}
 use Rattle.replay.specs.Loop.{HasRun, HostCounts, IsAfterList, IsListOf, Obeys, StoreCounts, dump_ending}
 use Rattle.replay.specs.Runs.{ListRead, Written}
-use Rattle.replay.specs.Stores.{DumpedRows, DumpedStore, Images, IsExcusedEnding, LeavesOpening, Unopened, WritesRows}
+use Rattle.replay.specs.Openings.{Images, IsExcusedEnding, LeavesOpening, Unopened}
+use Rattle.replay.specs.Stores.{DumpedRows, DumpedStore, WritesRows}
 use Rattle.replay.specs.declared.status.Status.{Status}
 use Rattle.replay.specs.declared.status.Status.TheVariants.{Done, Usage, Script, List as ListStatus, Store, Read, Device, Memory}
 use Rattle.replay.specs.declared.status.Status.TheVariants as status

@@ -8,7 +8,8 @@ use Rattle.replay.specs.Causes.{ReadCounts, ReadsNoScript, ScriptCauseOf, WriteC
 use Rattle.replay.specs.Endings.{ScriptCanEnd}
 use Rattle.replay.specs.Loop.{IsAfterList, IsListOf, Obeys, ScriptCounts, StoreCounts}
 use Rattle.replay.specs.Runs.{RanInMemory, ScriptRead, Written}
-use Rattle.replay.specs.Stores.{Images, RanStored}
+use Rattle.replay.specs.Openings.{Images}
+use Rattle.replay.specs.Stores.{RanStored}
 use Rattle.replay.specs.declared.status.Status.{Status}
 use Rattle.replay.specs.declared.status.Status.TheVariants.{Done, Usage, Script, List as ListStatus, Store, Read, Write, Device, Memory}
 use Rattle.replay.proofs.CauseLemmas.{later_list, list_fine, others_before, replay_device, script_read_cause, script_read_counts, store_read_cause, stored_before, writes_under}
@@ -67,17 +68,17 @@ module _ {HostStays ScriptStays : Type 0} (lists : List ℕ → Option (List ℕ
 
   -- the script ran over the store of a path
   pub obeys_stored : (store : List ℕ) (list : RuleList) (told : Bool) → IsListOf (lists path) list → LeavesStores old mid → told ≡ tells → lists_out.after ≡ lists_out.before → (store_out : Option (List ℕ)) → store_out ≡ None
-      → Written status taken (λ e. (read : ScriptRead false left) × RanStored start batch taken told (mid store) (new store) e list read.script)
+      → Written status taken (λ e. (read : ScriptRead false left) × RanStored start batch taken counts told (mid store) (new store) e list read.script)
       → ScriptCanEnd (Some store) status → IsAfterList status → ScriptCauseOf false status left.before → ReadCounts status host counts script → (told ≡ true → StoreCounts status counts) → WriteCounts status out → LeavesOtherStores store mid new
       → Obeys (Some (Replay path (Some store) batch start)) status lists tells old new left taken host counts reads script out lists_out store_out HostStays ScriptStays
   obeys_stored store list told read stores is closed store_out store_closed text ends later cause read_counts device write others =
       let fine = list_fine (lists path) list read in
       let same = stores store in
       record {
-        text = writes_under status false (lists path) left taken list (RanStored start batch taken tells (old store) (new store)) read
-            (written_weaker status taken (λ e. (read : ScriptRead false left) × RanStored start batch taken told (mid store) (new store) e list read.script)
-            (λ e. (read : ScriptRead false left) × RanStored start batch taken tells (old store) (new store) e list read.script)
-            (λ e ran. (ran.0, stored_before start batch taken (old store) (mid store) (new store) same tells told is e list ran.0.script ran.1)) text);
+        text = writes_under status false (lists path) left taken list (RanStored start batch taken counts tells (old store) (new store)) read
+            (written_weaker status taken (λ e. (read : ScriptRead false left) × RanStored start batch taken counts told (mid store) (new store) e list read.script)
+            (λ e. (read : ScriptRead false left) × RanStored start batch taken counts tells (old store) (new store) e list read.script)
+            (λ e ran. (ran.0, stored_before start batch taken counts (old store) (mid store) (new store) same tells told is e list ran.0.script ran.1)) text);
         usage = no_usage status (Replay path (Some store) batch start) (later_usage status later);
         ends = ends;
         refused = cause;

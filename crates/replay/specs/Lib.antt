@@ -3,6 +3,7 @@ pub mod BeforeAfter
 pub mod FaultLines
 pub mod Words
 pub mod Runs
+pub mod Openings
 pub mod Stores
 pub mod Endings
 pub mod Causes

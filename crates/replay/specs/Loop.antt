@@ -16,7 +16,8 @@ use Rattle.hosts.specs.Hosts.{HasLeft}
 use Rattle.command_line.specs.Words.{PlainCommand}
 use Rattle.replay.specs.BeforeAfter.{BeforeAfter}
 use Rattle.replay.specs.Words.{list_named, store_named}
-use Rattle.replay.specs.Stores.{Images, LeavesAllBut, Writes}
+use Rattle.replay.specs.Openings.{Images}
+use Rattle.replay.specs.Stores.{LeavesAllBut, Writes}
 use Rattle.replay.specs.Causes.{DeviceCounts, ListCause, ReadCause, ReadCounts, ScriptCause}
 use Rattle.replay.specs.Endings.{CanEnd}
 use Rattle.replay.specs.Causes.{OpensNoList, ReadsNoScript, ScriptFaulty}
@@ -114,7 +115,7 @@ pub record Obeys (command : Option PlainCommand) (status : Status)
     (left taken : BeforeAfter (Option (List ℕ)))
     (host stores reads script out lists_out : BeforeAfter ℕ) (store_out : Option (List ℕ))
     (HostStays ScriptStays : Type 0) : Type 0 where
-  pub text : Writes command status lists tells before after left taken
+  pub text : Writes command status lists tells before after stores left taken
   pub usage : (status ≡ Usage) ↔ (command ≡ None)
   pub ends : CanEnd command status
   pub refused : ScriptCause command status left.before

@@ -68,7 +68,7 @@ WritesScript status cuts_allowed told left taken Ran =
 abbrev pub RanInMemory : (start batch : ℕ) → (taken : BeforeAfter (Option (List ℕ)))
     → Ending → RuleList → PlainScript → Type 0
 RanInMemory start batch taken ending list script =
-    WritesInMemory ending list.rules start batch (script.cuts ≡ []) (steps_in script)
+    WritesInMemory ending list.rules start batch script.cuts (steps_in script)
     taken.before taken.after
 
 -- ---- the usage line

@@ -43,6 +43,7 @@ pub fn run<H: Host, I: Source, O: Sink, E: Sink>(
     // What was printed, and what is left of the store.
     ensures text { Writes (command_of (map string_bytes words.now)) result (H.lists host.old)
         (H.tells_stores host.old) (H.stores host.old) (H.stores host.new)
+        (from_to (H.store_faults host.old) (H.store_faults host.new))
         (from_to (I.left script.old) (I.left script.new))
         (from_to (O.taken out.old) (O.taken out.new)) }
 
@@ -121,20 +122,24 @@ fn command<H: Host, I: Source, O: Sink>(
                     start,
                 },
             ),
-        ) => replay(
-            alloc,
-            list,
-            store,
-            Options { start, batch },
-            host,
-            script,
-            out,
-        ),
+        ) => replay(alloc, list, store, options(start, batch), host, script, out),
         Ok(Some(Command::Dump { list, store })) => dump_store(
             alloc, list, store, host, script, out,
         ),
         Ok(None) => Status::Usage,
         Err(NoMemory) => Status::Memory,
+    }
+}
+
+// How the agent of a run begins. It makes no checkpoint.
+fn options(start: u64, batch: u16) -> Options
+    ensures start { result.start ≡ start }
+    ensures batch { result.batch ≡ batch }
+{
+    Options {
+        start,
+        batch,
+        checkpoint: 0,
     }
 }
 

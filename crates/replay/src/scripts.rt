@@ -107,7 +107,8 @@ fn run_stored<H: Host, I: Source, O: Sink>(
     ensures text { Written result (from_to (O.taken out.old) (O.taken out.new)) (λ ended.
         (read : ScriptRead false (from_to (I.left script.old) (I.left script.new)))
         × RanStored options.start options.batch
-        (from_to (O.taken out.old) (O.taken out.new)) (H.tells_stores host.old)
+        (from_to (O.taken out.old) (O.taken out.new))
+        (from_to (H.store_faults host.old) (H.store_faults host.new)) (H.tells_stores host.old)
         (H.stores host.old path.now) (H.stores host.new path.now) ended list.now read.script) }
     ensures ends { ScriptCanEnd (Some path.now) result }
     ensures later { IsAfterList result }
@@ -145,7 +146,8 @@ fn run_over<H: Host, O: Sink>(
     requires closed { H.store_out host.old ≡ None }
     ensures text { Written result (from_to (O.taken out.old) (O.taken out.new)) (λ ended.
         RanLines options.start options.batch (from_to (O.taken out.old) (O.taken out.new))
-        (H.tells_stores host.old) (H.stores host.old path.now) (H.stores host.new path.now) ended
+        (from_to (H.store_faults host.old) (H.store_faults host.new)) (H.tells_stores host.old)
+        (H.stores host.old path.now) (H.stores host.new path.now) ended
         list.now (steps_of lines.now)) }
     ensures ran { HasRun result }
     ensures counts { HostCounts result (from_to (H.faults host.old) (H.faults host.new))

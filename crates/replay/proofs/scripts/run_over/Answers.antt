@@ -1,4 +1,5 @@
-use Rattle.std.proofs.Common.{◌∙◌, subst, sym}
+use Rattle.std.proofs.Common.{◌∙◌, ap, subst, sym}
+use Rattle.hosts.specs.Hosts.{raised}
 use Rattle.replay.specs.BeforeAfter.{from_to}
 use Rattle.replay.specs.Runs.{Written}
 use Rattle.replay.specs.Stores.{RanLines}
@@ -17,16 +18,17 @@ returns-in-Ok-clause-text g c =
     let after = g.H.Host.stores c.close_store.new.self path in
     let taken = from_to (g.O.Sink.taken c.args.out.now) (g.O.Sink.taken c.run_on-finished.new.out) in
     let ended = c.run_on-finished.result.ending in
+    let counts = from_to (g.H.Host.store_faults c.args.host.now) (g.H.Host.store_faults c.close_store.new.self) in
     let tells = g.H.Host.tells_stores c.args.host.now in
-    let ran : RanLines options.start options.batch taken tells before after ended list steps =
+    let ran : RanLines options.start options.batch taken counts tells before after ended list steps =
     λ tell.
     let held = c.in-Ok.ensures.told tell in
     record {
       file = held.0;
       found = held.2;
-      wrote = store_writes ended list options.start options.batch held.0 _ _ steps taken after held.1 c.in-Ok.ensures.settled (c.close_store.ensures.told (c.in-Ok.ensures.tells ∙ tell))
+      wrote = store_writes ended list options.start options.batch held.0 _ _ steps taken counts after held.1 c.in-Ok.ensures.settled c.in-Ok.ensures.fresh (c.close_store.ensures.store_faults ∙ ap (raised _) c.in-Ok.ensures.store_faults) (c.close_store.ensures.told (c.in-Ok.ensures.tells ∙ tell))
           (c.run_on-finished.ensures.written ((g.met.H.Store.Disk.lawful c.in-Ok.disk).tells_contents held.0 held.1));
       refused = λ why of why_so. (c.run_on-finished.ensures.refused why held.0 held.1 of why_so).1;
     } in
-    subst (λ s. Written s taken (λ e. RanLines options.start options.batch taken tells before after e list steps)) (sym c.status.ensures)
-    (written_of ended taken (λ e. RanLines options.start options.batch taken tells before after e list steps) ran)
+    subst (λ s. Written s taken (λ e. RanLines options.start options.batch taken counts tells before after e list steps)) (sym c.status.ensures)
+    (written_of ended taken (λ e. RanLines options.start options.batch taken counts tells before after e list steps) ran)

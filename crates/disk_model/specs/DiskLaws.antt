@@ -9,6 +9,8 @@ pub record IsLawful (view : View) : Type 0 where
   pub counts_now : (t : ℕ) (c : List ℕ) → t ≤ view.moment → view.may_leave c → view.left_since t c
   -- since this moment there is no other
   pub only_now : (c : List ℕ) → view.left_since view.moment c → view.may_leave c
+  -- what is told since a moment is told since each earlier one
+  pub earlier : (s t : ℕ) (c : List ℕ) → s ≤ t → view.left_since t c → view.left_since s c
   -- what tells has contents, and nothing else has
   pub told : view.tells ≡ true → (c : List ℕ) × (view.contents ≡ Some c)
   pub tells_contents : (c : List ℕ) → view.contents ≡ Some c → view.tells ≡ true

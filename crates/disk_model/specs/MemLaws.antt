@@ -1,5 +1,5 @@
 -- What a disk in memory tells keeps to the laws of a disk.
-use Rattle.std.proofs.Common.{◌≡◌, ℕ, ◌<◌, true, List, subst, refl}
+use Rattle.std.proofs.Common.{◌≡◌, ℕ, ◌<◌, true, List, arith, subst, refl}
 use Rattle.std.specs.Prelude.{Some, None, All, length, ◌==◌, nat_lt}
 use Rattle.std.proofs.lemmas.Bool.{cond_both, ltb-true}
 use Rattle.std.proofs.lemmas.List.Elements.{All-weaker, filter_passes}
@@ -40,6 +40,7 @@ pub mem_lawful : (disk : MemView) → IsLawful (view_of disk)
 mem_lawful disk = record {
   counts_now = λ t c le image. now_counts disk.past.first disk.past.events disk.base t c le image;
   only_now = λ c since. now_only disk.past.first disk.past.events disk.base c since;
+  earlier = λ s t c le since. (since.0, since.1, omega (arith, le, since.2), since.3);
   told = λ e. ((held disk.past).contents, refl);
   tells_contents = λ c is. refl;
   contents_may_stay = λ c is. is_contents disk.past c is;

@@ -23,7 +23,8 @@ store_of j file frames s = record { live = j.live; number = j.number; begin = j.
 pub store_born : (digest file : List ℕ) (frames : List Frame) → IsStore digest file frames → IsOpen file 0 × (1 < length file)
 store_born digest file frames s = (s.head.gate, omega (arith, s.from, begins_within file s.begin frames s.frames_at))
 
-store_is_born : (digest file : List ℕ) (frames : List Frame) → IsStore digest file frames → IsUnborn file → ⊥
+-- a store is no unborn file
+pub store_is_born : (digest file : List ℕ) (frames : List Frame) → IsStore digest file frames → IsUnborn file → ⊥
 store_is_born digest file frames s (inl short) = let born = store_born digest file frames s in absurd (omega (arith, born.1, short))
 store_is_born digest file frames s (inr shut) = s.head.gate.1 shut
 

@@ -135,45 +135,54 @@ impl Change {
     pub fn copy(&self, alloc: Global) -> Result<Change, NoMemory>
         ensures same { IfOk result (λ c. plain_change c ≡ plain_change self.now) }
     {
+        self.borrowed().copy(alloc)
+    }
+}
+
+impl<'a> ChangeRef<'a> {
+    /// The same row change, over memory of its own.
+    pub fn copy(self, alloc: Global) -> Result<Change, NoMemory>
+        ensures same { IfOk result (λ c. plain_change c ≡ plain_ref self.entry) }
+    {
         match self {
-            Change::AreaPut { key, name, value } => Ok(Change::AreaPut {
+            ChangeRef::AreaPut { key, name, value } => Ok(Change::AreaPut {
                 key: key.copy(alloc)?,
-                name: String::from_str(alloc, name.as_str())?,
-                value: String::from_str(alloc, value.as_str())?,
+                name: String::from_str(alloc, name)?,
+                value: String::from_str(alloc, value)?,
             }),
-            Change::AreaRemove { key, name } => Ok(Change::AreaRemove {
+            ChangeRef::AreaRemove { key, name } => Ok(Change::AreaRemove {
                 key: key.copy(alloc)?,
-                name: String::from_str(alloc, name.as_str())?,
+                name: String::from_str(alloc, name)?,
             }),
-            Change::AreaClear { key } => Ok(Change::AreaClear {
-                key: key.copy(alloc)?,
-            }),
-            Change::SetMode { key } => Ok(Change::SetMode {
+            ChangeRef::AreaClear { key } => Ok(Change::AreaClear {
                 key: key.copy(alloc)?,
             }),
-            Change::CookieInsert {
+            ChangeRef::SetMode { key } => Ok(Change::SetMode {
+                key: key.copy(alloc)?,
+            }),
+            ChangeRef::CookieInsert {
                 cell,
                 place,
                 cookie,
             } => Ok(Change::CookieInsert {
                 cell: cell.copy(alloc)?,
-                place: *place,
+                place,
                 cookie: cookie.copy()?,
             }),
-            Change::CookieReplace {
+            ChangeRef::CookieReplace {
                 cell,
                 place,
                 cookie,
             } => Ok(Change::CookieReplace {
                 cell: cell.copy(alloc)?,
-                place: *place,
+                place,
                 cookie: cookie.copy()?,
             }),
-            Change::CookieRemove { cell, place } => Ok(Change::CookieRemove {
+            ChangeRef::CookieRemove { cell, place } => Ok(Change::CookieRemove {
                 cell: cell.copy(alloc)?,
-                place: *place,
+                place,
             }),
-            Change::Grant { row } => Ok(Change::Grant {
+            ChangeRef::Grant { row } => Ok(Change::Grant {
                 row: row.copy(alloc)?,
             }),
         }

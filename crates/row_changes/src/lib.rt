@@ -20,4 +20,4 @@ pub use body::{Piece, Reader};
 pub use change::{Change, ChangeRef};
 pub use laws::written;
 pub use reading::read_change;
-pub use writing::{append_change, append_changes, write_changes, write_rows};
+pub use writing::{append_change, append_changes, append_row, write_changes, write_rows};

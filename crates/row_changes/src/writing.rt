@@ -1,5 +1,5 @@
 //! Writing row changes.
-ghost use Rattle.std.specs.Prelude.{◌≡◌, ◌<◌, ◌++◌, ◌∷◌, [], IfOk, OnOk, Ok, length, map, pos, unwrap_or};
+ghost use Rattle.std.specs.Prelude.{◌≡◌, ◌<◌, ◌++◌, ◌∷◌, [], IfOk, OnErr, OnOk, Ok, length, map, pos, unwrap_or};
 ghost use Rattle.std.specs.List.{All};
 ghost use Rattle.access_grants.specs.Plain.{plain_grant};
 ghost use Rattle.cookie_jar.specs.Key.{plain_key as plain_cell};
@@ -7,7 +7,7 @@ ghost use Rattle.cookie_jar.specs.Views.{plain_cookie};
 ghost use Rattle.origin_site.specs.Plain.{plain_site};
 ghost use Rattle.origin_site.specs.Site.{site_text};
 ghost use Rattle.storage_key.specs.Plain.{plain_key};
-ghost use Rattle.row_changes.specs.Appended.{Appends, HasCellTexts, HasCookieTexts, HasGrantTexts};
+ghost use Rattle.row_changes.specs.Appended.{Appends, HasCellTexts, HasCookieTexts, HasGrantTexts, IsFront};
 ghost use Rattle.row_changes.specs.Appended.{HasKeyTexts, HasTexts};
 ghost use Rattle.row_changes.specs.Grown.{Grown};
 ghost use Rattle.row_changes.specs.Spelled.{IsText};
@@ -285,6 +285,18 @@ pub fn write_rows(alloc: Global, changes: &[Change]) -> Result<Vec<u8>, NoMemory
     let mut out = Vec::new(alloc);
     put_rows(&mut out, changes)?;
     Ok(out)
+}
+
+/// The bytes of one row change, as a snapshot has them, behind what `out` holds.
+///
+/// Its time is linear in the bytes. Refused as [`append_changes`].
+pub fn append_row(out: &mut Vec<u8>, change: ChangeRef<'_>) -> Result<(), NoMemory>
+    ensures bytes { OnOk result
+        (out.new.items ≡ out.old.items ++ spec.change_bytes (plain_ref change.entry)) }
+    ensures texts { OnOk result (HasTexts (plain_ref change.entry)) }
+    ensures front { OnErr result (IsFront out.old.items out.new.items) }
+{
+    put_change(out, change)
 }
 
 /// The bytes of one row change, as a durable change of its own, behind what `out` holds.

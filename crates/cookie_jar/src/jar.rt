@@ -1,5 +1,5 @@
 //! One cell of cookies and its edits.
-ghost use Rattle.std.specs.Prelude.{◌≡◌, ◌<◌, ◌≤◌, ◌+◌, [], IfOk, OnOk, IsTrue, length};
+ghost use Rattle.std.specs.Prelude.{◌≡◌, ◌<◌, ◌≤◌, ◌+◌, [], IfOk, IsOk, OnOk, IsTrue, length};
 ghost use Rattle.std.specs.Prelude.{map, slice_index_or, slice_set, slice_get, option_map};
 ghost use Rattle.std.specs.List.{insert, remove};
 ghost use Rattle.cookie_jar.specs.Cookie.{PlainCookie, copies, keeps_limits, same};
@@ -81,6 +81,7 @@ impl Jar {
         ensures kind { self.new.kind ≡ self.old.kind }
         ensures cookies { self.new.cookies ≡ self.old.cookies }
         ensures room { OnOk result (more ≤ self.new.spare) }
+        ensures ready { more ≤ self.old.spare → IsOk result }
     {
         Ok(self.cookies.reserve(more)?)
     }

@@ -1,6 +1,6 @@
 -- A change of the cookies of one cell, among those of all sites.
-use Rattle.std.proofs.Common.{◌≡◌, Bool, true, false, cond, [], Option, Some, None, Bor, refl, sym, ap, subst, ◌∙◌}
-use Rattle.std.specs.Prelude.{Result, Ok, Err, IfOk, IfSome, MatchOption, OnOk, option_copied}
+use Rattle.std.proofs.Common.{◌≡◌, ◌<◌, ◌≤◌, arith, Bool, true, false, cond, [], Option, Some, None, Bor, refl, sym, ap, subst, ◌∙◌}
+use Rattle.std.specs.Prelude.{Result, Ok, Err, IfOk, IfSome, MatchOption, OnOk, is_some, option_copied}
 use Rattle.std.specs.Ordering.{eq_by_cmp}
 use Rattle.unwinding.proofs.FiniteCellsLemmas as cells
 use Rattle.key_map.specs.Entries.{map_get, map_set}
@@ -16,9 +16,9 @@ use Rattle.web_cookies.specs.declared.change.Becomes.TheVariants.{Stored}
 use Rattle.web_cookies.specs.Stored.{Entries, shared_in, partitioned_in, with_shared, with_partitioned}
 use Rattle.web_cookies.specs.Cells.{HaveKinds, cell_key, cell_order, cookies_at, cookies_of, jar_at, kind_of}
 use Rattle.web_cookies.specs.Found.{HoldSame}
-use Rattle.web_cookies.specs.Rows.{IsRowDone, cookies_after_row}
-use Rattle.web_cookies.proofs.OrderOfCells.{alike, cell_order_total, equal_keys, order}
-use Rattle.web_cookies.proofs.PlainKeyLemmas.{found-key}
+use Rattle.web_cookies.specs.Rows.{HasPlace, IsRowDone, cookies_after_row}
+use Rattle.web_cookies.proofs.OrderOfCells.{alike, cell_order_total, equal_keys, order, own_tie}
+use Rattle.web_cookies.proofs.PlainKeyLemmas.{found-key, found-set}
 use Rattle.web_cookies.proofs.CellLemmas.{partitioned_at, partitioned_with, shared_at, shared_with}
 use Rattle.web_cookies.proofs.ChangeLemmas.{change_set}
 use Rattle.web_cookies.proofs.LeftLemmas.{partitioned_same, shared_same}
@@ -40,7 +40,7 @@ module _ (cell : PlainKey) (row : CookieRow) (old new : Entries) where
   }
 
 -- the jar of a key is that of its plain key
-at_key : (key : CellKey) (entries : Entries) → map_get order key entries ≡ jar_at (plain_key key) entries
+pub at_key : (key : CellKey) (entries : Entries) → map_get order key entries ≡ jar_at (plain_key key) entries
 at_key key entries = found-key plain_key cell_order cell_order_total order alike key entries
 
 -- the cookies of a jar that is there
@@ -50,6 +50,25 @@ cookies_there key entries jar there = ap cookies_of (sym (at_key key entries) �
 pub kind_there : (key : CellKey) (entries : Entries) (jar : PlainJar) → HaveKinds entries → map_get order key entries ≡ Some jar → jar.kind ≡ kind_of (plain_key key)
 kind_there key entries jar kinds there =
     subst (λ o. IfSome o (λ j. j.kind ≡ kind_of (plain_key key))) (sym (at_key key entries) ∙ there) (kinds (plain_key key))
+
+-- a cell with room has a jar, and that jar the room
+pub place_there : (cell : PlainKey) (entries : Entries) → HasPlace cell entries → is_some (jar_at cell entries) ≡ true
+place_there cell entries has = at (jar_at cell entries) has
+  where
+    at : (jar : Option PlainJar) → MatchOption jar ⊥ (λ j. 0 < j.spare) → is_some jar ≡ true
+    at None never = absurd never
+    at (Some jar) room = refl
+
+pub place_spare : (key : CellKey) (entries : Entries) (jar : PlainJar) → map_get order key entries ≡ Some jar → HasPlace (plain_key key) entries → 0 < jar.spare
+place_spare key entries jar there has = subst (λ o. MatchOption o ⊥ (λ j. 0 < j.spare)) (sym (at_key key entries) ∙ there) has
+
+-- a jar that has room is put in the place of one that is there
+pub place_set : (key : CellKey) (entries : Entries) (jar new : PlainJar) → map_get order key entries ≡ Some jar → 1 ≤ new.spare → HasPlace (plain_key key) (map_set order key new entries)
+place_set key entries jar new there room =
+    let found : jar_at (plain_key key) (map_set order key new entries) ≡ Some new =
+    found-set plain_key cell_order cell_order_total order alike (plain_key key) key new entries (ap is_some there)
+    ∙ ap (λ b. cond b (Some new) (jar_at (plain_key key) entries)) (own_tie (plain_key key)) in
+    subst (λ o. MatchOption o ⊥ (λ j. 0 < j.spare)) (sym found) (omega (arith, room))
 
 -- where a change is not valid, and the cookies are none, none changes
 pub row_none : (key : CellKey) (row : CookieRow) (entries : Entries) → map_get order key entries ≡ None → row_fits (kind_of (plain_key key)) [] row ≡ false

@@ -1,5 +1,5 @@
 //! The cookies of all sites, by cell.
-ghost use Rattle.std.specs.Prelude.{◌≡◌, ◌≤◌, [], IfOk, IfSome, OnErr, OnOk, is_some, map, option_map, true};
+ghost use Rattle.std.specs.Prelude.{◌≡◌, ◌≤◌, [], IfOk, IfSome, IsOk, OnErr, OnOk, is_some, map, option_map, true};
 ghost use Rattle.cookie_jar.specs.Key.{PlainKey, plain_key};
 ghost use Rattle.partition_limits.specs.declared.tally.CellKind.TheVariants as kind;
 ghost use Rattle.reply_lines.specs.Plain.{body_of};
@@ -299,6 +299,8 @@ impl Cookies {
         ensures same { HoldSame self.old self.new }
         ensures kept { KeepKeys self.old self.new }
         ensures there { OnOk result (is_some (jar_at (plain_key key.now) self.new) ≡ true) }
+        ensures ready { is_some (jar_at (plain_key key.now) self.old) ≡ true
+            → IsOk result × (self.new ≡ self.old) }
     {
         if self.cells.contains(key) {
             return Ok(());

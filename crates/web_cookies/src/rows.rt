@@ -1,5 +1,5 @@
 //! Cookies at places of cells: each is put or removed where that is valid.
-ghost use Rattle.std.specs.Prelude.{◌≡◌, ◌<◌, ◌≤◌, ◌^◌, ◌==◌, [], IfOk, IfSome, MatchOption, OnErr, OnOk};
+ghost use Rattle.std.specs.Prelude.{◌≡◌, ◌<◌, ◌≤◌, ◌^◌, ◌==◌, [], IfOk, IfSome, IsOk, MatchOption, OnErr, OnOk};
 ghost use Rattle.std.specs.Prelude.{false, option_map, slice_get, sum_by, unwrap_or};
 ghost use Rattle.partition_limits.specs.Limits as limits;
 ghost use Rattle.cookie_jar.specs.Cookie as spec;
@@ -8,7 +8,7 @@ ghost use Rattle.cookie_jar.specs.Persistent.{RowInsert, RowRemove, RowReplace, 
 ghost use Rattle.cookie_jar.specs.Views.{plain_cookie};
 ghost use Rattle.web_cookies.specs.Cells.{cookies_at, kind_of};
 ghost use Rattle.web_cookies.specs.Stored.{partitioned_in, shared_in};
-ghost use Rattle.web_cookies.specs.Rows.{IsRowDone};
+ghost use Rattle.web_cookies.specs.Rows.{HasPlace, IsRowDone};
 
 use crate::cookies::Cookies;
 use agent_base::NoMemory;
@@ -26,10 +26,23 @@ impl Cookies {
         self.cells.get(cell)
     }
 
+    /// Makes room for one more cookie in a cell. No cookie changes.
+    pub fn reserve_insert(&mut self, alloc: Global, cell: &CellKey) -> Result<(), NoMemory>
+        ensures shared { shared_in self.new ≡ shared_in self.old }
+        ensures partitioned { partitioned_in self.new ≡ partitioned_in self.old }
+        ensures ready { OnOk result (HasPlace (plain_key cell.now) self.new) }
+    {
+        self.make_room(alloc, cell, kind_of(cell))?;
+        let Some(jar) = self.cells.get_mut(cell) else {
+            return Err(NoMemory);
+        };
+        jar.reserve(1)
+    }
+
     /// Puts a cookie before the one at a place of a cell, or at the end, and tells whether that is
     /// valid. Where it is not, no cookie changes.
     ///
-    /// Each call goes over the cookies of the cell.
+    /// Each call goes over the cookies of the cell. Where the cell has room no memory is taken.
     pub fn insert_at(
         &mut self,
         alloc: Global,
@@ -41,6 +54,7 @@ impl Cookies {
             (RowInsert place (plain_cookie cookie)) self.old self.new done) }
         ensures shared { OnErr result (shared_in self.new ≡ shared_in self.old) }
         ensures partitioned { OnErr result (partitioned_in self.new ≡ partitioned_in self.old) }
+        ensures ready { HasPlace (plain_key cell.now) self.old → IsOk result }
     {
         self.make_room(alloc, cell, kind_of(cell))?;
         let Some(jar) = self.cells.get_mut(cell) else {
@@ -89,6 +103,7 @@ fn insert_in(jar: &mut Jar, place: usize, cookie: Cookie) -> Result<bool, NoMemo
     ensures cookies { let row = RowInsert place (plain_cookie cookie) in
         OnOk result (jar.new.cookies ≡ apply_row jar.old.kind jar.old.cookies row) }
     ensures unchanged { OnErr result (jar.new.cookies ≡ jar.old.cookies) }
+    ensures ready { 0 < jar.old.spare → IsOk result }
     ensures kind { jar.new.kind ≡ jar.old.kind }
 {
     if !may_insert(jar, place, &cookie) {

@@ -2,6 +2,7 @@
 pub mod Stored
 pub mod Lends
 pub mod Listed
+pub mod BucketRoom
 -- What private functions compute. No public clause rests on it.
 pub mod Evicting
 pub mod Texts

@@ -1,5 +1,5 @@
 //! Local areas: room for a storage key in a shed, and evictions.
-ghost use Rattle.std.specs.Prelude.{◌≡◌, ◌-◌, ◌^◌, [], IfOk, OnOk, OnErr, filter, map, min, is_some, true, false};
+ghost use Rattle.std.specs.Prelude.{◌≡◌, ◌-◌, ◌^◌, [], IfOk, IsOk, OnOk, OnErr, filter, map, min, is_some, true, false};
 ghost use Rattle.std.specs.FinMap as finite;
 ghost use Rattle.std.specs.List.Sorted.{IsStrictlySortedBy};
 ghost use Rattle.std.specs.Map.{keys_of};
@@ -28,6 +28,7 @@ pub fn reserve_local(
     ensures areas { areas_in shed.new ≡ areas_in shed.old }
     ensures modes { keys_in shed.new ≡ keys_in shed.old }
     ensures there { OnOk result (is_some (map_get key_cmp key.now shed.new) ≡ true) }
+    ensures ready { is_some (map_get key_cmp key.now shed.old) ≡ true → IsOk result }
     ensures area { OnErr result (get_cell key_order (areas_in shed.old) (plain_key key.now) ≡ []) }
     ensures mode { OnErr result (finite.contains_key (keys_in shed.old) (plain_key key.now)
         ≡ false) }

@@ -1,5 +1,5 @@
 //! Local and session areas of all sites, by storage key.
-ghost use Rattle.std.specs.Prelude.{◌≡◌, ◌<◌, ◌↔◌, ◌⊎◌, [], Err, IfErr, IfOk, None, OnOk, OnErr, MatchOption, map, option_map, string_bytes, true, false};
+ghost use Rattle.std.specs.Prelude.{◌≡◌, ◌<◌, ◌↔◌, ◌⊎◌, [], Err, IfErr, IfOk, IsOk, None, OnOk, OnErr, MatchOption, map, option_map, string_bytes, true, false};
 ghost use Rattle.std.specs.Borrow.{sem};
 ghost use Rattle.origin_site.specs.Plain.{plain_site};
 ghost use Rattle.storage_key.specs.Plain.{plain_key};
@@ -13,6 +13,7 @@ ghost use Rattle.agent_model.specs.Changes.{clears};
 ghost use Rattle.row_changes.specs.Change.{AreaClear};
 ghost use Rattle.std.specs.FinMap as finite;
 ghost use Rattle.agent_model.specs.Sessions.{copy_sessions, has_session};
+ghost use Rattle.web_storage.specs.BucketRoom.{HasBucket};
 ghost use Rattle.web_storage.specs.Listed.{stored_in};
 ghost use Rattle.web_storage.specs.Stored.{held_with, without_areas};
 ghost use Rattle.web_storage.specs.Lends.{LendsArea, LendsPresent, HoldsSame, HoldsPairs};
@@ -195,7 +196,17 @@ impl Storage {
         is_persistent(&self.local, key)
     }
 
-    /// Makes the bucket of a key persistent. The key is copied only where it is new.
+    /// Makes room for the bucket of a key, which then can become persistent without memory. What
+    /// the storage holds stays.
+    pub fn reserve_bucket(&mut self, key: &StorageKey) -> Result<(), NoMemory>
+        ensures same { HoldsSame self.old self.new }
+        ensures ready { OnOk result (HasBucket key.now self.new) }
+    {
+        reserve_local(self.alloc, &mut self.local, key)
+    }
+
+    /// Makes the bucket of a key persistent. The key is copied only where it is new, and where it
+    /// has a bucket no memory is taken.
     pub fn persist(&mut self, key: &StorageKey) -> Result<(), NoMemory>
         ensures stored { (beside : Holdings) → let before = held_with beside self.old in
             OnOk result (held_with beside self.new ≡ made_persistent (plain_key key.now) before) }
@@ -205,6 +216,7 @@ impl Storage {
             OnErr result (pairs ≡ []) }
         ensures mode { (beside : Holdings) → OnErr result
             (is_persistent (plain_key key.now) (held_with beside self.old) ≡ false) }
+        ensures ready { HasBucket key.now self.old → IsOk result }
     {
         reserve_local(self.alloc, &mut self.local, key)?;
         let _ = self.local.persist(key);

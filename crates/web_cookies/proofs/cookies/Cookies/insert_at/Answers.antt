@@ -1,5 +1,5 @@
 -- A jar that is there, or was made, has the cookie.
-use Rattle.std.proofs.Common.{ap, sym, subst, ◌∙◌}
+use Rattle.std.proofs.Common.{◌≡◌, true, false, ap, sym, subst, ◌∙◌}
 use Rattle.std.specs.Prelude.{IfOk, is_some}
 use Rattle.std.proofs.lemmas.Result.{on_err_weaker}
 use Rattle.agent_base.proofs.Logic.{on_err}
@@ -8,10 +8,10 @@ use Rattle.cookie_jar.specs.Persistent.{RowInsert}
 use Rattle.cookie_jar.specs.Views.{plain_cookie}
 use Rattle.web_cookies.specs.Stored.{partitioned_in, shared_in}
 use Rattle.web_cookies.specs.Cells.{HaveKinds}
-use Rattle.web_cookies.specs.Rows.{IsRowDone}
+use Rattle.web_cookies.specs.Rows.{HasPlace, IsRowDone}
 use Rattle.web_cookies.proofs.LeftLemmas.{partitioned_same, shared_same}
 use Rattle.web_cookies.proofs.PreparedLemmas.{kinds_set}
-use Rattle.web_cookies.proofs.RowsLemmas.{kept_set, kind_there, row_same_ok, row_set_ok}
+use Rattle.web_cookies.proofs.RowsLemmas.{at_key, kept_set, kind_there, place_spare, place_there, row_same_ok, row_set_ok}
 use Rattle.web_cookies.proofs.cookies.Cookies.insert_at.Goals as goal
 
 pub returns-in_err-make_room-clause-shared : goal.returns-in_err-make_room-clause-shared
@@ -58,3 +58,19 @@ returns-clause-partitioned c =
     on_err_weaker c.insert_in.result (λ kept. ap partitioned_in is
     ∙ partitioned_same c.self.inside.cells _ (kept_set c.args.cell.now (RowInsert c.args.place (plain_cookie c.args.cookie)) c.self.inside.cells c.in-Some.jar.now c.insert_in.new.jar c.self.invariant (sym c.in-Some.ensures.value) kept)
     ∙ ap partitioned_in c.self.view_is ∙ partitioned_same c.args.self.now c.make_room.new.self c.make_room.ensures.same) c.insert_in.ensures.unchanged
+
+pub returns-in_err-make_room-clause-ready : goal.returns-in_err-make_room-clause-ready
+returns-in_err-make_room-clause-ready c has =
+    let no : false ≡ true = (c.in_err-make_room.ensures.ready (place_there (plain_key c.args.cell.now) c.args.self.now has)).0 in cc
+
+pub returns-in_default-clause-ready : goal.returns-in_default-clause-ready
+returns-in_default-clause-ready c has =
+    let still = (c.make_room.ensures.ready (place_there (plain_key c.args.cell.now) c.args.self.now has)).1 in
+    let there = place_there (plain_key c.args.cell.now) c.self.inside.cells (subst (HasPlace (plain_key c.args.cell.now)) (sym (c.self.view_is ∙ still)) has) in
+    let no : false ≡ true = ap is_some (c.in_default.ensures.value ∙ at_key c.args.cell.now c.self.inside.cells) ∙ there in cc
+
+pub returns-clause-ready : goal.returns-clause-ready
+returns-clause-ready c has =
+    let still = (c.make_room.ensures.ready (place_there (plain_key c.args.cell.now) c.args.self.now has)).1 in
+    c.insert_in.ensures.ready (place_spare c.args.cell.now c.self.inside.cells c.in-Some.jar.now (sym c.in-Some.ensures.value)
+    (subst (HasPlace (plain_key c.args.cell.now)) (sym (c.self.view_is ∙ still)) has))

@@ -1,5 +1,5 @@
 -- An empty jar is put where there is none.
-use Rattle.std.proofs.Common.{ap, sym, subst, ◌∙◌}
+use Rattle.std.proofs.Common.{◌≡◌, true, false, ap, sym, subst, ◌∙◌}
 use Rattle.std.specs.Prelude.{is_some}
 use Rattle.std.proofs.lemmas.Result.{on_ok_weaker, on_err_weaker}
 use Rattle.cookie_jar.specs.Key.{plain_key}
@@ -8,6 +8,7 @@ use Rattle.web_cookies.proofs.OrderOfCells.{alike, cell_order_total, order}
 use Rattle.web_cookies.proofs.PlainKeyLemmas.{found-key}
 use Rattle.web_cookies.proofs.CellLemmas.{either_way, room_kept, room_same, room_there}
 use Rattle.web_cookies.proofs.PreparedLemmas.{kinds_put}
+use Rattle.web_cookies.proofs.RowsLemmas.{at_key}
 use Rattle.web_cookies.proofs.cookies.Cookies.make_room.Goals as goal
 
 pub returns-then-contains-clause-there : goal.returns-then-contains-clause-there
@@ -36,3 +37,11 @@ returns-clause-kept c = rw (← c.self.view_is) (λ q there. either_way c.insert
 pub returns-clause-there : goal.returns-clause-there
 returns-clause-there c = on_ok_weaker c.insert.result (λ is. ap (λ es. is_some (jar_at (plain_key c.args.key.now) es)) is
     ∙ room_there c.args.key.now c.in_ok-copy.field-0 c.in_ok-copy.ensures.same c.new.result c.self.inside.cells) c.insert.ensures.inserted
+
+pub returns-in_err-copy-clause-ready : goal.returns-in_err-copy-clause-ready
+returns-in_err-copy-clause-ready c = rw (← c.self.view_is) (λ there.
+    let no : false ≡ true = c.if-contains.ensures.contains ∙ ap is_some (at_key c.args.key.now c.self.inside.cells) ∙ there in cc)
+
+pub returns-clause-ready : goal.returns-clause-ready
+returns-clause-ready c = rw (← c.self.view_is) (λ there.
+    let no : false ≡ true = c.if-contains.ensures.contains ∙ ap is_some (at_key c.args.key.now c.self.inside.cells) ∙ there in cc)

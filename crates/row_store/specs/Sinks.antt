@@ -1,10 +1,10 @@
 -- How what stands somewhere grows by row changes: a list of them, or the body of a snapshot.
 -- Source: none.
-use Rattle.std.specs.Prelude.{◌≡◌, ℕ, List, [], ◌++◌, map}
+use Rattle.std.specs.Prelude.{◌≡◌, ℕ, List, [], ◌∷◌, ◌++◌, map, Result, Ok, Err, OnOk}
 use Rattle.std.specs.List.{All}
 use Rattle.std.proofs.Common.{ap, append-nil, append_assoc, sym, ◌∙◌}
 use Rattle.std.proofs.lemmas.Grind.{flat_map-append}
-use Rattle.std.proofs.lemmas.List.Elements.{All-append, All-nil}
+use Rattle.std.proofs.lemmas.List.Elements.{All-append, All-cons, All-nil}
 use Rattle.row_changes.specs.declared.change.Change.{Change}
 use Rattle.row_changes.specs.Appended.{HasTexts}
 use Rattle.row_changes.specs.Body.{rows_bytes}
@@ -33,6 +33,16 @@ listed_then s t u xs ys first second =
 
 pub written_none : (s : List ℕ) → IsWritten s [] s
 written_none s = record { bytes = sym (append-nil s); texts = All-nil HasTexts }
+
+-- one behind what was there, where it was written
+pub written_one : {T E : Type 0} (result : Result T E) (s t : List ℕ) (row : PlainChange)
+    → OnOk result (t ≡ s ++ change_bytes row) → OnOk result (HasTexts row)
+    → OnOk result (IsWritten s (row ∷ []) t)
+written_one (Ok value) s t row bytes texts = record {
+  bytes = bytes ∙ ap (λ l. s ++ l) (sym (append-nil (change_bytes row)));
+  texts = All-cons HasTexts row [] texts (All-nil HasTexts);
+}
+written_one (Err why) s t row bytes texts = tt
 
 pub written_then : (s t u : List ℕ) (xs ys : List PlainChange) → IsWritten s xs t → IsWritten t ys u
     → IsWritten s (xs ++ ys) u

@@ -12,7 +12,6 @@ ghost use Rattle.row_store.specs.Stored.{saved_in, saved_of};
 
 use crate::listing::push_all;
 use crate::parts::Parts;
-use crate::sink::SnapshotBody;
 use crate::which::Which;
 use access_grants::Grants;
 use agent_base::NoMemory;
@@ -83,10 +82,7 @@ fn write_body(
     ensures written { let rows = all_rows which storage.now cookies.now grants.now in
         IfOk result (λ body. IsWritten [] rows body.items) }
 {
-    let mut body = SnapshotBody {
-        bytes: Vec::new(alloc),
-        row: Vec::new(alloc),
-    };
+    let mut body: Vec<u8> = Vec::new(alloc);
     push_all(alloc, storage, cookies, grants, which, &mut body)?;
-    Ok(body.bytes)
+    Ok(body)
 }

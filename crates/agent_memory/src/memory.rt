@@ -25,6 +25,7 @@ use crate::holdings::Holdings;
 use crate::replies::{answer, refused, replied, ticked};
 use access_grants::Grants;
 use agent_base::{Label, NoMemory};
+use live_state::Live;
 use origin_site::{Address, Site};
 use reply_lines::{Reply, ReplyBody};
 use script_actions::{Action, HeadField, Method};
@@ -108,6 +109,20 @@ impl<'l> Memory<'l> {
         ensures in_time { result ≤ last_moment }
     {
         self.now
+    }
+
+    /// The suffix list that says of which site an address is.
+    pub fn list(&self) -> &'l SuffixList
+        ensures rules { result.now.rules ≡ self.entry.now.rules }
+    {
+        self.list
+    }
+
+    /// The open tabs, with their frames and the events that wait.
+    pub fn live(&self) -> &Live
+        ensures tabs { result.now.tabs ≡ self.entry.now.tabs }
+    {
+        &self.held.live
     }
 
     /// The storage of all sites, with the session areas of the open tabs.

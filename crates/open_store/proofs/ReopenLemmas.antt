@@ -1,30 +1,34 @@
 -- What an opening after a cut of the power finds.
-use Rattle.std.proofs.Common.{◌≡◌, inl, ℕ, true, Bool, List, Some, sym, subst}
-use Rattle.std.specs.Prelude.{Err, IfErr, IfOk, MatchResult, Ok, Result}
-use Rattle.disk_model.specs.Disk.{Goes, View}
+use Rattle.std.proofs.Common.{◌≡◌, inl, inr, ⊎_elim, ℕ, ◌<◌, ◌≤◌, true, Bool, List, [], Some, sym, ◌∙◌, subst, arith}
+use Rattle.std.specs.Prelude.{◌⊎◌, Err, IfErr, IfOk, IsErrOf, MatchResult, Ok, Option, Result}
+use Rattle.std.proofs.lemmas.Bool.{cases_lt}
+use Rattle.disk_model.specs.Disk.{Goes, IsSettled, LeavesOnly, View}
 use Rattle.disk_model.specs.DiskLaws.{IsLawful}
-use Rattle.journal.specs.Opening.{FileMeans, IsExcused}
+use Rattle.journal.specs.Opening.{FileMeans, IsExcused, IsOpening}
 use Rattle.journal.specs.Region.{StandsFor}
+use Rattle.journal.specs.Store.{IsStore, IsUnborn}
 use Rattle.journal.specs.declared.open_fault.OpenFault.{OpenFault}
+use Rattle.journal.specs.declared.open_fault.OpenFault.TheVariants.{DeviceFault}
 use Rattle.journal.proofs.Moments.{goes_from}
-use Rattle.open_store.specs.Reopens.{IsFound, LeavesStores}
+use Rattle.journal.proofs.Refusals.{store_is_born}
+use Rattle.open_store.specs.Reopens.{IsFound, IsReopening, LeavesAnew, LeavesStores}
 
 module _ {S : Type 0} (takes : S → Bool → List ℕ → S → ℕ → Type 0) (empty : S)
-    (digest : List ℕ) (v r : View) (laws : IsLawful v) (tells : v.tells ≡ true)
-    (stores : LeavesStores takes empty digest v)
-    (goes : Goes (λ _ d. v.may_leave d) v.contents r.contents) where
+    (digest : List ℕ) (v : View) (now : Option (List ℕ)) (laws : IsLawful v)
+    (tells : v.tells ≡ true) (stores : LeavesStores takes empty digest v)
+    (goes : Goes (λ _ d. v.may_leave d) v.contents now) where
   -- what the restart of a disk leaves
-  left : (d : List ℕ) × (r.contents ≡ Some d) × v.may_leave d
+  left : (d : List ℕ) × (now ≡ Some d) × v.may_leave d
   left =
       let told = laws.told tells in
-      goes_from (λ _ d. v.may_leave d) v.contents r.contents told.0 goes told.1
+      goes_from (λ _ d. v.may_leave d) v.contents now told.0 goes told.1
 
   left_stands : (base : S) × (last : ℕ) × StandsFor takes empty digest left.0 base last
   left_stands = stores tells left.0 left.2
 
   module _ {T : Type 0} (state : S) (changes : T → ℕ) where
     abbrev Means : Result T OpenFault → Type 0
-    Means result = (c : List ℕ) (s : S) (n : ℕ) → r.contents ≡ Some c
+    Means result = (c : List ℕ) (s : S) (n : ℕ) → now ≡ Some c
         → FileMeans takes empty digest c s n
         → MatchResult result (λ j. (state ≡ s) × (changes j ≡ n)) IsExcused
 
@@ -48,3 +52,85 @@ module _ {S : Type 0} (takes : S → Bool → List ℕ → S → ℕ → Type 0)
     reopened_excused (Err why) means =
         let here = left in
         let stands = left_stands in means here.0 stands.0 stands.1 here.1 (inl stands.2)
+
+-- ---- moments since the restart
+
+some_is : (a b : List ℕ) → Some a ≡ Some b → b ≡ a
+some_is a b e = cc
+
+-- the past begins at a restart of the disk that went well, and an opening follows it
+module _ (digest : List ℕ) (v r w : View) (before : IsLawful v) (between : IsLawful r)
+    (after : IsLawful w) (tells : w.tells ≡ v.tells)
+    (goes : Goes (λ _ d. v.may_leave d) v.contents r.contents)
+    (anew : (t : ℕ) (c : List ℕ) → r.left_since t c → r.contents ≡ Some c)
+    (opens : IsSettled r → (c : List ℕ) → r.contents ≡ Some c
+    → LeavesOnly r w (IsOpening digest c)) where
+  nothing_pending : IsSettled r
+  nothing_pending c may =
+      anew r.moment c (between.counts_now r.moment c (omega arith) may)
+
+  -- what is told since a moment, of a file that the restart left
+  told_since : (c : List ℕ) → r.contents ≡ Some c → (t : ℕ) (file : List ℕ)
+      → w.left_since t file → IsOpening digest c file
+  told_since c here t file left =
+      let since = opens nothing_pending c here in
+      ⊎_elim
+      (λ (over : r.moment < t).
+      since.each file (after.earlier r.moment t file (omega (arith, over)) left))
+      (λ (le : t ≤ r.moment).
+      ⊎_elim
+      (λ (was : r.left_since t file). inl (some_is c file (sym here ∙ anew t file was)))
+      (λ (now : IsOpening digest c file). now) (since.before t file le left))
+      (cases_lt r.moment t)
+
+  pub reopened_moments : {T : Type 0} (result : Result T OpenFault)
+      → LeavesAnew result v w (IsReopening digest v)
+  reopened_moments result = inr (λ t file left.
+      let told = before.told (sym tells ∙ after.untold t file left) in
+      let here =
+      goes_from (λ _ d. v.may_leave d) v.contents r.contents told.0 goes told.1 in
+      (here.0, here.2, told_since here.0 here.1 t file left))
+
+-- the same of another answer, and of what follows
+pub anew_as : {T U : Type 0} (x : Result T OpenFault) (y : Result U OpenFault) (v w : View)
+    (P Q : List ℕ → Type 0) → (IsErrOf x DeviceFault → IsErrOf y DeviceFault)
+    → ((file : List ℕ) → P file → Q file) → LeavesAnew x v w P → LeavesAnew y v w Q
+anew_as x y v w P Q same to (inl at_once) = inl (record {
+  answer = same at_once.answer;
+  failed = at_once.failed;
+  calls = at_once.calls;
+  fewer = at_once.fewer;
+})
+anew_as x y v w P Q same to (inr since) = inr (λ t file left. to file (since t file left))
+
+pub same_ok : {T U : Type 0} (x : T) (y : U) → IsErrOf (Ok x) DeviceFault
+    → IsErrOf (Ok y) DeviceFault
+same_ok x y e = cc
+
+pub same_err : {T U : Type 0} (why : OpenFault)
+    → IsErrOf {T = T} (Err why) DeviceFault
+    → IsErrOf {T = U} (Err why) DeviceFault
+same_err why e = cc
+
+-- where a cut might have left nothing but stores, nothing is made
+pub nothing_made : {S : Type 0} (takes : S → Bool → List ℕ → S → ℕ → Type 0) (empty : S)
+    (digest : List ℕ) (v : View) → IsLawful v → LeavesStores takes empty digest v
+    → (file : List ℕ) → IsReopening digest v file → v.may_leave file
+nothing_made takes empty digest v laws stores file there =
+    let was = there.0 in
+    let may = there.1 in
+    let tells = laws.untold v.moment was (laws.counts_now v.moment was (omega arith) may) in
+    let stood = stores tells was may in
+    let frames = stood.2.0 in
+    ⊎_elim (λ (same : file ≡ was). subst (λ (c : List ℕ). v.may_leave c) (sym same) may)
+    (λ (made : IsUnborn was × (IsUnborn file ⊎ IsStore digest file [])).
+    absurd (store_is_born digest was frames stood.2.1 made.0))
+    there.2
+
+-- what a cut may leave now, it might have left before
+pub fewer_now : {T : Type 0} (result : Result T OpenFault) (v w : View) → IsLawful w
+    → LeavesAnew result v w (λ file. v.may_leave file) → (file : List ℕ) → w.may_leave file
+    → v.may_leave file
+fewer_now result v w laws (inl at_once) file may = at_once.fewer file may
+fewer_now result v w laws (inr since) file may =
+    since w.moment file (laws.counts_now w.moment file (omega arith) may)

@@ -2,7 +2,8 @@
 -- Source: none.
 use Rattle.std.specs.Prelude.{◌≡◌, ◌⊎◌, ℕ, true, false, List, IsErrOf, OnOk, Result}
 use Rattle.agent_base.specs.Counts.{Rose}
-use Rattle.disk_model.specs.Disk.{IsNextCut, View, WasOff}
+use Rattle.disk_model.specs.Disk.{HasFailed, IsNextCut, View, WasOff}
+use Rattle.journal.specs.Opening.{IsOpening}
 use Rattle.journal.specs.Region.{StandsFor, TakesOf}
 use Rattle.journal.specs.declared.open_fault.OpenFault.{OpenFault}
 use Rattle.journal.specs.declared.open_fault.OpenFault.TheVariants.{DeviceFault}
@@ -17,6 +18,27 @@ LeavesStores {S} takes empty digest view =
 abbrev pub IsFound : {S : Type 0} → TakesOf S → S → (digest : List ℕ) → View → S → ℕ → Type 0
 IsFound takes empty digest view base last =
     (file : List ℕ) × view.may_leave file × StandsFor takes empty digest file base last
+
+-- what an opening leaves of a file that a cut might have left: that file, or of an unborn one what
+-- is made of it
+abbrev pub IsReopening : (digest : List ℕ) → View → List ℕ → Type 0
+IsReopening digest view file = (was : List ℕ) × view.may_leave was × IsOpening digest was file
+
+-- the disk's own restart failed, and no call followed it: what a cut may leave, it might have left
+-- before
+pub record FailedAtOnce {T : Type 0} (result : Result T OpenFault) (old new : View) : Type 0 where
+  pub answer : IsErrOf result DeviceFault
+  pub failed : HasFailed old new
+  pub calls : new.changing ≡ old.changing
+  pub fewer : (file : List ℕ) → new.may_leave file → old.may_leave file
+
+-- A cut at any moment from the disk's own restart on leaves a file that has P. The past that is
+-- told begins there, but where that restart failed.
+abbrev pub LeavesAnew : {T : Type 0} → Result T OpenFault → (old new : View) → (List ℕ → Type 0)
+    → Type 0
+LeavesAnew result old new P =
+    FailedAtOnce result old new
+    ⊎ ((moment : ℕ) (file : List ℕ) → new.left_since moment file → P file)
 
 -- a restart answers a device fault exactly where a call of the disk failed
 pub record Reopens {T : Type 0} (result : Result T OpenFault) (old new : View) : Type 0 where

@@ -1,7 +1,7 @@
 //! The power is cut, and the store that is left is opened.
-ghost use Rattle.std.specs.Prelude.{◌≡◌, List, ℕ, true, IfErr, IfOk};
+ghost use Rattle.std.specs.Prelude.{◌≡◌, true, IfErr, IfOk};
 ghost use Rattle.journal.specs.Opening.{IsExcused};
-ghost use Rattle.open_store.specs.Reopens.{IsFound, LeavesStores, Reopens};
+ghost use Rattle.open_store.specs.Reopens.{IsFound, IsReopening, LeavesAnew, LeavesStores, Reopens};
 ghost use Rattle.open_store.specs.Standing.{StandsAt};
 
 use disk_model::Disk;
@@ -30,10 +30,10 @@ pub fn reopen<D: Disk, R: Replay>(
         → LeavesStores (R.takes (R.rules into.old)) R.empty digest.now (D.view disk.old)
         → IfErr result IsExcused }
 
-    // What a cut may leave afterwards, it might have left before.
-    ensures fewer { (D.view disk.old).tells ≡ true
-        → LeavesStores (R.takes (R.rules into.old)) R.empty digest.now (D.view disk.old)
-        → (file : List ℕ) → (D.view disk.new).may_leave file → (D.view disk.old).may_leave file }
+    // At each moment from the disk's own restart on, a cut leaves a file that it might have left
+    // before, or of an unborn one what an opening makes.
+    ensures any_moment { LeavesAnew result (D.view disk.old) (D.view disk.new)
+        (IsReopening digest.now (D.view disk.old)) }
     ensures rules { R.rules into.new ≡ R.rules into.old }
     ensures device { Reopens result (D.view disk.old) (D.view disk.new) }
 {

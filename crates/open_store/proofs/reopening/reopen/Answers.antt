@@ -1,22 +1,27 @@
 -- What is opened is one of the stores that a cut might have left.
 use Rattle.std.proofs.Common.{rules}
-use Rattle.open_store.proofs.ReopenLemmas.{reopened_excused, reopened_found}
+use Rattle.open_store.proofs.ReopenLemmas.{reopened_excused, reopened_found, reopened_moments}
 use Rattle.open_store.proofs.reopening.reopen.Goals as goal
 
 pub returns-clause-found : goal.returns-clause-found
 returns-clause-found g c = λ tells stores.
     let by = g.R.Replay.rules c.args.into.now in
     reopened_found (g.R.Replay.takes by) g.R.Replay.empty c.args.digest.now
-    (g.D.Disk.view c.args.disk.now) (g.D.Disk.view c.restart.new.self)
-    (g.met.D.Disk.lawful c.args.disk.now) tells stores (search rules)
-    (g.R.Replay.state c.open.new.into) (λ j. j.changes) c.open.result
+    (g.D.Disk.view c.args.disk.now) _ (g.met.D.Disk.lawful c.args.disk.now) tells stores
+    (search rules) (g.R.Replay.state c.open.new.into) (λ j. j.changes) c.open.result
     (λ d s n is means. c.open.ensures.means d s n is (λ e. cc) means)
 
 pub returns-clause-excused : goal.returns-clause-excused
 returns-clause-excused g c = λ tells stores.
     let by = g.R.Replay.rules c.args.into.now in
     reopened_excused (g.R.Replay.takes by) g.R.Replay.empty c.args.digest.now
-    (g.D.Disk.view c.args.disk.now) (g.D.Disk.view c.restart.new.self)
-    (g.met.D.Disk.lawful c.args.disk.now) tells stores (search rules)
-    (g.R.Replay.state c.open.new.into) (λ j. j.changes) c.open.result
+    (g.D.Disk.view c.args.disk.now) _ (g.met.D.Disk.lawful c.args.disk.now) tells stores
+    (search rules) (g.R.Replay.state c.open.new.into) (λ j. j.changes) c.open.result
     (λ d s n is means. c.open.ensures.means d s n is (λ e. cc) means)
+
+pub returns-clause-any_moment : goal.returns-clause-any_moment
+returns-clause-any_moment g c =
+    reopened_moments c.args.digest.now (g.D.Disk.view c.args.disk.now) _
+    (g.D.Disk.view c.open.new.disk) (g.met.D.Disk.lawful c.args.disk.now)
+    (g.met.D.Disk.lawful _) (g.met.D.Disk.lawful c.open.new.disk) (search rules) (search rules)
+    (search rules) c.open.ensures.any_moment c.open.result

@@ -1,6 +1,6 @@
 -- From what the parts of an agent do to what its calls mean.
 use Rattle.std.proofs.Common.{◌≡◌, inl, inr, ⊎_elim, ℕ, ◌+◌, ◌<◌, ◌≤◌, Bool, true, false, List, [], ◌∷◌, length, Option, Vec, Global, refl, sym, ap, subst, ◌∙◌, arith}
-use Rattle.std.specs.Prelude.{Result}
+use Rattle.std.specs.Prelude.{Result, if◌then◌else◌}
 use Rattle.unwinding.specs.CourseSteps.{holding}
 use Rattle.agent_base.specs.Counts.{Rose}
 use Rattle.disk_model.specs.Disk.{FailedPowered, HasFailed, IsNextCut, View, WasOff}
@@ -19,11 +19,11 @@ use Rattle.row_store.specs.Bodies.{Takes}
 use Rattle.row_store.specs.Laws.{IsSpelledState}
 use Rattle.one_store.specs.WholeWorld.{whole_world}
 use Rattle.agent_memory.specs.AgentState.{AgentState, world_of}
-use Rattle.agent_core.specs.AgentView.{AgentView, may_find, may_of, since_opening}
+use Rattle.agent_core.specs.AgentView.{AgentView, is_due, may_find, may_of, since_opening}
 use Rattle.agent_core.specs.Batch.{HasNotRun, PlainBatch}
 use Rattle.open_store.specs.Commits.{CommitDevice}
 use Rattle.open_store.specs.Standing.{IsRoomier}
-use Rattle.agent_core.specs.Means.{AgentMay, FlushMeans, LineMeans, OutcomeDevice, after_commit, after_line, calls_by}
+use Rattle.agent_core.specs.Means.{AgentMay, FlushMeans, LineMeans, OutcomeDevice, after_commit, after_line, calls_by, checkpoint_calls}
 use Rattle.agent_core.specs.Seen.{AgentSeen, IsAtBase, IsBatch, IsSeen, IsUp, LeavesStores}
 use Rattle.agent_core.specs.Standing.{Finishes}
 use Rattle.agent_core.specs.declared.agent.Power.{Power}
@@ -295,7 +295,7 @@ module _ (j j' : JournalView) (v mid w : View) (roomier : IsRoomier j j' v mid) 
     others = λ _. roomier.fine;
   }
 
-not_down : (given : Vec Reply Global) → outcome.Replies given ≡ outcome.Down → ⊥
+pub not_down : (given : Vec Reply Global) → outcome.Replies given ≡ outcome.Down → ⊥
 not_down given e = cc
 
 pub device_gave : {T E : Type 0} (most : ℕ) (result : Result T E) (v w : View)
@@ -321,6 +321,13 @@ device_failed most result v w failed device = record {
 }
 
 -- ---- how many calls a flush makes
+
+-- of a checkpoint that is due
+pub calls_due : {D : Type 0} (x : AgentView D) (result : Outcome) (v w : View)
+    → is_due x.checkpoint x.journal ≡ true → OutcomeDevice 7 result v w
+    → OutcomeDevice (checkpoint_calls x) result v w
+calls_due x result v w due device =
+    subst (λ (d : Bool). OutcomeDevice (if d then 7 else 0) result v w) (sym due) device
 
 -- with nothing held, those of a checkpoint
 pub calls_none : (held : List PlainReply) (n : ℕ) (result : Outcome) (v w : View) → held ≡ []

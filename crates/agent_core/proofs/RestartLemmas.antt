@@ -1,14 +1,17 @@
 -- The power is cut, and the store is opened again.
 use Rattle.std.proofs.Common.{◌≡◌, inl, ℕ, ◌^◌, ◌<◌, ◌≤◌, Bool, true, false, List, [], length, refl, sym, ap, subst, ◌∙◌, arith}
-use Rattle.std.specs.Prelude.{Ok, Err}
+use Rattle.std.specs.Prelude.{Ok, Err, IsErrOf, Result}
 use Rattle.std.proofs.lemmas.List.Elements.{All-nil}
 use Rattle.unwinding.specs.Course.{AtBase}
 use Rattle.unwinding.specs.CourseSteps.{reopened}
 use Rattle.disk_model.specs.Disk.{View}
+use Rattle.disk_model.specs.DiskLaws.{IsLawful}
 use Rattle.journal.specs.Journal.{JournalView}
 use Rattle.journal.specs.Opening.{IsExcused}
 use Rattle.journal.specs.declared.open_fault.OpenFault.{OpenFault}
 use Rattle.journal.specs.declared.open_fault.OpenFault.TheVariants as fault
+use Rattle.open_store.specs.Reopens.{IsReopening, LeavesAnew}
+use Rattle.open_store.proofs.ReopenLemmas.{anew_as, fewer_now, nothing_made}
 use Rattle.suffix_list.specs.ListText.{RuleList}
 use Rattle.suffix_list.specs.Suffix.{Rule}
 use Rattle.row_changes.specs.Laws.{IsWritable}
@@ -18,13 +21,14 @@ use Rattle.agent_model.specs.Rest.{last_moment}
 use Rattle.durable_model.specs.Histories.{reopened_world}
 use Rattle.durable_model.specs.Keeping.{AgentDurable, durable_of, keeping}
 use Rattle.durable_model.specs.Laws.{OpensKept}
-use Rattle.durable_model.specs.Saved.{IsValid, Saved}
+use Rattle.durable_model.specs.Saved.{IsValid, Saved, nothing_saved}
 use Rattle.spelled_model.specs.Laws.{OpensRead}
 use Rattle.spelled_model.specs.Rows.{IsReadSaved}
 use Rattle.agent_memory.specs.AgentState.{AgentState, world_of}
 use Rattle.agent_core.specs.AgentView.{AgentView, may_find, may_of, since_opening}
 use Rattle.agent_core.specs.Batch.{PlainBatch}
-use Rattle.agent_core.specs.Means.{AgentMay, RestartMeans}
+use Rattle.agent_core.specs.Means.{AgentMay, IsOneFound, RestartMeans}
+use Rattle.row_store.specs.Bodies.{Takes}
 use Rattle.row_store.specs.Laws.{IsSpelledState, IsStorable}
 use Rattle.row_store.specs.Stored.{saved_of}
 use Rattle.row_store.specs.declared.parts.Parts.{Parts}
@@ -249,6 +253,16 @@ opened_restart new w rules a may may' now kept d clock found seen = (
   (d, found, reopened_rest rules a.world.rest now d clock, seen.1),
 )
 
+-- where a restart failed, what a cut may leave it might have left before
+pub fewer_after : {T : Type 0} (result : Result T OpenFault) (list : RuleList) (v w : View)
+    → IsLawful v → IsLawful w → LeavesAnew result v w (IsReopening list.digest v)
+    → LeavesStores list.rules list.digest v → (file : List ℕ) → w.may_leave file
+    → v.may_leave file
+fewer_after result list v w before after since stores =
+    fewer_now result v w after
+    (anew_as result result v w (IsReopening list.digest v) (λ file. v.may_leave file) (λ e. e)
+    (nothing_made (Takes list.rules) nothing_saved list.digest v before stores) since)
+
 -- ---- a restart of an agent under a list
 
 module _ {D : Type 0} (told : D → View) (was old : AgentView D) (list : RuleList)
@@ -318,3 +332,32 @@ module _ {D : Type 0} (told : D → View) (was old : AgentView D) (list : RuleLi
       (λ _ file left. here.stores tells file (fewer tells stores file left))
       (fewer_may was.memory.rules was.journal.digest was.opened v w (fewer tells stores)) in
       subst P is at tells here
+
+  pub restart_moments : {T U : Type 0} (x : Result T OpenFault) (y : Result U OpenFault)
+      (w : View) → (IsErrOf x fault.DeviceFault → IsErrOf y fault.DeviceFault)
+      → IsLawful (told was.disk)
+      → LeavesAnew x (told was.disk) w (IsReopening list.digest (told was.disk))
+      → (a : AgentSeen) → IsSeen old (told old.disk) a
+      → LeavesAnew y (told old.disk) w (IsOneFound old (told old.disk))
+  restart_moments x y w same laws since a here =
+      let P : AgentView D → Type 0 =
+      λ o. IsSeen o (told o.disk) a → LeavesAnew y (told o.disk) w (IsOneFound o (told o.disk)) in
+      let v = told was.disk in
+      let at : P was =
+      λ here.
+      anew_as x y v w (IsReopening list.digest v) (IsOneFound was v) same
+      (λ file there.
+      let may =
+      nothing_made (Takes list.rules) nothing_saved list.digest v laws (stores_here a here) file
+      there in
+      let tells = laws.untold v.moment file (laws.counts_now v.moment file (omega arith) may) in
+      let stood = here.stores tells file may in (
+        may,
+        stood.0,
+        stood.1,
+        stood.2,
+        found_may was.memory.rules was.journal.digest was.opened v stood.0 stood.1
+            (file, may, stood.2),
+      ))
+      since in
+      subst P is at here

@@ -3,7 +3,7 @@
 -- Our own choice: the agent keeps no durable state beside what it has in memory. What its store
 -- stands for is what memory had before the lines of the open batch.
 use Rattle.std.specs.Prelude.{◌≡◌, ℕ, ◌+◌, ◌-◌, ◌%◌, ◌^◌, ◌==◌, nat_le, Bool, true, false, not}
-use Rattle.std.specs.Prelude.{◌&&◌, List}
+use Rattle.std.specs.Prelude.{◌&&◌, List, length}
 use Rattle.disk_model.specs.Disk.{View}
 use Rattle.journal.specs.Journal.{JournalView, since_of}
 use Rattle.journal.specs.Region.{StandsFor}
@@ -56,7 +56,17 @@ is_down Up = false
 is_down Down = true
 is_down Spoilt = false
 
+-- no call failed, memory was not wanting, and what was found was a store
+abbrev pub is_up : Power → Bool
+is_up Up = true
+is_up Down = false
+is_up Spoilt = false
+
 -- a checkpoint is due: at least so many durable changes were made since the last snapshot, or since
 -- the store was made. 0 is never.
 abbrev pub is_due : (checkpoint : ℕ) → JournalView → Bool
 is_due checkpoint journal = not (checkpoint == 0) && nat_le checkpoint (since_of journal)
+
+-- the next flush makes a checkpoint: the agent is up, it holds no line, and a checkpoint is due
+abbrev pub owes : {D : Type 0} → AgentView D → Bool
+owes v = is_up v.power && length v.held == 0 && is_due v.checkpoint v.journal

@@ -2,6 +2,7 @@
 pub mod AgentView
 pub mod Seen
 pub mod Means
+pub mod Flushing
 -- What private functions compute.
 pub mod Batch
 pub mod Openings

@@ -22,7 +22,7 @@ use Rattle.agent_model.specs.TheMachine.{machine}
 use Rattle.durable_model.specs.Keeping.{AgentDurable, durable_of, keeping}
 use Rattle.durable_model.specs.Saved.{Saved, nothing_saved}
 use Rattle.row_store.specs.Bodies.{Takes}
-use Rattle.agent_core.specs.AgentView.{AgentView, is_due}
+use Rattle.agent_core.specs.AgentView.{AgentView, is_due, may_of, since_opening}
 use Rattle.agent_core.specs.Seen.{AgentSeen}
 use Rattle.agent_core.specs.declared.outcome.Outcome.{Outcome}
 use Rattle.agent_core.specs.declared.outcome.Outcome.TheVariants.{Replies, Held, Down, NoMemory}
@@ -102,6 +102,13 @@ abbrev pub IsBeforeOrAfter : List Rule → (digest : List ℕ) → (a ran : Agen
 IsBeforeOrAfter rules digest a ran file =
     (base : Saved) × (last : ℕ) × StandsFor (Takes rules) nothing_saved digest file base last
     × ((durable_of base ≡ a.base.state) ⊎ (durable_of base ≡ (after_commit rules ran).base.state))
+
+-- a file that a cut might have left: it stands for a state that a restart might have found
+abbrev pub IsOneFound : {D : Type 0} → AgentView D → View → List ℕ → Type 0
+IsOneFound v view file =
+    view.may_leave file × (base : Saved) × (last : ℕ)
+    × StandsFor (Takes v.memory.rules) nothing_saved v.journal.digest file base last
+    × may_of v view (durable_of base) (since_opening last v.opened)
 
 -- ---- the device
 

@@ -17,11 +17,13 @@ ghost use Rattle.durable_model.specs.Saved.{IsValid, Saved, nothing_saved};
 ghost use Rattle.row_store.specs.Bodies.{Refuses, Takes};
 ghost use Rattle.suffix_list.specs.ListText.{RuleList};
 ghost use Rattle.row_store.specs.Stored.{HasNoSession, saved_of};
-ghost use Rattle.agent_core.specs.AgentView.{is_down, may_of, since_opening};
+ghost use Rattle.agent_core.specs.AgentView.{is_down, may_of, owes, since_opening};
 ghost use Rattle.open_store.specs.Commits.{HasRoomFor};
-ghost use Rattle.agent_core.specs.Means.{Fits, FlushMeans, IsBeforeOrAfter, IsTidy, LineMeans};
-ghost use Rattle.agent_core.specs.Means.{OutcomeDevice, RestartDevice, RestartMeans, after_line};
-ghost use Rattle.agent_core.specs.Means.{flush_calls};
+ghost use Rattle.open_store.specs.Reopens.{LeavesAnew};
+ghost use Rattle.agent_core.specs.Flushing.{Flushes, KeepsOptions};
+ghost use Rattle.agent_core.specs.Means.{Fits, FlushMeans, IsBeforeOrAfter, IsOneFound, IsTidy};
+ghost use Rattle.agent_core.specs.Means.{LineMeans, OutcomeDevice, RestartDevice, RestartMeans};
+ghost use Rattle.agent_core.specs.Means.{after_line, flush_calls};
 ghost use Rattle.agent_core.specs.Seen.{AgentSeen, IsSeen, IsUp};
 ghost use Rattle.agent_core.specs.Openings.{IsOpened, resumed};
 ghost use Rattle.agent_core.specs.Standing.{Finishes, IsHeld, power_of};
@@ -247,10 +249,7 @@ impl<'l, D: Disk + Drop> Agent<'l, D> {
             → LeavesOnly (D.view self.old.disk) (D.view self.new.disk)
             (IsBeforeOrAfter self.old.memory.rules self.old.journal.digest a
             (after_line self.old.memory.rules a (action_of action.now))) }
-        ensures rules { (self.new.memory.rules ≡ self.old.memory.rules)
-            × (self.new.journal.digest ≡ self.old.journal.digest)
-            × (self.new.batch ≡ self.old.batch)
-            × (self.new.checkpoint ≡ self.old.checkpoint) }
+        ensures rules { KeepsOptions self.old self.new }
         ensures device { self.old.power ≡ Power.Up
             → OutcomeDevice 4 result (D.view self.old.disk) (D.view self.new.disk) }
 
@@ -287,10 +286,7 @@ impl<'l, D: Disk + Drop> Agent<'l, D> {
             → a.up ≡ true → (D.view self.old.disk).tells ≡ true
             → LeavesOnly (D.view self.old.disk) (D.view self.new.disk)
             (IsBeforeOrAfter self.old.memory.rules self.old.journal.digest a a) }
-        ensures rules { (self.new.memory.rules ≡ self.old.memory.rules)
-            × (self.new.journal.digest ≡ self.old.journal.digest)
-            × (self.new.batch ≡ self.old.batch)
-            × (self.new.checkpoint ≡ self.old.checkpoint) }
+        ensures rules { KeepsOptions self.old self.new }
         ensures device { self.old.power ≡ Power.Up
             → OutcomeDevice (flush_calls self.old) result
             (D.view self.old.disk) (D.view self.new.disk) }
@@ -321,10 +317,12 @@ impl<'l, D: Disk + Drop> Agent<'l, D> {
             × RestartMeans self.old.memory.rules
             a (may_of self.old (D.view self.old.disk)) b (may_of self.new (D.view self.new.disk))
             result }
-        ensures rules { (self.new.memory.rules ≡ self.old.memory.rules)
-            × (self.new.journal.digest ≡ self.old.journal.digest)
-            × (self.new.batch ≡ self.old.batch)
-            × (self.new.checkpoint ≡ self.old.checkpoint) }
+        // At each moment from the disk's own restart on, a cut leaves a store that it might have
+        // left before: a restart finds no other state than this one might have found.
+        ensures any_moment { (a : AgentSeen) → IsSeen self.old (D.view self.old.disk) a
+            → LeavesAnew result (D.view self.old.disk) (D.view self.new.disk)
+            (IsOneFound self.old (D.view self.old.disk)) }
+        ensures rules { KeepsOptions self.old self.new }
         ensures device { RestartDevice result (D.view self.old.disk) (D.view self.new.disk) }
         ensures power { MatchResult result (λ _. self.new.power ≡ Power.Up)
             (λ why. self.new.power ≡ power_of why) }
@@ -352,10 +350,7 @@ impl<'l, D: Disk + Drop> Agent<'l, D> {
         ensures kept { result ≡ since_opening opened.journal.changes self.old.opened }
         ensures up { self.new.power ≡ Power.Up }
         ensures disk { self.new.disk ≡ self.old.disk }
-        ensures rules { (self.new.memory.rules ≡ self.old.memory.rules)
-            × (self.new.journal.digest ≡ self.old.journal.digest)
-            × (self.new.batch ≡ self.old.batch)
-            × (self.new.checkpoint ≡ self.old.checkpoint) }
+        ensures rules { KeepsOptions self.old self.new }
     {
         durable_states();
         spelled_lines();
@@ -382,10 +377,7 @@ impl<'l, D: Disk + Drop> Agent<'l, D> {
             → LeavesOnly (D.view self.old.disk) (D.view self.new.disk)
             (IsBeforeOrAfter self.old.memory.rules self.old.journal.digest a
             (after_line self.old.memory.rules a (action_of action.now))) }
-        ensures rules { (self.new.memory.rules ≡ self.old.memory.rules)
-            × (self.new.journal.digest ≡ self.old.journal.digest)
-            × (self.new.batch ≡ self.old.batch)
-            × (self.new.checkpoint ≡ self.old.checkpoint) }
+        ensures rules { KeepsOptions self.old self.new }
         ensures device { OutcomeDevice 4 result (D.view self.old.disk) (D.view self.new.disk) }
         ensures idle { (a : AgentSeen) → IsSeen self.old (D.view self.old.disk) a
             → (after_line self.old.memory.rules a (action_of action.now)).pending ≡ []
@@ -410,25 +402,11 @@ impl<'l, D: Disk + Drop> Agent<'l, D> {
     // Commits what an agent that is up holds, or else makes the checkpoint that is due.
     fn settle(&mut self) -> Outcome
         requires up { self.old.power ≡ Power.Up }
-        ensures means { (a : AgentSeen) → IsSeen self.old (D.view self.old.disk) a
-            → (b : AgentSeen) × IsSeen self.new (D.view self.new.disk) b
-            × FlushMeans self.old.memory.rules
-            a (may_of self.old (D.view self.old.disk)) b (may_of self.new (D.view self.new.disk))
-            result }
-        ensures any_moment { (a : AgentSeen) → IsSeen self.old (D.view self.old.disk) a
-            → a.up ≡ true → (D.view self.old.disk).tells ≡ true
-            → LeavesOnly (D.view self.old.disk) (D.view self.new.disk)
-            (IsBeforeOrAfter self.old.memory.rules self.old.journal.digest a a) }
-        ensures rules { (self.new.memory.rules ≡ self.old.memory.rules)
-            × (self.new.journal.digest ≡ self.old.journal.digest)
-            × (self.new.batch ≡ self.old.batch)
-            × (self.new.checkpoint ≡ self.old.checkpoint) }
-        ensures device { OutcomeDevice (flush_calls self.old) result
-            (D.view self.old.disk) (D.view self.new.disk) }
+        ensures flushes { Flushes (flush_calls self.old) self.old (D.view self.old.disk)
+            self.new (D.view self.new.disk) result }
         ensures idle { (a : AgentSeen) → IsSeen self.old (D.view self.old.disk) a
             → a.pending ≡ [] → (self.old.held ≡ [] → ⊥)
             → (D.view self.new.disk).changing ≡ (D.view self.old.disk).changing }
-        ensures tidy { self.old.held ≡ [] → IsTidy result self.new }
     {
         if self.batch.is_empty() {
             return self.tend();
@@ -451,10 +429,7 @@ impl<'l, D: Disk + Drop> Agent<'l, D> {
             → (D.view self.old.disk).tells ≡ true
             → LeavesOnly (D.view self.old.disk) (D.view self.new.disk)
             (IsBeforeOrAfter self.old.memory.rules self.old.journal.digest ran ran) }
-        ensures rules { (self.new.memory.rules ≡ self.old.memory.rules)
-            × (self.new.journal.digest ≡ self.old.journal.digest)
-            × (self.new.batch ≡ self.old.batch)
-            × (self.new.checkpoint ≡ self.old.checkpoint) }
+        ensures rules { KeepsOptions self.old self.new }
         ensures device { OutcomeDevice 4 result (D.view self.old.disk) (D.view self.new.disk) }
         ensures idle { self.old.body ≡ []
             → (D.view self.new.disk).changing ≡ (D.view self.old.disk).changing }
@@ -480,6 +455,14 @@ impl<'l, D: Disk + Drop> Agent<'l, D> {
         ensures { result ≡ is_down self.entry.now.power }
     {
         self.power == Power::Down
+    }
+
+    /// Whether the next flush makes a checkpoint: the agent is up, it holds no line, and a
+    /// checkpoint is due.
+    pub fn owes_checkpoint(&self) -> bool
+        ensures owes { result ≡ owes self.entry.now }
+    {
+        self.power == Power::Up && self.batch.is_empty() && self.is_due()
     }
 
     /// The clock, in seconds since 1970.

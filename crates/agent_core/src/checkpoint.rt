@@ -1,14 +1,15 @@
 //! Checkpoints: a snapshot of what is durable in the place of the frames of the store.
-ghost use Rattle.std.specs.Prelude.{◌≡◌, ℕ, true, IfOk, length};
+ghost use Rattle.std.specs.Prelude.{◌≡◌, true, IfOk, length};
 ghost use Rattle.disk_model.specs.Disk.{LeavesOnly};
 ghost use Rattle.journal.specs.Journal.{HasRoom};
 ghost use Rattle.access_grants.specs.Grant.{HasDistinctPairs};
 ghost use Rattle.row_changes.specs.Body.{rows_bytes};
 ghost use Rattle.row_store.specs.Listing.{listed};
 ghost use Rattle.agent_core.specs.AgentView.{is_due, may_of};
-ghost use Rattle.agent_core.specs.Means.{FlushMeans, IsBeforeOrAfter, IsTidy, OutcomeDevice};
+ghost use Rattle.agent_core.specs.Flushing.{Flushes, KeepsOptions};
+ghost use Rattle.agent_core.specs.Means.{IsBeforeOrAfter, IsTidy, OutcomeDevice};
 ghost use Rattle.agent_core.specs.Means.{checkpoint_calls};
-ghost use Rattle.agent_core.specs.Seen.{AgentSeen, IsSeen, IsUp};
+ghost use Rattle.agent_core.specs.Seen.{AgentSeen, IsUp};
 ghost use Rattle.agent_core.specs.Standing.{Finishes, HasNone, kept_in};
 
 use crate::agent::{Agent, Power};
@@ -23,22 +24,8 @@ impl<'l, D: Disk + Drop> Agent<'l, D> {
     pub(crate) fn tend(&mut self) -> Outcome
         requires up { self.old.power ≡ Power.Up }
         requires none { HasNone self.old }
-        ensures means { (a : AgentSeen) → IsSeen self.old (D.view self.old.disk) a
-            → (b : AgentSeen) × IsSeen self.new (D.view self.new.disk) b
-            × FlushMeans self.old.memory.rules
-            a (may_of self.old (D.view self.old.disk)) b (may_of self.new (D.view self.new.disk))
-            result }
-        ensures any_moment { (a : AgentSeen) → IsSeen self.old (D.view self.old.disk) a
-            → a.up ≡ true → (D.view self.old.disk).tells ≡ true
-            → LeavesOnly (D.view self.old.disk) (D.view self.new.disk)
-            (IsBeforeOrAfter self.old.memory.rules self.old.journal.digest a a) }
-        ensures rules { (self.new.memory.rules ≡ self.old.memory.rules)
-            × (self.new.journal.digest ≡ self.old.journal.digest)
-            × (self.new.batch ≡ self.old.batch)
-            × (self.new.checkpoint ≡ self.old.checkpoint) }
-        ensures device { OutcomeDevice (checkpoint_calls self.old) result
-            (D.view self.old.disk) (D.view self.new.disk) }
-        ensures tidy { IsTidy result self.new }
+        ensures flushes { Flushes (checkpoint_calls self.old) self.old (D.view self.old.disk)
+            self.new (D.view self.new.disk) result }
     {
         if self.is_due() {
             return self.make_checkpoint();
@@ -47,7 +34,7 @@ impl<'l, D: Disk + Drop> Agent<'l, D> {
     }
 
     // Whether a checkpoint is due.
-    fn is_due(&self) -> bool
+    pub(crate) fn is_due(&self) -> bool
         ensures { result ≡ is_due self.entry.now.checkpoint self.entry.now.journal }
     {
         self.checkpoint != 0 && self.store.journal.since() >= self.checkpoint as u64
@@ -57,21 +44,8 @@ impl<'l, D: Disk + Drop> Agent<'l, D> {
     fn make_checkpoint(&mut self) -> Outcome
         requires up { self.old.power ≡ Power.Up }
         requires none { HasNone self.old }
-        ensures means { (a : AgentSeen) → IsSeen self.old (D.view self.old.disk) a
-            → (b : AgentSeen) × IsSeen self.new (D.view self.new.disk) b
-            × FlushMeans self.old.memory.rules
-            a (may_of self.old (D.view self.old.disk)) b (may_of self.new (D.view self.new.disk))
-            result }
-        ensures any_moment { (a : AgentSeen) → IsSeen self.old (D.view self.old.disk) a
-            → a.up ≡ true → (D.view self.old.disk).tells ≡ true
-            → LeavesOnly (D.view self.old.disk) (D.view self.new.disk)
-            (IsBeforeOrAfter self.old.memory.rules self.old.journal.digest a a) }
-        ensures rules { (self.new.memory.rules ≡ self.old.memory.rules)
-            × (self.new.journal.digest ≡ self.old.journal.digest)
-            × (self.new.batch ≡ self.old.batch)
-            × (self.new.checkpoint ≡ self.old.checkpoint) }
-        ensures device { OutcomeDevice 7 result (D.view self.old.disk) (D.view self.new.disk) }
-        ensures tidy { IsTidy result self.new }
+        ensures flushes { Flushes 7 self.old (D.view self.old.disk)
+            self.new (D.view self.new.disk) result }
     {
         match self.snapshot() {
             Err(NoMemory) => Outcome::NoMemory,
@@ -101,21 +75,8 @@ impl<'l, D: Disk + Drop> Agent<'l, D> {
         requires none { HasNone self.old }
         requires snapshot { body.now ≡ rows_bytes (listed (kept_in self.old.memory)) }
         requires distinct { HasDistinctPairs self.old.memory.grants }
-        ensures means { (a : AgentSeen) → IsSeen self.old (D.view self.old.disk) a
-            → (b : AgentSeen) × IsSeen self.new (D.view self.new.disk) b
-            × FlushMeans self.old.memory.rules
-            a (may_of self.old (D.view self.old.disk)) b (may_of self.new (D.view self.new.disk))
-            result }
-        ensures any_moment { (a : AgentSeen) → IsSeen self.old (D.view self.old.disk) a
-            → a.up ≡ true → (D.view self.old.disk).tells ≡ true
-            → LeavesOnly (D.view self.old.disk) (D.view self.new.disk)
-            (IsBeforeOrAfter self.old.memory.rules self.old.journal.digest a a) }
-        ensures rules { (self.new.memory.rules ≡ self.old.memory.rules)
-            × (self.new.journal.digest ≡ self.old.journal.digest)
-            × (self.new.batch ≡ self.old.batch)
-            × (self.new.checkpoint ≡ self.old.checkpoint) }
-        ensures device { OutcomeDevice 7 result (D.view self.old.disk) (D.view self.new.disk) }
-        ensures tidy { IsTidy result self.new }
+        ensures flushes { Flushes 7 self.old (D.view self.old.disk)
+            self.new (D.view self.new.disk) result }
     {
         match self.store.reserve(body.len()) {
             Err(NoMemory) => Outcome::NoMemory,
@@ -139,10 +100,7 @@ impl<'l, D: Disk + Drop> Agent<'l, D> {
             → (D.view self.old.disk).tells ≡ true
             → LeavesOnly (D.view self.old.disk) (D.view self.new.disk)
             (IsBeforeOrAfter self.old.memory.rules self.old.journal.digest ran ran) }
-        ensures rules { (self.new.memory.rules ≡ self.old.memory.rules)
-            × (self.new.journal.digest ≡ self.old.journal.digest)
-            × (self.new.batch ≡ self.old.batch)
-            × (self.new.checkpoint ≡ self.old.checkpoint) }
+        ensures rules { KeepsOptions self.old self.new }
         ensures device { OutcomeDevice 7 result (D.view self.old.disk) (D.view self.new.disk) }
         ensures tidy { IsTidy result self.new }
     {

@@ -5,7 +5,7 @@ ghost use Rattle.disk_model.specs.Disk.{IsSettled, LeavesOnly, Makes};
 ghost use Rattle.journal.specs.Opening.{FileMeans, IsExcused, IsOfFile, IsOpening, IsRefusal};
 ghost use Rattle.journal.specs.Opening.{IsWithin, Opens, opening_calls};
 ghost use Rattle.journal.specs.declared.open_fault.OpenFault.{OpenFault};
-ghost use Rattle.open_store.specs.Reopens.{Reopens};
+ghost use Rattle.open_store.specs.Reopens.{IsReopening, LeavesAnew, Reopens};
 ghost use Rattle.durable_model.specs.Saved.{Saved, nothing_saved};
 ghost use Rattle.row_store.specs.Bodies.{Refuses, Takes};
 ghost use Rattle.row_store.specs.Stored.{saved_of};
@@ -72,9 +72,8 @@ pub fn reopen<D: Disk>(alloc: Global, disk: &mut D, list: &SuffixList) -> Result
     ensures excused { (D.view disk.old).tells ≡ true
         → LeavesStores list.now.rules list.now.digest (D.view disk.old)
         → IfErr result IsExcused }
-    ensures fewer { (D.view disk.old).tells ≡ true
-        → LeavesStores list.now.rules list.now.digest (D.view disk.old)
-        → (file : List ℕ) → (D.view disk.new).may_leave file → (D.view disk.old).may_leave file }
+    ensures any_moment { LeavesAnew result (D.view disk.old) (D.view disk.new)
+        (IsReopening list.now.digest (D.view disk.old)) }
     ensures device { Reopens result (D.view disk.old) (D.view disk.new) }
 {
     let mut rows = Rows::new(alloc, list);

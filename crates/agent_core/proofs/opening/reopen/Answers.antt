@@ -1,5 +1,8 @@
 -- What the frames of the journal led to is what the store stands for.
-use Rattle.std.proofs.Common.{List, subst, ◌∙◌}
+use Rattle.std.proofs.Common.{ℕ, List, subst, ◌∙◌}
+use Rattle.std.specs.Prelude.{Err, Ok}
+use Rattle.open_store.specs.Reopens.{IsReopening}
+use Rattle.open_store.proofs.ReopenLemmas.{anew_as, same_err, same_ok}
 use Rattle.suffix_list.specs.Suffix.{Rule}
 use Rattle.row_store.specs.Stored.{saved_of}
 use Rattle.agent_core.specs.Seen.{IsAtBase}
@@ -30,12 +33,13 @@ returns-in-Ok-clause-found g c tells stores =
     (stores_under c.new-rows.result.rules c.args.list.now.rules c.digest.result
     c.args.list.now.digest c.new-rows.ensures.rules c.digest.ensures.value old stores))
 
-pub returns-in-Ok-clause-fewer : goal.returns-in-Ok-clause-fewer
-returns-in-Ok-clause-fewer g c tells stores =
-    c.reopen.ensures.fewer tells
-    (stores_under c.new-rows.result.rules c.args.list.now.rules c.digest.result
-    c.args.list.now.digest c.new-rows.ensures.rules c.digest.ensures.value
-    (g.D.Disk.view c.args.disk.now) stores)
+pub returns-in-Ok-clause-any_moment : goal.returns-in-Ok-clause-any_moment
+returns-in-Ok-clause-any_moment g c =
+    let v = g.D.Disk.view c.args.disk.now in
+    anew_as (Ok c.in-Ok.journal) _ v (g.D.Disk.view c.reopen.new.disk)
+    (IsReopening c.digest.result v) (IsReopening c.args.list.now.digest v) (same_ok _ _)
+    (λ file. subst (λ (d : List ℕ). IsReopening d v file) c.digest.ensures.value)
+    c.in-Ok.ensures.any_moment
 
 pub returns-in-Err-clause-excused : goal.returns-in-Err-clause-excused
 returns-in-Err-clause-excused g c tells stores =
@@ -44,9 +48,11 @@ returns-in-Err-clause-excused g c tells stores =
     c.args.list.now.digest c.new-rows.ensures.rules c.digest.ensures.value
     (g.D.Disk.view c.args.disk.now) stores)
 
-pub returns-in-Err-clause-fewer : goal.returns-in-Err-clause-fewer
-returns-in-Err-clause-fewer g c tells stores =
-    c.reopen.ensures.fewer tells
-    (stores_under c.new-rows.result.rules c.args.list.now.rules c.digest.result
-    c.args.list.now.digest c.new-rows.ensures.rules c.digest.ensures.value
-    (g.D.Disk.view c.args.disk.now) stores)
+pub returns-in-Err-clause-any_moment : goal.returns-in-Err-clause-any_moment
+returns-in-Err-clause-any_moment g c =
+    let v = g.D.Disk.view c.args.disk.now in
+    anew_as (Err c.in-Err.why) (Err c.in-Err.why) v (g.D.Disk.view c.reopen.new.disk)
+    (IsReopening c.digest.result v) (IsReopening c.args.list.now.digest v)
+    (same_err c.in-Err.why)
+    (λ file. subst (λ (d : List ℕ). IsReopening d v file) c.digest.ensures.value)
+    c.in-Err.ensures.any_moment

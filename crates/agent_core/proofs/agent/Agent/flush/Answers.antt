@@ -29,3 +29,18 @@ returns-in-Spoilt-clause-device g c = rw (← c.self.view_is) (λ up.
 
 pub returns-in-Up-clause-off : goal.returns-in-Up-clause-off
 returns-in-Up-clause-off g c = rw (← c.self.view_is) (λ off. absurd (off c.in-Up.is))
+
+pub returns-in-Up-clause-means : goal.returns-in-Up-clause-means
+returns-in-Up-clause-means g c = c.settle.ensures.flushes.means
+
+pub returns-in-Up-clause-any_moment : goal.returns-in-Up-clause-any_moment
+returns-in-Up-clause-any_moment g c = c.settle.ensures.flushes.any_moment
+
+pub returns-in-Up-clause-rules : goal.returns-in-Up-clause-rules
+returns-in-Up-clause-rules g c = c.settle.ensures.flushes.rules
+
+pub returns-in-Up-clause-device : goal.returns-in-Up-clause-device
+returns-in-Up-clause-device g c = λ up. c.settle.ensures.flushes.device
+
+pub returns-in-Up-clause-tidy : goal.returns-in-Up-clause-tidy
+returns-in-Up-clause-tidy g c = c.settle.ensures.flushes.tidy

@@ -1,5 +1,9 @@
 -- A restart opens one of the states that it may find, or leaves the agent down.
-use Rattle.agent_core.proofs.RestartLemmas.{restart_opened, restart_refused}
+use Rattle.std.proofs.Common.{sym, subst}
+use Rattle.std.specs.Prelude.{Err, Ok}
+use Rattle.open_store.specs.Reopens.{IsReopening, LeavesAnew}
+use Rattle.open_store.proofs.ReopenLemmas.{same_err, same_ok}
+use Rattle.agent_core.proofs.RestartLemmas.{fewer_after, restart_moments, restart_opened, restart_refused}
 use Rattle.agent_core.proofs.agent.Agent.restart.Goals as goal
 
 pub returns-in-Ok-clause-means : goal.returns-in-Ok-clause-means
@@ -9,9 +13,32 @@ returns-in-Ok-clause-means g c =
     (g.D.Disk.view c.go_on.new.self.disk) c.in-Ok.opened.journal c.in-Ok.opened.parts
     c.go_on.result c.in-Ok.ensures.found c.go_on.ensures.kept c.go_on.ensures.seen
 
+pub returns-in-Ok-clause-any_moment : goal.returns-in-Ok-clause-any_moment
+returns-in-Ok-clause-any_moment g c =
+    let v = g.D.Disk.view c.self.inside.store.disk in
+    restart_moments g.D.Disk.view _ c.args.self.now c.self.inside.list.now c.self.view_is
+    c.self.invariant.rules c.self.invariant.digest (Ok c.in-Ok.opened) (Ok c.go_on.result)
+    (g.D.Disk.view c.go_on.new.self.disk) (same_ok c.in-Ok.opened c.go_on.result)
+    (g.met.D.Disk.lawful c.self.inside.store.disk)
+    (subst
+    (λ d. LeavesAnew (Ok c.in-Ok.opened) v (g.D.Disk.view d)
+    (IsReopening c.self.inside.list.now.digest v))
+    (sym c.go_on.ensures.disk) c.in-Ok.ensures.any_moment)
+
 pub returns-in-Err-clause-means : goal.returns-in-Err-clause-means
 returns-in-Err-clause-means g c =
     restart_refused g.D.Disk.view _ c.args.self.now c.self.inside.list.now c.self.view_is
     c.self.invariant.rules c.self.invariant.digest c.power_after-self-inside.result
     c.reopen.new.disk c.in-Err.why c.power_after-self-inside.ensures c.in-Err.ensures.excused
-    c.in-Err.ensures.fewer
+    (λ tells stores.
+    fewer_after (Err c.in-Err.why) c.self.inside.list.now
+    (g.D.Disk.view c.self.inside.store.disk) (g.D.Disk.view c.reopen.new.disk)
+    (g.met.D.Disk.lawful c.self.inside.store.disk) (g.met.D.Disk.lawful c.reopen.new.disk)
+    c.in-Err.ensures.any_moment stores)
+
+pub returns-in-Err-clause-any_moment : goal.returns-in-Err-clause-any_moment
+returns-in-Err-clause-any_moment g c =
+    restart_moments g.D.Disk.view _ c.args.self.now c.self.inside.list.now c.self.view_is
+    c.self.invariant.rules c.self.invariant.digest (Err c.in-Err.why) (Err c.in-Err.why)
+    (g.D.Disk.view c.reopen.new.disk) (same_err c.in-Err.why)
+    (g.met.D.Disk.lawful c.self.inside.store.disk) c.in-Err.ensures.any_moment

@@ -16,3 +16,5 @@ mod heads;
 mod replies;
 #[cfg(test)]
 mod scripts;
+#[cfg(test)]
+mod two_scripts;

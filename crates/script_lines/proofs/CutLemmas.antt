@@ -2,6 +2,7 @@
 use Rattle.std.proofs.Common.{◌≡◌, refl, subst, ℕ, ◌+◌, ◌<◌, ◌≤◌, Bool, true, false, cond, ◌&&◌, List, [], ◌∷◌, length, arith}
 use Rattle.std.proofs.Common.{Option, Some, None, option_and_then, Result, Ok, Err, IfOk, IfSome}
 use Rattle.std.specs.Prelude.{codes, nat_le, nat_lt}
+use Rattle.std.specs.List.{after_first, before_first, list_any}
 use Rattle.std.proofs.lemmas.Bool.{and_parts, leb-true, ltb-true}
 use Rattle.script_lines.specs.Flat.{pairs_data}
 use Rattle.script_lines.specs.declared.pairs.Pair.{Pair}
@@ -9,8 +10,8 @@ use Rattle.serde_json.specs.Data.{Data, Items, no_items, item}
 use Rattle.serde_json.specs.Find.{as_array, get}
 use Rattle.disk_model.specs.Schedule.{AreFrom}
 use Rattle.disk_model.specs.declared.schedule.Cut.{Cut}
-use Rattle.script_lines.specs.Script.{PlainScript, PlainFault}
-use Rattle.script_lines.specs.Plain.{Reads, script_of}
+use Rattle.script_lines.specs.Script.{PlainScript, PlainFault, NoDivider}
+use Rattle.script_lines.specs.Plain.{Reads, script_of, scripts_of}
 use Rattle.script_lines.specs.declared.script.Script.{Script}
 use Rattle.script_lines.specs.declared.script.ScriptFault.{ScriptFault}
 use Rattle.script_lines.specs.Cuts.{cut_by, cut_of_pair, cuts_of_value, in_order, most_cuts, rise}
@@ -18,8 +19,9 @@ use Rattle.script_lines.specs.Fields.{formed, given, then_ok}
 use Rattle.script_lines.specs.Items.{all_there, each_of, two_of}
 use Rattle.script_lines.specs.Words.{number_of, within}
 use Rattle.script_lines.specs.Steps.{cuts_of_data, first_unknown, name_of, refused, step_of_data}
-use Rattle.script_lines.specs.Grammar.{begun_by, data_of_bytes, is_blank, is_disk, lines_from, lines_of}
-use Rattle.script_lines.specs.Grammar.{script_from, script_limit, script_of_bytes, with_lines}
+use Rattle.script_lines.specs.Grammar.{begun_by, data_of_bytes, is_blank, is_disk, lines_from}
+use Rattle.script_lines.specs.Grammar.{script_from, with_lines}
+use Rattle.script_lines.specs.TwoScripts.{both_scripts, is_divider, two_scripts}
 use Rattle.script_actions.specs.Action.{PlainLine}
 
 -- ---- cuts of a value
@@ -121,47 +123,76 @@ disk_from true number line =
     row_from _ (refused number (first_unknown (codes "cuts" ∷ []) line)) (member_from number (codes "cuts") (get (codes "cuts") line))
 disk_from false number line = tt
 
-abbrev CutsFrom : PlainScript → Type 0
-CutsFrom script = AreFrom 1 script.cuts
+-- the cuts of a script are such
+abbrev CutsAre : (List Cut → Type 0) → PlainScript → Type 0
+CutsAre Such script = Such script.cuts
 
-then_from : {A : Type 0} (first : Result A PlainFault) (next : A → Result PlainScript PlainFault) → ((value : A) → IfOk (next value) CutsFrom) → IfOk (then_ok first next) CutsFrom
-then_from (Ok value) next later = later value
-then_from (Err why) next later = tt
+then_are : {A : Type 0} (Such : List Cut → Type 0) (first : Result A PlainFault) (next : A → Result PlainScript PlainFault) → ((value : A) → IfOk (next value) (CutsAre Such)) → IfOk (then_ok first next) (CutsAre Such)
+then_are Such (Ok value) next later = later value
+then_are Such (Err why) next later = tt
 
-if_from : (b : Bool) (one other : Result PlainScript PlainFault) → IfOk one CutsFrom → IfOk other CutsFrom → IfOk (cond b one other) CutsFrom
-if_from true one other first second = first
-if_from false one other first second = second
+if_are : (Such : List Cut → Type 0) (b : Bool) (one other : Result PlainScript PlainFault) → IfOk one (CutsAre Such) → IfOk other (CutsAre Such) → IfOk (cond b one other) (CutsAre Such)
+if_are Such true one other first second = first
+if_are Such false one other first second = second
 
-alone_from : (cuts : Result (List Cut) PlainFault) → IfOk cuts (AreFrom 1) → IfOk (then_ok cuts (λ cuts. Ok (record { cuts = cuts; lines = [] }))) CutsFrom
-alone_from (Ok cuts) are = are
-alone_from (Err why) are = tt
+alone_are : (Such : List Cut → Type 0) (cuts : Result (List Cut) PlainFault) → IfOk cuts Such → IfOk (then_ok cuts (λ cuts. Ok (record { cuts = cuts; lines = [] }))) (CutsAre Such)
+alone_are Such (Ok cuts) are = are
+alone_are Such (Err why) are = tt
 
-begun_from : (cuts_allowed : Bool) (number : ℕ) (line : List ℕ) → IfOk (begun_by cuts_allowed number line) CutsFrom
-begun_from cuts_allowed number line =
-    then_from (data_of_bytes number line) _
-    (λ value. if_from (is_disk (name_of value)) _ _
-    (alone_from _ (disk_from cuts_allowed number value))
-    (then_from (step_of_data number value) _ (λ step. tt)))
+begun_are : (Such : List Cut → Type 0) (cuts_allowed : Bool) (number : ℕ) (line : List ℕ) → Such [] → ((value : Data) → IfOk (cuts_of_data cuts_allowed number value) Such) → IfOk (begun_by cuts_allowed number line) (CutsAre Such)
+begun_are Such cuts_allowed number line none disk =
+    then_are Such (data_of_bytes number line) _
+    (λ value. if_are Such (is_disk (name_of value)) _ _
+    (alone_are Such _ (disk value))
+    (then_are Such (step_of_data number value) _ (λ step. none)))
 
-lines_keep : (begun : Result PlainScript PlainFault) (later : Result (List PlainLine) PlainFault) → IfOk begun CutsFrom
-    → IfOk (then_ok begun (λ script. then_ok later (with_lines script))) CutsFrom
-lines_keep (Ok script) (Ok later) are = are
-lines_keep (Ok script) (Err why) are = tt
-lines_keep (Err why) later are = tt
+lines_keep : (Such : List Cut → Type 0) (begun : Result PlainScript PlainFault) (later : Result (List PlainLine) PlainFault) → IfOk begun (CutsAre Such)
+    → IfOk (then_ok begun (λ script. then_ok later (with_lines script))) (CutsAre Such)
+lines_keep Such (Ok script) (Ok later) are = are
+lines_keep Such (Ok script) (Err why) are = tt
+lines_keep Such (Err why) later are = tt
 
-lines_from_cuts : (cuts_allowed : Bool) (number : ℕ) (lines : List (List ℕ)) → IfOk (script_from cuts_allowed number lines) CutsFrom
+lines_are : (Such : List Cut → Type 0) (cuts_allowed : Bool) (number : ℕ) (lines : List (List ℕ)) → Such [] → ((number : ℕ) (value : Data) → IfOk (cuts_of_data cuts_allowed number value) Such) → IfOk (script_from cuts_allowed number lines) (CutsAre Such)
 unfolding script_from
-lines_from_cuts cuts_allowed number [] = tt
-lines_from_cuts cuts_allowed number (line ∷ lines) =
-    if_from (is_blank line) _ _ (lines_from_cuts cuts_allowed (number + 1) lines)
-    (lines_keep (begun_by cuts_allowed number line) (lines_from (number + 1) lines) (begun_from cuts_allowed number line))
+lines_are Such cuts_allowed number [] none disk = none
+lines_are Such cuts_allowed number (line ∷ lines) none disk =
+    if_are Such (is_blank line) _ _ (lines_are Such cuts_allowed (number + 1) lines none disk)
+    (lines_keep Such (begun_by cuts_allowed number line) (lines_from (number + 1) lines) (begun_are Such cuts_allowed number line none (disk number)))
 
 -- the cuts of a script are those that a disk in memory takes
-pub script_cuts : (cuts_allowed : Bool) (bytes : List ℕ) → IfOk (script_of_bytes cuts_allowed bytes) (λ script. AreFrom 1 script.cuts)
-script_cuts cuts_allowed bytes =
-    if_from (nat_lt script_limit (length bytes)) _ _ tt (lines_from_cuts cuts_allowed 1 (lines_of bytes))
+pub script_cuts : (cuts_allowed : Bool) (number : ℕ) (lines : List (List ℕ)) → IfOk (script_from cuts_allowed number lines) (λ script. AreFrom 1 script.cuts)
+script_cuts cuts_allowed number lines = lines_are (AreFrom 1) cuts_allowed number lines tt (disk_from cuts_allowed)
 
 -- the same of a script that was read
-pub read_cuts : (cuts_allowed : Bool) (bytes : List ℕ) (result : Result Script ScriptFault) → Reads script_of (script_of_bytes cuts_allowed bytes) result → IfOk result (λ script. AreFrom 1 script.cuts.items)
-read_cuts cuts_allowed bytes (Ok script) is = subst (λ r. IfOk r (λ script. AreFrom 1 script.cuts)) is (script_cuts cuts_allowed bytes)
-read_cuts cuts_allowed bytes (Err why) is = tt
+pub read_cuts : (cuts_allowed : Bool) (number : ℕ) (lines : List (List ℕ)) (result : Result Script ScriptFault) → Reads script_of (script_from cuts_allowed number lines) result → IfOk result (λ script. AreFrom 1 script.cuts.items)
+read_cuts cuts_allowed number lines (Ok script) is = subst (λ r. IfOk r (λ script. AreFrom 1 script.cuts)) is (script_cuts cuts_allowed number lines)
+read_cuts cuts_allowed number lines (Err why) is = tt
+
+-- ---- cuts of two scripts
+
+-- neither has a cut
+abbrev HaveNone : PlainScript × PlainScript → Type 0
+HaveNone scripts = (scripts.0.cuts ≡ []) × (scripts.1.cuts ≡ [])
+
+have_none : (first second : Result PlainScript PlainFault) → IfOk first (λ script. script.cuts ≡ []) → IfOk second (λ script. script.cuts ≡ [])
+    → IfOk (then_ok first (λ one. then_ok second (λ other. Ok (one, other)))) HaveNone
+have_none (Ok one) (Ok other) first second = (first, second)
+have_none (Ok one) (Err why) first second = tt
+have_none (Err why) second first none = tt
+
+no_cuts : (number : ℕ) (lines : List (List ℕ)) → IfOk (script_from false number lines) (λ script. script.cuts ≡ [])
+no_cuts number lines = lines_are (λ cuts. cuts ≡ []) false number lines refl (λ number value. tt)
+
+two_cuts : (lines : List (List ℕ)) → IfOk (two_scripts lines) HaveNone
+two_cuts lines =
+    let before = before_first is_divider lines in
+    let behind = after_first is_divider lines in
+    elim (list_any is_divider lines) as (λ b. IfOk (cond b (both_scripts before (length before + 2) behind) (Err NoDivider)) HaveNone) [
+      | true ↦ have_none _ _ (no_cuts 1 before) (no_cuts (length before + 2) behind)
+      | false ↦ tt
+    ]
+
+-- two scripts that were read have none
+pub read_no_cuts : (lines : List (List ℕ)) (result : Result (Script × Script) ScriptFault) → Reads scripts_of (two_scripts lines) result → IfOk result (λ scripts. (scripts.0.cuts.items ≡ []) × (scripts.1.cuts.items ≡ []))
+read_no_cuts lines (Ok scripts) is = subst (λ r. IfOk r HaveNone) is (two_cuts lines)
+read_no_cuts lines (Err why) is = tt

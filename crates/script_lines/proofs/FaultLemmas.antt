@@ -2,13 +2,14 @@
 use Rattle.std.proofs.Common.{ℕ, ◌+◌, Bool, true, false, cond, not, List, [], ◌∷◌, Option}
 use Rattle.std.proofs.Common.{Some, None, Result, Ok, Err, IfErr, map, length}
 use Rattle.std.specs.Prelude.{nat_lt}
-use Rattle.std.specs.List.{list_all}
+use Rattle.std.specs.List.{after_first, before_first, list_all, list_any}
 use Rattle.std.specs.Str.{is_utf8}
 use Rattle.serde_json.specs.Data.{Data}
 use Rattle.serde_json.specs.Find.{get}
 use Rattle.serde_json.specs.Read.{read}
 use Rattle.script_lines.specs.Script.{PlainFault, NotJson, UnknownAction, BadField}
-use Rattle.script_lines.specs.Script.{LineTooLong, TooLong, NotUtf8, ReadFault, BadHeader, NoMemory}
+use Rattle.script_lines.specs.Script.{LineTooLong, TooLong, NotUtf8, ReadFault, BadHeader, NoDivider}
+use Rattle.script_lines.specs.Script.{NoMemory, PlainScript}
 use Rattle.script_lines.specs.Fields.{Field, Kind, Meaning, meaning, checked, formed, field_of}
 use Rattle.script_lines.specs.Fields.{fields_of, given, then_ok, head_list}
 use Rattle.script_lines.specs.Heads.{is_header}
@@ -17,10 +18,10 @@ use Rattle.script_actions.specs.Action.{PlainStep}
 use Rattle.script_lines.specs.Steps.{by_row, cuts_of_data, disk_row, first_unknown, name_of, refused}
 use Rattle.script_lines.specs.Steps.{row_named, step_by, step_named, step_of_data}
 use Rattle.script_lines.specs.Grammar.{begun_by, data_of_bytes, is_blank, is_disk, json_of, line_limit}
-use Rattle.script_lines.specs.Grammar.{line_of_bytes, lines_from, lines_of, script_from}
-use Rattle.script_lines.specs.Grammar.{script_limit, script_of_bytes}
+use Rattle.script_lines.specs.Grammar.{line_of_bytes, lines_from, script_from}
+use Rattle.script_lines.specs.TwoScripts.{both_scripts, is_divider, two_scripts}
 
--- a fault of the text
+-- a fault of the text of one script
 abbrev pub IsOfText : PlainFault → Type 0
 IsOfText (NotJson line) = Unit {0}
 IsOfText (UnknownAction line) = Unit {0}
@@ -30,6 +31,7 @@ IsOfText TooLong = Unit {0}
 IsOfText (NotUtf8 line) = Unit {0}
 IsOfText ReadFault = ⊥
 IsOfText (BadHeader line) = Unit {0}
+IsOfText NoDivider = ⊥
 IsOfText NoMemory = ⊥
 
 then_of_text : {A B : Type 0} (first : Result A PlainFault) (next : A → Result B PlainFault) → IfErr first IsOfText → ((value : A) → IfErr (next value) IsOfText) → IfErr (then_ok first next) IsOfText
@@ -112,7 +114,8 @@ begun_of_text cuts_allowed number line =
     (then_of_text _ _ (cuts_of_text cuts_allowed number value) (λ cuts. tt))
     (then_of_text _ _ (step_of_text number value) (λ step. tt)))
 
-from_of_text : (cuts_allowed : Bool) (number : ℕ) (lines : List (List ℕ)) → IfErr (script_from cuts_allowed number lines) IsOfText
+-- the fault of a script is one of the text
+pub from_of_text : (cuts_allowed : Bool) (number : ℕ) (lines : List (List ℕ)) → IfErr (script_from cuts_allowed number lines) IsOfText
 unfolding script_from
 from_of_text cuts_allowed number [] = tt
 from_of_text cuts_allowed number (line ∷ lines) =
@@ -120,7 +123,29 @@ from_of_text cuts_allowed number (line ∷ lines) =
     (then_of_text _ _ (begun_of_text cuts_allowed number line)
     (λ script. then_of_text _ _ (lines_of_text (number + 1) lines) (λ later. tt)))
 
--- the fault of a script is one of the text
-pub script_of_text : (cuts_allowed : Bool) (bytes : List ℕ) → IfErr (script_of_bytes cuts_allowed bytes) IsOfText
-script_of_text cuts_allowed bytes =
-    if_of_text (nat_lt script_limit (length bytes)) _ _ tt (from_of_text cuts_allowed 1 (lines_of bytes))
+-- ---- two scripts
+
+-- a fault of the text of two scripts
+abbrev pub IsOfTwo : PlainFault → Type 0
+IsOfTwo NoDivider = Unit {0}
+IsOfTwo why = IsOfText why
+
+of_two : (why : PlainFault) → IsOfText why → IsOfTwo why
+of_two NoDivider of_text = tt
+of_two why of_text = of_text
+
+both_of_text : (first second : Result PlainScript PlainFault) → IfErr first IsOfText → IfErr second IsOfText
+    → IfErr {T = PlainScript × PlainScript} (then_ok first (λ one. then_ok second (λ other. Ok (one, other)))) IsOfTwo
+both_of_text (Ok one) (Ok other) first second = tt
+both_of_text (Ok one) (Err why) first second = of_two why second
+both_of_text (Err why) other first second = of_two why first
+
+-- the fault of two scripts is one of the text
+pub two_of_text : (lines : List (List ℕ)) → IfErr (two_scripts lines) IsOfTwo
+two_of_text lines =
+    let before = before_first is_divider lines in
+    let behind = after_first is_divider lines in
+    elim (list_any is_divider lines) as (λ b. IfErr (cond b (both_scripts before (length before + 2) behind) (Err NoDivider)) IsOfTwo) [
+      | true ↦ both_of_text _ _ (from_of_text false 1 before) (from_of_text false (length before + 2) behind)
+      | false ↦ tt
+    ]

@@ -3,6 +3,7 @@ pub mod ActionFacts
 pub mod FieldFacts
 pub mod HeadFacts
 pub mod CutFacts
+pub mod TwoFacts
 pub mod LineLemmas
 pub mod MemberLemmas
 pub mod FaultLemmas
@@ -12,3 +13,4 @@ pub mod FlatLemmas
 pub mod ItemLemmas
 pub mod PairLemmas
 pub mod PlaceLemmas
+pub mod TwoLemmas

@@ -1,17 +1,17 @@
 -- The lines of a text one after another, and the script that they give.
 use Rattle.std.proofs.Common.{◌≡◌, ℕ, ◌+◌, ◌<◌, ◌≤◌, Bool, true, false, List, [], ◌∷◌, ◌++◌, length, take, drop}
 use Rattle.std.proofs.Common.{Option, Some, None, Result, Ok, Err, refl, ap, sym, ◌∙◌, arith}
-use Rattle.std.proofs.Common.{append_assoc, append-nil, position, map, option_map}
+use Rattle.std.proofs.Common.{◌==◌, All, append_assoc, append-nil, get_or, position, map, option_map}
 use Rattle.std.specs.Prelude.{option_to_list}
 use Rattle.std.specs.List.{slice_split, position_or_len}
-use Rattle.std.proofs.lemmas.Bool.{cond-true, cond-false}
+use Rattle.std.proofs.lemmas.Bool.{cond-true, cond-false, eqb-true}
 use Rattle.std.proofs.lemmas.Grind.{common_steps}
 use Rattle.std.proofs.lemmas.List.Quantifiers.{position-Some}
 use Rattle.std.proofs.lemmas.List.Splits.{slice_split_first, slice_split_none}
-use Rattle.std.proofs.lemmas.List.Sums.{fails_before_first}
+use Rattle.std.proofs.lemmas.List.Sums.{fails_before_first, split_at_first}
 use Rattle.script_actions.specs.Action.{PlainLine}
 use Rattle.script_lines.specs.Script.{PlainScript, PlainFault}
-use Rattle.std.proofs.lemmas.List.{map-append}
+use Rattle.std.proofs.lemmas.List.{get_or-take, length-take, map-append}
 use Rattle.script_actions.specs.declared.step.Line.{Line}
 use Rattle.script_lines.specs.Fields.{then_ok}
 use Rattle.script_lines.specs.Grammar.{begun_by, is_blank, line_of_bytes, lines_from, lines_of, script_from}
@@ -26,11 +26,32 @@ cut_at p xs k found =
     let inside : position_or_len p xs < length xs = omega (arith, at, (position-Some p xs k 0 found).0) in
     slice_split_first p xs 0 inside ∙ ap (λ n. take n xs ∷ slice_split p (drop (n + 1) xs)) at
 
+-- none passes anywhere
+pub fails_all : (p : ℕ → Bool) (xs : List ℕ) → position p xs ≡ None → All (λ x. p x ≡ false) xs
+fails_all p xs none =
+    let whole : length xs ≤ position_or_len p xs = grind (arith, common_steps) in
+    λ k d inside. fails_before_first p xs k d (omega arith)
+
 -- where none passes, the list is the one part
 pub cut_none : (p : ℕ → Bool) (xs : List ℕ) → position p xs ≡ None → slice_split p xs ≡ xs ∷ []
-cut_none p xs none =
-    let whole : length xs ≤ position_or_len p xs = grind (arith, common_steps) in
-    slice_split_none p xs (λ k d inside. fails_before_first p xs k d (omega arith))
+cut_none p xs none = slice_split_none p xs (fails_all p xs none)
+
+-- the same list in its parts: what stands before the place, the byte there, and what stands behind
+pub place_cuts : (n : ℕ) (xs : List ℕ) (k : ℕ) → position (λ b. b == n) xs ≡ Some k → xs ≡ take k xs ++ n ∷ drop (k + 1) xs
+place_cuts n xs k found =
+    let at : position_or_len (λ b. b == n) xs ≡ k = grind (arith, common_steps) in
+    let first = position-Some (λ b. b == n) xs k 0 found in
+    let inside : position_or_len (λ b. b == n) xs < length xs = omega (arith, at, first.0) in
+    split_at_first (λ b. b == n) xs 0 inside
+    ∙ ap (λ j. take j xs ++ get_or xs j 0 ∷ drop (j + 1) xs) at
+    ∙ ap (λ b. take k xs ++ b ∷ drop (k + 1) xs) (eqb-true (get_or xs k 0) n first.1)
+
+-- no element before the place passes
+pub fails_before : (p : ℕ → Bool) (xs : List ℕ) (k : ℕ) → position p xs ≡ Some k → All (λ x. p x ≡ false) (take k xs)
+fails_before p xs k found =
+    λ j d inside.
+    let below : j < k = omega (arith, length-take k xs, inside) in
+    ap p (get_or-take k xs j d below) ∙ (position-Some p xs k d found).2 j below
 
 joined : (done first : List PlainLine) (later : Result (List PlainLine) PlainFault)
     → then_ok (then_ok later (λ lines. Ok (first ++ lines))) (after done) ≡ then_ok later (after (done ++ first))

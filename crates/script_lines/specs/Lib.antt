@@ -9,6 +9,7 @@ pub mod Rows
 pub mod Actions
 pub mod Steps
 pub mod Grammar
+pub mod TwoScripts
 pub mod Plain
 -- What private functions compute. No public clause rests on it.
 pub mod Names

@@ -7,16 +7,21 @@ use Rattle.script_actions.specs.Plain.{line_of}
 use Rattle.script_lines.specs.Script.{PlainScript, PlainFault}
 use Rattle.script_lines.specs.Script as plain
 use Rattle.script_lines.specs.Grammar.{script_of_bytes}
+use Rattle.script_lines.specs.TwoScripts.{two_of_bytes}
 use Rattle.script_lines.specs.declared.script.Script.{Script}
 use Rattle.script_lines.specs.declared.script.ScriptFault.{ScriptFault}
 use Rattle.script_lines.specs.declared.script.ScriptFault.TheVariants.{NotJson, UnknownAction}
 use Rattle.script_lines.specs.declared.script.ScriptFault.TheVariants.{BadField, LineTooLong}
 use Rattle.script_lines.specs.declared.script.ScriptFault.TheVariants.{TooLong, NotUtf8, ReadFault}
-use Rattle.script_lines.specs.declared.script.ScriptFault.TheVariants.{BadHeader, NoMemory}
+use Rattle.script_lines.specs.declared.script.ScriptFault.TheVariants.{BadHeader, NoDivider, NoMemory}
 
 -- a script
 abbrev pub script_of : Script → PlainScript
 script_of script = record { cuts = script.cuts.items; lines = map line_of script.lines.items }
+
+-- two scripts
+abbrev pub scripts_of : Script × Script → PlainScript × PlainScript
+scripts_of scripts = (script_of scripts.0, script_of scripts.1)
 
 -- why there is no script
 abbrev pub fault_of : ScriptFault → PlainFault
@@ -28,6 +33,7 @@ fault_of TooLong = plain.TooLong
 fault_of (NotUtf8 line) = plain.NotUtf8 line
 fault_of ReadFault = plain.ReadFault
 fault_of (BadHeader line) = plain.BadHeader line
+fault_of NoDivider = plain.NoDivider
 fault_of NoMemory = plain.NoMemory
 
 -- a reader answers the expected value, seen by `plain`, or its fault, or want of memory
@@ -48,3 +54,9 @@ abbrev pub GaveScript : Bool → Option (List ℕ) → Option (List ℕ) → Res
     → Type 0
 GaveScript cuts_allowed old new script =
     (bytes : List ℕ) × Gives old new bytes × (script_of_bytes cuts_allowed bytes ≡ script)
+
+-- the same of two scripts
+abbrev pub GaveTwo : Option (List ℕ) → Option (List ℕ)
+    → Result (PlainScript × PlainScript) PlainFault → Type 0
+GaveTwo old new scripts =
+    (bytes : List ℕ) × Gives old new bytes × (two_of_bytes bytes ≡ scripts)

@@ -9,8 +9,8 @@ pub record PlainScript : Type 0 where
   pub cuts : List Cut
   pub lines : List PlainLine
 
--- why a text is no script, with the number of the line and the name of the member; and the two
--- refusals of a reader that are not the text's
+-- why a text is no script, with the number of the line and the name of the member, or no two
+-- scripts; and the two refusals of a reader that are not the text's
 pub data PlainFault : Type 0 where
   NotJson : (line : ℕ) → PlainFault
   UnknownAction : (line : ℕ) → PlainFault
@@ -20,4 +20,5 @@ pub data PlainFault : Type 0 where
   NotUtf8 : (line : ℕ) → PlainFault
   ReadFault : PlainFault
   BadHeader : (line : ℕ) → PlainFault
+  NoDivider : PlainFault
   NoMemory : PlainFault

@@ -27,17 +27,16 @@ pub struct FirstLine<'a> {
     pub later: Option<&'a [u8]>,
 }
 
-/// The first line that is not blank.
-pub fn first_line(bytes: &[u8]) -> Option<FirstLine<'_>>
-    requires { length bytes.now ≤ spec.script_limit }
-    ensures script { (cuts_allowed : Bool) → script_from cuts_allowed 1 (lines_of bytes.now)
+/// The first line that is not blank. The first of all has this number.
+pub fn first_line(bytes: &[u8], mut number: u32) -> Option<FirstLine<'_>>
+    requires { number + length bytes.now ≤ spec.script_limit + 1 }
+    ensures script { (cuts_allowed : Bool) → script_from cuts_allowed number (lines_of bytes.now)
         ≡ script_at cuts_allowed result }
     ensures seen { IfSome result (λ first. is_blank first.text.now ≡ false) }
     ensures count { IfSome result (λ first.
-        first.number + length_after (option_copied first.later) ≤ length bytes.now + 1) }
+        first.number + length_after (option_copied first.later) ≤ number + length bytes.now) }
 {
     let mut rest = bytes;
-    let mut number = 1;
     'blank: loop {
         let (text, later) = next_line(rest);
         if !is_blank(text) {

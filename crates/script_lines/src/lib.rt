@@ -1,6 +1,7 @@
 //! Script lines: reading a script by its grammar.
 //!
-//! [`Script::read`] answers the script that the bytes of a source are, or its first fault.
+//! [`Script::read`] answers the script that the bytes of a source are, or its first fault, and
+//! [`Script::read_two`] the two scripts into which a line divides them.
 //! Contracts see actions and lines as plain data, whose texts are lists of bytes; the grammar is a
 //! table of actions with their fields.
 #![tactic(auto)]
@@ -18,6 +19,7 @@ mod pairs;
 mod reader;
 mod rows;
 mod script;
+mod two_scripts;
 mod words;
 
 pub use script::{Script, ScriptFault};

@@ -3,17 +3,18 @@ ghost use Rattle.std.specs.Prelude.{◌≡◌, ◌≤◌, ◌<◌, ◌∷◌, �
 ghost use Rattle.std.specs.Prelude.{[], Ok, Err, ◌==◌, ◌⊎◌, IfSome, MatchOption, MatchResult};
 ghost use Rattle.std.specs.Prelude.{option_to_list};
 ghost use Rattle.std.specs.Prelude.{false, position, true, length, map, Some, option_copied, option_map};
+ghost use Rattle.std.specs.List.{All};
 ghost use Rattle.std.specs.Str.{is_utf8};
 ghost use Rattle.agent_base.specs.Counts.{Rose};
-ghost use Rattle.agent_base.specs.Streams.{Shortens};
+ghost use Rattle.agent_base.specs.Streams.{Gives, Shortens};
 ghost use Rattle.disk_model.specs.Schedule.{AreFrom};
 ghost use Rattle.script_lines.specs.Fields.{then_ok};
 ghost use Rattle.script_lines.specs.Grammar as spec;
 ghost use Rattle.script_lines.specs.Grammar.{line_of_bytes, lines_from};
-ghost use Rattle.script_lines.specs.Grammar.{lines_of, script_limit, script_of_bytes};
+ghost use Rattle.script_lines.specs.Grammar.{lines_of, script_from, script_limit, script_of_bytes};
 ghost use Rattle.script_lines.specs.JsonLine.{data_of_line};
 ghost use Rattle.script_lines.specs.Pieces as pieces;
-ghost use Rattle.script_lines.specs.Pieces.{after, length_after, lines_after};
+ghost use Rattle.script_lines.specs.Pieces.{after, length_after, lines_after, with_later};
 ghost use Rattle.script_lines.specs.Plain.{GaveScript, Reads, ReadsSource, fault_of, script_of};
 ghost use Rattle.script_actions.specs.Plain.{line_of};
 
@@ -55,6 +56,7 @@ impl Script {
         ensures refused_end { IfErr result (λ why. (why ≡ ScriptFault.NoMemory)
             ⊎ ((why ≡ ScriptFault.ReadFault) ⊎ ((why ≡ ScriptFault.TooLong)
             ⊎ IfSome (S.left source.new) (λ rest. rest ≡ [])))) }
+        ensures one_script { ¬ IsErrOf result ScriptFault.NoDivider }
         ensures cause { IsErrOf result ScriptFault.ReadFault
             → Rose (S.faults source.old) (S.faults source.new) }
         ensures later { S.faults source.old ≤ S.faults source.new }
@@ -63,20 +65,47 @@ impl Script {
             ⊎ (S.faults source.new ≡ S.faults source.old)) }
         ensures rest { Shortens (S.left source.old) (S.left source.new) }
     {
-        match read_all(alloc, source, SCRIPT_LIMIT) {
-            Ok(bytes) => script_in(alloc, &bytes, cuts_allowed),
-            Err(ReadAll::TooLong) => Err(ScriptFault::TooLong),
-            Err(ReadAll::Failed) => Err(ScriptFault::ReadFault),
-            Err(ReadAll::NoMemory) => Err(ScriptFault::NoMemory),
-        }
+        let bytes = read_input(alloc, source)?;
+        script_in(alloc, &bytes, 1, cuts_allowed)
     }
 }
 
-fn script_in(alloc: Global, bytes: &[u8], cuts_allowed: bool) -> Result<Script, ScriptFault>
-    requires { length bytes.now ≤ script_limit }
-    ensures { Reads script_of (script_of_bytes cuts_allowed bytes.now) result }
+/// All bytes of a source, where they are no more than a script may have.
+pub fn read_input<S: Source>(alloc: Global, source: &mut S) -> Result<Vec<u8>, ScriptFault>
+    ensures all { IfOk result (λ bytes. Gives (S.left source.old) (S.left source.new) bytes.items) }
+    ensures end { OnOk result (IfSome (S.left source.new) (λ rest. rest ≡ [])) }
+    ensures within { IfOk result (λ bytes. length bytes.items ≤ script_limit) }
+    ensures refused { IfErr result (λ why. (why ≡ ScriptFault.NoMemory)
+        ⊎ ((why ≡ ScriptFault.ReadFault) ⊎ (why ≡ ScriptFault.TooLong))) }
+    ensures too_long { IsErrOf result ScriptFault.TooLong → IfSome (S.left source.old)
+        (λ bytes. script_limit < length bytes) }
+    ensures cause { IsErrOf result ScriptFault.ReadFault
+        → Rose (S.faults source.old) (S.faults source.new) }
+    ensures later { S.faults source.old ≤ S.faults source.new }
+    ensures still { MatchResult result (λ _. S.faults source.new ≡ S.faults source.old)
+        (λ why. (why ≡ ScriptFault.ReadFault)
+        ⊎ (S.faults source.new ≡ S.faults source.old)) }
+    ensures rest { Shortens (S.left source.old) (S.left source.new) }
 {
-    match first_line(bytes) {
+    match read_all(alloc, source, SCRIPT_LIMIT) {
+        Ok(bytes) => Ok(bytes),
+        Err(ReadAll::TooLong) => Err(ScriptFault::TooLong),
+        Err(ReadAll::Failed) => Err(ScriptFault::ReadFault),
+        Err(ReadAll::NoMemory) => Err(ScriptFault::NoMemory),
+    }
+}
+
+/// The script of a text, of which the first line has this number.
+pub fn script_in(
+    alloc: Global,
+    bytes: &[u8],
+    number: u32,
+    cuts_allowed: bool,
+) -> Result<Script, ScriptFault>
+    requires { number + length bytes.now ≤ script_limit + 1 }
+    ensures { Reads script_of (script_from cuts_allowed number (lines_of bytes.now)) result }
+{
+    match first_line(bytes, number) {
         Some(first) => script_at(alloc, &first, cuts_allowed),
         None => Ok(Script {
             cuts: Vec::new(alloc),
@@ -137,6 +166,8 @@ fn read_lines(
 /// The first line, and what follows its line feed.
 pub fn next_line(bytes: &[u8]) -> (&[u8], Option<&[u8]>)
     ensures lines { lines_of bytes.now ≡ result.0.now ∷ lines_after (option_copied result.1) }
+    ensures line { All (λ b. (b == 10) ≡ false) result.0.now }
+    ensures bytes { bytes.now ≡ with_later result.0.now (option_copied result.1) }
     ensures shorter { IfSome result.1 (λ later. length later.now < length bytes.now) }
 {
     match line_end(bytes) {

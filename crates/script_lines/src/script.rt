@@ -43,6 +43,9 @@ pub enum ScriptFault {
     /// feed or a carriage return.
     #[error("script line {0}: bad header")]
     BadHeader(u32),
+    /// No line divides the input into two scripts.
+    #[error("script: no divider")]
+    NoDivider,
     /// A growth of memory was refused.
     #[error("script: out of memory")]
     NoMemory,
@@ -103,6 +106,7 @@ impl ScriptFault {
             ScriptFault::NotUtf8(line) => Ok(ScriptFault::NotUtf8(*line)),
             ScriptFault::ReadFault => Ok(ScriptFault::ReadFault),
             ScriptFault::BadHeader(line) => Ok(ScriptFault::BadHeader(*line)),
+            ScriptFault::NoDivider => Ok(ScriptFault::NoDivider),
             ScriptFault::NoMemory => Ok(ScriptFault::NoMemory),
         }
     }

@@ -5,8 +5,8 @@ use Rattle.script_lines.proofs.beginning.first_line.Given as goal
 abbrev pub invariant-blank : goal.invariant-blank
 invariant-blank l =
     record {
-      count : l.number + length l.rest ≤ length l.bytes + 1;
-      script : (cuts_allowed : Bool) → script_from cuts_allowed 1 (lines_of l.bytes) ≡ script_from cuts_allowed l.number (lines_of l.rest);
+      count : l.number + length l.rest ≤ l.fn.number + length l.bytes;
+      script : (cuts_allowed : Bool) → script_from cuts_allowed l.fn.number (lines_of l.bytes) ≡ script_from cuts_allowed l.number (lines_of l.rest);
     }
 
 abbrev pub decreases-blank : goal.decreases-blank

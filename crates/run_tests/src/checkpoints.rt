@@ -1,11 +1,8 @@
-//! Checkpoints of an agent: how long they leave the store, and that it opens with the same state.
-use crate::shared::{lines_of, list_of};
-use agent_core::{Agent, Options, Outcome};
-use disk_model::{Disk, MemDisk};
-use script_actions::Step;
-use std::alloc::Global;
+//! Checkpoints of a run: how long they leave the store, and what a cut within one leaves.
+use crate::shared::{RESTART, disk_of, options, run};
+use disk_model::{Cut, Disk};
 use std::test::Fail;
-use suffix_list::SuffixList;
+use store_runs::Ending;
 
 /// A pair is stored, and its value changed.
 const LINES: &[&str] = &[
@@ -14,77 +11,139 @@ const LINES: &[&str] = &[
     "{\"do\":\"set\",\"tab\":1,\"key\":\"k\",\"value\":\"w\"}",
 ];
 
-/// How many of the lines are run, after how many durable changes a checkpoint is due, and how long
-/// the store is afterwards.
-const LENGTHS: [(usize, u32, u64); 6] = [
-    (1, 1, 129),
-    (2, 0, 199),
-    (2, 1, 266),
-    (2, 2, 199),
-    (3, 1, 336),
-    (3, 0, 269),
+/// How many of the lines are run, in batches of how many, after how many durable changes a
+/// checkpoint is due, and how long the store is afterwards.
+const LENGTHS: [(usize, u16, u32, u64); 8] = [
+    (1, 1, 1, 129),
+    (2, 1, 0, 199),
+    (2, 1, 1, 266),
+    (2, 1, 2, 199),
+    (3, 1, 1, 336),
+    (3, 1, 0, 269),
+    (3, 5, 0, 251),
+    (2, 5, 1, 266),
 ];
 
-fn gives(outcome: Outcome) -> bool {
-    match outcome {
-        Outcome::Replies(_) => true,
-        Outcome::Held | Outcome::Down | Outcome::NoMemory => false,
-    }
-}
+/// A pair is stored, and read before and after a restart.
+const STORED: &[&str] = &[
+    "{\"do\":\"open\",\"tab\":1,\"url\":\"https://a.test/\"}",
+    "{\"do\":\"set\",\"tab\":1,\"key\":\"k\",\"value\":\"v\"}",
+    "{\"do\":\"get\",\"tab\":1,\"key\":\"k\"}",
+    RESTART,
+    "{\"do\":\"open\",\"tab\":1,\"url\":\"https://a.test/\"}",
+    "{\"do\":\"get\",\"tab\":1,\"key\":\"k\"}",
+];
 
-// Runs lines over an agent with a flush behind each, and tells whether all were answered.
-fn run(alloc: Global, agent: &mut Agent<'_, MemDisk>, lines: &[&str]) -> Result<bool, Fail> {
-    for line in lines_of(alloc, lines)? {
-        let Step::Act(action) = line.step else {
-            return Ok(false);
-        };
-        if !gives(agent.line(&action)) || !gives(agent.flush()) {
-            return Ok(false);
-        }
-    }
-    Ok(true)
-}
+/// What its first lines print: the reply to the second one is given before the checkpoint.
+const SET: &str = concat!(
+    "{\"cookie\":null,\"do\":\"open\",\"is\":\"ok\",\"set\":[],\"site\":\"https://a.test\"}\n",
+    "{\"do\":\"set\",\"is\":\"ok\",\"site\":\"https://a.test\"}\n",
+);
 
-// The disk after such a run, where all lines were answered.
-fn disk_after(
-    alloc: Global,
-    disk: MemDisk,
-    list: &SuffixList,
-    lines: &[&str],
-    checkpoint: u32,
-) -> Result<Option<MemDisk>, Fail> {
-    let options = Options {
-        start: 1_000_000_000,
-        batch: 1,
-        checkpoint,
-    };
-    let Ok(mut agent) = Agent::open(alloc, disk, list, options) else {
-        return Ok(None);
-    };
-    let is_well = run(alloc, &mut agent, lines)?;
-    let disk = agent.into_disk();
-    Ok(if is_well { Some(disk) } else { None })
-}
+/// What it prints where the checkpoint behind its second line is cut.
+const CUT: &str = concat!(
+    "{\"cookie\":null,\"do\":\"open\",\"is\":\"ok\",\"set\":[],\"site\":\"https://a.test\"}\n",
+    "{\"do\":\"set\",\"is\":\"ok\",\"site\":\"https://a.test\"}\n",
+    "{\"do\":\"get\",\"is\":\"down\",\"site\":null}\n",
+    "{\"do\":\"restart\",\"is\":\"ok\",\"kept\":1,\"site\":null}\n",
+    "{\"cookie\":null,\"do\":\"open\",\"is\":\"ok\",\"set\":[],\"site\":\"https://a.test\"}\n",
+    "{\"do\":\"get\",\"is\":\"ok\",\"site\":\"https://a.test\",\"value\":\"v\"}\n",
+);
 
-fn new_disk(alloc: Global) -> MemDisk {
-    MemDisk::new(alloc, Vec::new(alloc), Vec::new(alloc), Vec::new(alloc))
-}
+/// The calls of a checkpoint behind a commit on a new store: 7 made it, and 4 committed.
+const CHECKPOINT: [u64; 7] = [12, 13, 14, 15, 16, 17, 18];
+
+/// The pair is read behind a restart, and then once more.
+const READ: &[&str] = &[
+    RESTART,
+    "{\"do\":\"open\",\"tab\":1,\"url\":\"https://a.test/\"}",
+    "{\"do\":\"get\",\"tab\":1,\"key\":\"k\"}",
+];
+
+/// What that prints, and what it prints where the first call behind its restart is cut.
+const FOUND: &str = concat!(
+    "{\"do\":\"restart\",\"is\":\"ok\",\"kept\":0,\"site\":null}\n",
+    "{\"cookie\":null,\"do\":\"open\",\"is\":\"ok\",\"set\":[],\"site\":\"https://a.test\"}\n",
+    "{\"do\":\"get\",\"is\":\"ok\",\"site\":\"https://a.test\",\"value\":\"v\"}\n",
+);
+
+const BEHIND_A_LINE: &str = concat!(
+    "{\"do\":\"restart\",\"is\":\"ok\",\"kept\":0,\"site\":null}\n",
+    "{\"cookie\":null,\"do\":\"open\",\"is\":\"ok\",\"set\":[],\"site\":\"https://a.test\"}\n",
+    "{\"do\":\"get\",\"is\":\"down\",\"site\":null}\n",
+);
 
 #[test]
-fn a_due_checkpoint_is_made_by_the_next_flush(rt: HostRuntime) -> Result<(), Fail> {
+fn a_due_checkpoint_is_made(rt: HostRuntime) -> Result<(), Fail> {
     let alloc = rt.alloc();
-    let list = list_of(alloc, "")?;
-    for (count, checkpoint, length) in LENGTHS {
+    for (count, batch, checkpoint, length) in LENGTHS {
         let lines = LINES.get(..count).unwrap_or(LINES);
-        let mut found = None;
-        if let Some(mut disk) = disk_after(alloc, new_disk(alloc), &list, lines, checkpoint)? {
-            found = disk.len().ok();
-        }
+        let disk = disk_of(alloc, "", None)?;
+        let mut ran = run(alloc, disk, "", options(batch, checkpoint), lines)?;
+        assert_eq!(rt; ran.ending, Ending::Done);
         assert_eq!(rt;
-            found,
+            ran.disk.len().ok(),
             Some(length),
             "{count} lines, a checkpoint after {checkpoint}"
         );
     }
+    Ok(())
+}
+
+#[test]
+fn a_cut_within_a_checkpoint_loses_nothing(rt: HostRuntime) -> Result<(), Fail> {
+    let alloc = rt.alloc();
+    for call in CHECKPOINT {
+        for pick in [0, 1, 2, 3] {
+            let disk = disk_of(alloc, "", Some(Cut { call, pick }))?;
+            let ran = run(alloc, disk, "", options(1, 1), STORED)?;
+            assert_eq!(rt; ran.ending, Ending::Done, "cut {call}, {pick}");
+            assert_eq!(rt; ran.out.as_slice(), CUT.as_bytes(), "cut {call}, {pick}");
+        }
+    }
+    Ok(())
+}
+
+#[test]
+fn a_last_checkpoint_that_is_cut_ends_as_a_device_fault(rt: HostRuntime) -> Result<(), Fail> {
+    let alloc = rt.alloc();
+    let lines = STORED.get(..2).unwrap_or(STORED);
+    for batch in [1, 5] {
+        for call in CHECKPOINT {
+            let disk = disk_of(alloc, "", Some(Cut { call, pick: 0 }))?;
+            let ran = run(alloc, disk, "", options(batch, 1), lines)?;
+            assert_eq!(rt;
+                ran.ending,
+                Ending::Device,
+                "cut {call}, batches of {batch}"
+            );
+            assert_eq!(rt;
+                ran.out.as_slice(),
+                SET.as_bytes(),
+                "cut {call}, batches of {batch}"
+            );
+            let again = run(alloc, ran.disk.reopen(), "", options(1, 0), READ)?;
+            assert_eq!(rt;
+                again.out.as_slice(),
+                FOUND.as_bytes(),
+                "cut {call}, batches of {batch}"
+            );
+        }
+    }
+    Ok(())
+}
+
+// The store is left by a run without checkpoints, in 11 calls. One opens it again, one is that of
+// the restart, and the next is the first one of the checkpoint.
+#[test]
+fn no_checkpoint_is_made_right_behind_a_restart(rt: HostRuntime) -> Result<(), Fail> {
+    let alloc = rt.alloc();
+    let lines = STORED.get(..2).unwrap_or(STORED);
+    let disk = disk_of(alloc, "", Some(Cut { call: 14, pick: 0 }))?;
+    let ran = run(alloc, disk, "", options(1, 0), lines)?;
+    assert_eq!(rt; ran.ending, Ending::Done);
+    let ran = run(alloc, ran.disk, "", options(1, 1), READ)?;
+    assert_eq!(rt; ran.ending, Ending::Device);
+    assert_eq!(rt; ran.out.as_slice(), BEHIND_A_LINE.as_bytes());
     Ok(())
 }

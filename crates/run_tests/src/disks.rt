@@ -1,10 +1,10 @@
 //! Runs over a disk that other runs had: what a run leaves, and what is refused.
-use crate::shared::{cuts_of, lines_of, list_of, options, sink};
+use crate::shared::{self, Ran, disk_of, options};
 use disk_model::{Cut, MemDisk};
 use journal::OpenFault;
 use std::alloc::Global;
 use std::test::Fail;
-use store_runs::{Ending, Finished, run_on};
+use store_runs::Ending;
 
 /// A pair is stored.
 const STORE: &[&str] = &[
@@ -51,25 +51,15 @@ const COM_LINE: [u8; 32] = [
     0xbf, 0x7f, 0x98, 0x32, 0x68, 0x8d, 0x4f, 0x5d, 0x78, 0x40, 0xfa, 0xf8, 0xb5, 0x7d, 0xfe, 0xcd,
 ];
 
-// A disk with these bytes and this cut.
-fn disk_of(alloc: Global, bytes: &str, cut: Option<Cut>) -> Result<MemDisk, Fail> {
-    let bytes = Vec::from_slice(alloc, bytes.as_bytes())?;
-    let cuts = cuts_of(alloc, cut)?;
-    Ok(MemDisk::new(alloc, bytes, cuts, Vec::new(alloc)))
-}
-
-// Runs lines over a disk under a list: how it ended, what was printed, and the disk.
+// Runs lines over a disk, one by one and without checkpoints.
 fn run(
     alloc: Global,
     disk: MemDisk,
     list: &str,
     lines: &[&str],
 ) -> Result<(Ending, Vec<u8>, MemDisk), Fail> {
-    let list = list_of(alloc, list)?;
-    let lines = lines_of(alloc, lines)?;
-    let mut out = sink(alloc)?;
-    let Finished { ending, disk } = run_on(alloc, disk, &list, options(1), &lines, &mut out);
-    Ok((ending, Vec::from_slice(alloc, out.bytes())?, disk))
+    let Ran { ending, out, disk } = shared::run(alloc, disk, list, options(1, 0), lines)?;
+    Ok((ending, out, disk))
 }
 
 #[test]

@@ -251,7 +251,7 @@ fn runs_print_what_is_written(rt: HostRuntime) -> Result<(), Fail> {
         let lines = lines_of(alloc, case.lines)?;
         let cuts = cuts_of(alloc, case.cut)?;
         let mut out = sink(alloc)?;
-        let ending = run_in_memory(alloc, &list, options(case.batch), cuts, &lines, &mut out);
+        let ending = run_in_memory(alloc, &list, options(case.batch, 0), cuts, &lines, &mut out);
         assert_eq!(rt; ending, case.ending, "{}", case.name);
         assert_eq!(rt; out.bytes(), case.out.as_bytes(), "{}", case.name);
     }

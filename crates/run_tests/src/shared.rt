@@ -1,29 +1,31 @@
-//! Lists, lines, cuts and outputs of the tests.
+//! Lists, lines, cuts, outputs and runs of the tests.
 ghost use Rattle.std.specs.Prelude.{◌≤◌, IfOk};
 ghost use Rattle.agent_model.specs.Rest.{last_moment};
 ghost use Rattle.disk_model.specs.Schedule.{AreFrom};
 
 use agent_base::{MemSink, MemSource, NoMemory};
 use agent_core::Options;
-use disk_model::Cut;
+use disk_model::{Cut, MemDisk};
 use script_actions::Line;
 use script_lines::Script;
 use std::alloc::{AllocError, Global};
 use std::test::Fail;
+use store_runs::{Ending, Finished, run_on};
 use suffix_list::SuffixList;
 
 /// The line that opens the store again.
 pub const RESTART: &str = "{\"do\":\"restart\"}";
 
-/// Batches of so many lines, from a moment of the year 2001 on.
-pub fn options(batch: u16) -> Options
+/// Batches of so many lines, and a checkpoint after so many durable changes, from a moment of the
+/// year 2001 on.
+pub fn options(batch: u16, checkpoint: u32) -> Options
     ensures start { result.start ≤ last_moment }
     ensures batch { (1 ≤ result.batch) × (result.batch ≤ 256) }
 {
     Options {
         start: 1_000_000_000,
         batch: batch.max(1).min(256),
-        checkpoint: 0,
+        checkpoint,
     }
 }
 
@@ -84,4 +86,41 @@ pub fn sink(alloc: Global) -> Result<MemSink, Fail> {
         Ok(sink) => Ok(sink),
         Err(NoMemory) => Err(Fail::from(AllocError)),
     }
+}
+
+/// A disk with these bytes and this cut.
+pub fn disk_of(alloc: Global, bytes: &str, cut: Option<Cut>) -> Result<MemDisk, Fail> {
+    let bytes = Vec::from_slice(alloc, bytes.as_bytes())?;
+    let cuts = cuts_of(alloc, cut)?;
+    Ok(MemDisk::new(alloc, bytes, cuts, Vec::new(alloc)))
+}
+
+/// A run over a disk: how it ended, what it printed, and the disk.
+#[derive(Debug, Drop)]
+pub struct Ran {
+    pub ending: Ending,
+    pub out: Vec<u8>,
+    pub disk: MemDisk,
+}
+
+/// Runs lines over a disk under a list.
+pub fn run(
+    alloc: Global,
+    disk: MemDisk,
+    list: &str,
+    options: Options,
+    lines: &[&str],
+) -> Result<Ran, Fail>
+    requires start { options.start ≤ last_moment }
+    requires batch { (1 ≤ options.batch) × (options.batch ≤ 256) }
+{
+    let list = list_of(alloc, list)?;
+    let lines = lines_of(alloc, lines)?;
+    let mut out = sink(alloc)?;
+    let Finished { ending, disk } = run_on(alloc, disk, &list, options, &lines, &mut out);
+    Ok(Ran {
+        ending,
+        out: Vec::from_slice(alloc, out.bytes())?,
+        disk,
+    })
 }

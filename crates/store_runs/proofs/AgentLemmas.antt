@@ -1,9 +1,10 @@
 -- What each answer of an agent makes of the text that waits and of every course.
-use Rattle.std.proofs.Common.{◌≡◌, ◌⊎◌, inl, inr, ⊎_elim, ℕ, true, false, List, [], ◌∷◌, ◌++◌, Some, map, refl, sym, ap, subst, ◌∙◌, Vec, Global}
-use Rattle.std.proofs.lemmas.Bool.{cases_Bool, true≢false}
-use Rattle.std.specs.Prelude.{Result, Ok, Err, IfErr, IsErrAnd}
+use Rattle.std.proofs.Common.{◌≡◌, ◌≢◌, ◌⊎◌, inl, inr, ⊎_elim, ℕ, true, false, List, [], ◌∷◌, ◌++◌, Some, map, length, refl, sym, ap, subst, ◌∙◌, append-nil, Vec, Global}
+use Rattle.std.proofs.lemmas.Bool.{and_parts, and_right, cases_Bool, eqb-true, false≢true, true≢false}
+use Rattle.std.proofs.lemmas.List.{nil_from_length}
+use Rattle.std.specs.Prelude.{Result, Ok, Err, IfErr, IsErrAnd, ◌==◌, ◌&&◌}
 use Rattle.unwinding.specs.Admissible.{Acts, Reopens}
-use Rattle.unwinding.specs.CourseSteps.{committed, holding, reopened}
+use Rattle.unwinding.specs.CourseSteps.{holding, reopened}
 use Rattle.disk_model.specs.Disk.{HasFailed, IsNextCut, View, WasOff}
 use Rattle.journal.specs.Opening.{HasNoFault}
 use Rattle.journal.specs.declared.open_fault.OpenFault.{OpenFault}
@@ -15,8 +16,9 @@ use Rattle.reply_lines.specs.Reply.{reply_text}
 use Rattle.reply_lines.specs.declared.reply.Reply.{Reply}
 use Rattle.agent_model.specs.Isolation.{printed, text_of}
 use Rattle.agent_model.specs.TheMachine.{machine}
+use Rattle.durable_model.specs.Histories.{AgentReply}
 use Rattle.durable_model.specs.Keeping.{AgentDurable, keeping}
-use Rattle.agent_core.specs.AgentView.{AgentView, may_of}
+use Rattle.agent_core.specs.AgentView.{AgentView, is_due, is_up, may_of, owes}
 use Rattle.agent_core.specs.Means.{AgentMay, Fits, FlushMeans, LineMeans, OutcomeDevice, RestartDevice, RestartMeans, after_commit, after_line}
 use Rattle.agent_core.specs.Seen.{AgentSeen, IsSeen}
 use Rattle.agent_core.specs.declared.agent.Power.{Power}
@@ -24,14 +26,15 @@ use Rattle.agent_core.specs.declared.agent.Power.TheVariants.{Up, Down as PowerD
 use Rattle.agent_core.specs.declared.outcome.Outcome.{Outcome}
 use Rattle.agent_core.specs.declared.outcome.Outcome.TheVariants.{Replies, Held, Down, NoMemory}
 use Rattle.store_runs.specs.Courses.{Steps}
-use Rattle.store_runs.specs.Calls.{Called, Ends, IsQuiet, StaysOrRose, Stops, over_call}
+use Rattle.store_runs.specs.Calls.{Called, IsQuiet, StaysOrRose, Stops, over_call}
+use Rattle.store_runs.specs.Closing.{Ends}
 use Rattle.printed_model.specs.Histories.{down_reply, restart_reply}
 use Rattle.store_runs.specs.Waiting.{replies_text}
 use Rattle.store_runs.specs.Endings.{ending_of}
 use Rattle.store_runs.specs.declared.ending.Ending.{Ending}
-use Rattle.store_runs.specs.declared.ending.Ending.TheVariants.{Done, Device, Memory}
-use Rattle.store_runs.proofs.CourseLemmas.{down_line, down_restart, held_line, replied_line, restart_line, same_stands, spoilt_stands}
-use Rattle.store_runs.proofs.TextLemmas.{text_printed}
+use Rattle.store_runs.specs.declared.ending.Ending.TheVariants.{Done, Device, Memory, Store, Write}
+use Rattle.store_runs.proofs.CourseLemmas.{checkpoint_failed, checkpoint_made, down_line, down_restart, held_line, nothing_stands, replied_line, restart_line, same_stands, spoilt_stands, up_after_commit}
+use Rattle.store_runs.proofs.TextLemmas.{text_nothing, text_printed}
 
 -- ---- a disk that cannot fail
 
@@ -56,16 +59,16 @@ up_after_line : (rules : List Rule) (a : AgentSeen) (l : PlainAction) → (after
 unfolding holding
 up_after_line rules a l = refl
 
-pub up_after_commit : (rules : List Rule) (a : AgentSeen) → (after_commit rules a).up ≡ true
-unfolding committed
-up_after_commit rules a = refl
-
 -- an outcome that is not `Down`
 abbrev is_down : Outcome → Type 0
 is_down (Replies given) = ⊥
 is_down Held = ⊥
 is_down Down = Unit {0}
 is_down NoMemory = ⊥
+
+-- replies are none
+replies_down : (given : Vec Reply Global) → Replies given ≡ Down → ⊥
+replies_down given e = cc
 
 not_down : (o : Outcome) → (is_down o → ⊥) → o ≡ Down → ⊥
 not_down o other same = other (subst is_down (sym same) tt)
@@ -147,6 +150,49 @@ device_counts NoMemory old new device = inl (device.others (not_down NoMemory (�
 restart_counts : (result : Result ℕ OpenFault) (old new : View) → RestartDevice result old new → StaysOrRose old.faults new.faults
 restart_counts result old new device = ⊎_elim (λ is. inr (device.counted is)) (λ none. inl none.0) device.others
 
+-- ---- checkpoints that are owed
+
+power_up : (power : Power) → is_up power ≡ true → power ≡ Up
+power_up Up is = refl
+power_up PowerDown is = absurd (false≢true is)
+power_up Spoilt is = absurd (false≢true is)
+
+module _ {D : Type 0} (v : AgentView D) where
+  -- an agent that owes a checkpoint is up and holds no line, and a checkpoint is due
+  owing : owes v ≡ true → (v.power ≡ Up) × (v.held ≡ []) × (is_due v.checkpoint v.journal ≡ true)
+  owing owed =
+      let all = and_parts (is_up v.power && length v.held == 0) (is_due v.checkpoint v.journal) owed in
+      let both = and_parts (is_up v.power) (length v.held == 0) all.0 in
+      (power_up v.power both.0, nil_from_length v.held (eqb-true (length v.held) 0 both.1), all.1)
+
+  -- so that checkpoints are made at all
+  pub owes_some : owes v ≡ true → v.checkpoint ≢ 0
+  owes_some owed none = true≢false (sym (owing owed).2 ∙ ap (λ n. is_due n v.journal) none)
+
+  -- where none is due, none is owed
+  pub owes_none : is_due v.checkpoint v.journal ≡ false → owes v ≡ false
+  owes_none none = and_right (is_up v.power && length v.held == 0) (is_due v.checkpoint v.journal) none
+
+  -- and where an agent that is up and holds no line owes none, none is due
+  pub none_due : v.power ≡ Up → v.held ≡ [] → owes v ≡ false → is_due v.checkpoint v.journal ≡ false
+  none_due up none owed = sym (ap (λ power. is_up power && length v.held == 0 && is_due v.checkpoint v.journal) up ∙ ap (λ held. is_up Up && length held == 0 && is_due v.checkpoint v.journal) none) ∙ owed
+
+  module _ (view : View) (a : AgentSeen) where
+    no_replies : (told : List AgentReply) → map printed told ≡ [] → told ≡ []
+    no_replies [] none = refl
+    no_replies (one ∷ told) none = cc
+
+    -- what it stands for is up, and holds no reply
+    pub owing_seen : owes v ≡ true → IsSeen v view a → (a.up ≡ true) × (a.held ≡ [])
+    owing_seen owed seen =
+        let is = owing owed in
+        let up = seen.up.1 is.0 in
+        (up, no_replies a.held ((seen.standing up).held ∙ is.1))
+
+    -- an agent that holds no reply holds no line
+    pub holds_none : IsSeen v view a → a.up ≡ true → a.held ≡ [] → v.held ≡ []
+    holds_none seen up none = sym (seen.standing up).held ∙ ap (map printed) none
+
 -- some lines ran, and the run stops
 stops_after : (rules : List Rule) (batch : ℕ) (ran : List PlainStep) (a b : AgentSeen) (may may' : AgentMay) (old new : View) (text : List ℕ) → Steps rules batch ran (over_call a old new (Unit {0})) a may b may' text
     → Steps rules batch ran (over_call a old new ⊥) a may b may' text
@@ -154,7 +200,7 @@ stops_after rules batch ran a b may may' old new text steps x r on =
     let next = steps x r on in (
       next.0,
       next.1,
-      record { steps = next.2.steps; prints = next.2.prints; downs = next.2.downs; counted = next.2.counted; shows = λ never. absurd never },
+      record { steps = next.2.steps; prints = next.2.prints; downs = next.2.downs; counted = next.2.counted; met = λ never. absurd never },
     )
 
 module _ {D : Type 0} (tell : D → View) (old new : AgentView D) where
@@ -268,13 +314,29 @@ module _ {D : Type 0} (tell : D → View) (old new : AgentView D) where
       (means : (a : AgentSeen) → IsSeen old (tell old.disk) a → (b : AgentSeen) × IsSeen new (tell new.disk) b × FlushMeans old.memory.rules a (may_of old (tell old.disk)) b (may_of new (tell new.disk)) outcome)
       (device : old.power ≡ Up → OutcomeDevice most outcome (tell old.disk) (tell new.disk)) (off : (old.power ≡ Up → ⊥) → new ≡ old)
       (before now : List ℕ) where
+    -- no call failed where replies are given out
+    gives_quiet : (given : Vec Reply Global) → outcome ≡ Replies given → (a b : AgentSeen) → IsSeen old (tell old.disk) a → a.up ≡ true → b ≡ after_commit old.memory.rules a → IsQuiet a (tell old.disk) → IsQuiet b (tell new.disk)
+    gives_quiet given is a b seen up next q =
+        stays_quiet a b (tell old.disk) (tell new.disk) (ap (λ s. s.up) next ∙ up_after_commit old.memory.rules a) ((device (seen.up.0 up)).others (λ down. replies_down given (sym is ∙ down))) q
+
     pub replies_end : (given : Vec Reply Global) → outcome ≡ Replies given → now ≡ before ++ replies_text (map reply_of given.items) → Ends tell old new Done before now
     replies_end given is shows a seen =
         let all = means a seen in
         let m : FlushMeans old.memory.rules a (may_of old (tell old.disk)) all.0 (may_of new (tell new.disk)) (Replies given) = subst (λ o. FlushMeans old.memory.rules a (may_of old (tell old.disk)) all.0 (may_of new (tell new.disk)) o) is all.2 in (
           all.0,
           all.1,
-          ((m.0, m.1.1, m.1.2), shows ∙ ap (λ t. before ++ t) (ap replies_text m.1.0 ∙ sym (text_printed a.held))),
+          (inl (m.0, m.1.1, m.1.2), shows ∙ ap (λ t. before ++ t) (ap replies_text m.1.0 ∙ sym (text_printed a.held)), gives_quiet given is a all.0 seen m.0 m.1.1),
+          call_counts outcome a seen device off,
+        )
+
+    -- a checkpoint of an agent that holds nothing
+    pub checkpoint_ends : (given : Vec Reply Global) → outcome ≡ Replies given → owes old ≡ true → Ends tell old new Done [] []
+    checkpoint_ends given is owed a seen =
+        let all = means a seen in
+        let m : FlushMeans old.memory.rules a (may_of old (tell old.disk)) all.0 (may_of new (tell new.disk)) (Replies given) = subst (λ o. FlushMeans old.memory.rules a (may_of old (tell old.disk)) all.0 (may_of new (tell new.disk)) o) is all.2 in (
+          all.0,
+          all.1,
+          (inl (m.0, m.1.1, m.1.2), sym (text_nothing a.held (owing_seen old (tell old.disk) a owed seen).1), gives_quiet given is a all.0 seen m.0 m.1.1),
           call_counts outcome a seen device off,
         )
 
@@ -317,3 +379,57 @@ module _ {D : Type 0} (tell : D → View) (old new : AgentView D) where
           (inr m, shows),
           call_counts outcome a seen device off,
         )
+
+-- an agent that owes a checkpoint holds no line that a last commit could commit
+pub owed_ends : {D : Type 0} (tell : D → View) (v : AgentView D) (before : List ℕ) → owes v ≡ true → Ends tell v v Done before before
+owed_ends tell v before owed a seen =
+    let is = owing_seen v (tell v.disk) a owed seen in (
+      a,
+      seen,
+      (inr (is.0, is.1, (refl, λ d n left. left)), sym (append-nil before) ∙ ap (λ t. before ++ t) (sym (text_nothing a.held is.1)), (λ q. q)),
+      inl refl,
+    )
+
+-- ---- between two lines
+
+-- where no call is made
+pub nothing_called : {D : Type 0} (tell : D → View) (v : AgentView D) → Called tell v v (Unit {0}) [] []
+nothing_called tell v told some a seen fits = (a, seen, nothing_stands v.memory.rules v.batch (over_call a (tell v.disk) (tell v.disk) (Unit {0})) a (may_of v (tell v.disk)) (inl refl), (λ on q. q))
+
+module _ {D : Type 0} (tell : D → View) (old new : AgentView D) (owed : owes old ≡ true) where
+  -- a checkpoint was made or failed
+  pub checkpoint_called : (ending : Ending) → Ends tell old new ending [] [] → (ending ≡ Memory → ⊥) → Called tell old new (Unit {0}) [] []
+  checkpoint_called Done ends other told some a seen fits =
+      let all = ends a seen in
+      let is = owing_seen old (tell old.disk) a owed seen in (
+        all.0,
+        all.1,
+        checkpoint_made old.memory.rules old.batch (over_call a (tell old.disk) (tell new.disk) (Unit {0})) a all.0 (may_of old (tell old.disk)) (may_of new (tell new.disk)) all.3 is.1 all.2.0,
+        (λ on q. all.2.2 q),
+      )
+  checkpoint_called Device ends other told some a seen fits =
+      let all = ends a seen in
+      let is = owing_seen old (tell old.disk) a owed seen in (
+        all.0,
+        all.1,
+        checkpoint_failed old.memory.rules old.batch (over_call a (tell old.disk) (tell new.disk) (Unit {0})) a all.0 (may_of old (tell old.disk)) (may_of new (tell new.disk)) (all.2.3 is.0) is.0 is.1 all.2.0,
+        (λ on q. absurd (all.2.2 q)),
+      )
+  checkpoint_called Memory ends other told some a seen fits = absurd (other refl)
+  checkpoint_called Write ends other told some a seen fits = absurd (ends a seen).2
+  checkpoint_called (Store why) ends other told some a seen fits = absurd (ends a seen).2
+
+  -- or memory was wanting
+  pub checkpoint_wants : Ends tell old new Memory [] [] → Called tell old new ⊥ [] []
+  checkpoint_wants ends told some a seen fits =
+      let all = ends a seen in
+      let is = owing_seen old (tell old.disk) a owed seen in
+      let watch = over_call a (tell old.disk) (tell new.disk) ⊥ in (
+        all.0,
+        all.1,
+        ⊎_elim
+            (λ done. checkpoint_made old.memory.rules old.batch watch a all.0 (may_of old (tell old.disk)) (may_of new (tell new.disk)) all.3 is.1 (inl done))
+            (λ same. same_stands old.memory.rules old.batch watch a all.0 (may_of old (tell old.disk)) (may_of new (tell new.disk)) all.3 (λ on. on) same)
+            all.2.0,
+        (λ on. absurd on),
+      )

@@ -1,9 +1,11 @@
 -- Counts of faults over the calls of a run, and the faults that a course shows.
-use Rattle.std.proofs.Common.{◌≡◌, ◌≢◌, inl, inr, ℕ, ◌+◌, ◌≤◌, List, [], ◌∷◌, ◌++◌, refl, arith}
+use Rattle.std.proofs.Common.{◌≡◌, inl, inr, ℕ, ◌+◌, ◌≤◌, Bool, true, false, List, [], ◌∷◌, ◌++◌, refl, sym, subst, arith}
+use Rattle.std.proofs.lemmas.Bool.{false≢true}
 use Rattle.agent_base.specs.Counts.{Rose}
 use Rattle.unwinding.specs.Admissible.{Acts, Reopens, Stretch}
 use Rattle.script_actions.specs.Action.{PlainAction, PlainStep}
 use Rattle.store_runs.specs.Calls.{StaysOrRose}
+use Rattle.store_runs.specs.Courses.{unshown}
 use Rattle.store_runs.specs.Faults.{RoseBy, closed_faults, epoch_faults, last_faults, restart_faults}
 use Rattle.store_runs.specs.declared.ending.Ending.TheVariants.{Device}
 
@@ -18,9 +20,23 @@ pub rose_by_stays : (n m first before now : ℕ) → m ≤ n → StaysOrRose bef
 rose_by_stays n m first before now few (inl stays) was = omega (arith, few, stays, was)
 rose_by_stays n m first before now few (inr rose) was = omega (arith, few, rose, was)
 
+-- the same count shows fewer faults
+pub rose_by_fewer : (n m first now : ℕ) → m ≤ n → RoseBy n first now → RoseBy m first now
+rose_by_fewer n m first now few was = omega (arith, few, was)
+
 -- it rose, and shows one fault more at most
 pub rose_by_rose : (n m first before now : ℕ) → m ≤ n + 1 → Rose before now → RoseBy n first before → RoseBy m first now
 rose_by_rose n m first before now few rose was = omega (arith, few, rose, was)
+
+-- it rose, once it had stayed or risen
+pub rose_later : (first before now : ℕ) → StaysOrRose first before → Rose before now → Rose first now
+rose_later first before now (inl stays) rose = omega (arith, stays, rose)
+rose_later first before now (inr was) rose = omega (arith, was, rose)
+
+-- it stayed or rose twice
+pub stays_more : (first before now : ℕ) → StaysOrRose first before → StaysOrRose before now → StaysOrRose first now
+stays_more first before now was (inl stays) = subst (StaysOrRose first) (sym stays) was
+stays_more first before now was (inr rose) = inr (rose_later first before now was rose)
 
 -- ---- the faults of an epoch
 
@@ -43,17 +59,35 @@ one_fault_more (Acts j ∷ ds) Reopens = omega (arith, restarts_reopens ds)
 one_fault_more (Reopens ∷ ds) (Acts l) = omega (arith, restarts_acts ds l)
 one_fault_more (Reopens ∷ ds) Reopens = omega (arith, restarts_reopens ds)
 
--- and none where it acts, and one was answered so before it
-pub no_fault_more : (ds : List PlainStep) (l : PlainAction) → ds ≢ [] → epoch_faults (ds ++ Acts l ∷ []) ≤ epoch_faults ds
-no_fault_more [] l shown = absurd (shown refl)
-no_fault_more (Acts j ∷ ds) l shown = omega (arith, restarts_acts ds l)
-no_fault_more (Reopens ∷ ds) l shown = omega (arith, restarts_acts ds l)
+-- ---- the fault that no line shows yet
 
--- where a line was answered `down`, there is one
-pub some_fault : (ds : List PlainStep) → ds ≢ [] → 1 ≤ epoch_faults ds
-some_fault [] shown = absurd (shown refl)
-some_fault (Acts j ∷ ds) shown = omega arith
-some_fault (Reopens ∷ ds) shown = omega arith
+-- there is none where the agent is up
+pub unshown_up : (up : Bool) (ds : List PlainStep) → up ≡ true → unshown up ds ≡ 0
+unshown_up true ds is = refl
+unshown_up false ds is = absurd (false≢true is)
+
+-- nor behind a line that was answered `down`
+pub unshown_behind : (up : Bool) (ds : List PlainStep) (step : PlainStep) → unshown up (ds ++ step ∷ []) ≡ 0
+unshown_behind true ds step = refl
+unshown_behind false [] step = refl
+unshown_behind false (d ∷ ds) step = refl
+
+pub unshown_few : (up : Bool) (ds : List PlainStep) → unshown up ds ≤ 1
+unshown_few true ds = omega arith
+unshown_few false [] = omega arith
+unshown_few false (d ∷ ds) = omega arith
+
+-- a line more of an agent that is down shows no fault but that one
+pub no_fault_more : (ds : List PlainStep) (l : PlainAction) → epoch_faults (ds ++ Acts l ∷ []) ≤ epoch_faults ds + unshown false ds
+no_fault_more [] l = omega arith
+no_fault_more (Acts j ∷ ds) l = omega (arith, restarts_acts ds l)
+no_fault_more (Reopens ∷ ds) l = omega (arith, restarts_acts ds l)
+
+-- where the agent is down, there is a fault
+pub some_fault : (ds : List PlainStep) → 1 ≤ epoch_faults ds + unshown false ds
+some_fault [] = omega arith
+some_fault (Acts j ∷ ds) = omega arith
+some_fault (Reopens ∷ ds) = omega arith
 
 -- ---- the faults of closed epochs, and of the last one
 
@@ -62,12 +96,12 @@ pub closed_faults_more : (ss : List (Stretch PlainAction)) (s : Stretch PlainAct
 closed_faults_more [] s = omega arith
 closed_faults_more (t ∷ ss) s = omega (arith, closed_faults_more ss s)
 
--- the end of a run whose agent is down is one fault at most, and none where a line shows it
+-- the end of a run whose agent is down is one fault at most, and none where that was met before
 pub last_fault_more : (ds : List PlainStep) → last_faults Device ds ≤ epoch_faults ds + 1
 last_fault_more [] = omega arith
 last_fault_more (Acts j ∷ ds) = omega arith
 last_fault_more (Reopens ∷ ds) = omega arith
 
-pub last_fault_shown : (ds : List PlainStep) → ds ≢ [] → last_faults Device ds ≤ epoch_faults ds
-last_fault_shown [] shown = absurd (shown refl)
-last_fault_shown (d ∷ ds) shown = omega arith
+pub last_fault_met : (ds : List PlainStep) → last_faults Device ds ≤ epoch_faults ds + unshown false ds
+last_fault_met [] = omega arith
+last_fault_met (d ∷ ds) = omega arith

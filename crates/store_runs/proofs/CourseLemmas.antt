@@ -1,16 +1,17 @@
 -- What each answer of an agent makes of a course.
-use Rattle.std.proofs.Common.{◌≡◌, ◌≢◌, ℕ, ◌+◌, ◌<◌, ◌≤◌, ◌^◌, true, List, [], ◌∷◌, ◌++◌, length, refl, sym, ap, ⊎_elim, ◌∙◌, append-nil, append_assoc, arith}
-use Rattle.std.proofs.lemmas.Bool.{cases_Bool, true≢false}
+use Rattle.std.proofs.Common.{◌≡◌, ℕ, ◌+◌, ◌<◌, ◌≤◌, ◌^◌, true, false, List, [], ◌∷◌, ◌++◌, Some, length, inl, inr, refl, sym, ap, subst, ⊎_elim, ◌∙◌, append-nil, append_assoc, arith}
+use Rattle.std.proofs.lemmas.Bool.{cases_Bool}
+use Rattle.std.proofs.lemmas.List.{nil_from_length}
 use Rattle.agent_base.specs.Counts.{Rose}
-use Rattle.unwinding.specs.Admissible.{Acts, Reopens, Stretch}
+use Rattle.unwinding.specs.Admissible.{Acts, Reopens, Stretch, interrupted_line}
 use Rattle.unwinding.specs.Course.{AtBase, Course, IsAt, answer_all, course_steps, down_one, empty_course, reopen, stretch_of, wait}
-use Rattle.unwinding.specs.CourseSteps.{GoesDown, last_opening, reopened, stands}
+use Rattle.unwinding.specs.CourseSteps.{GoesDown, base_of, committed, last_opening, reopened, stands}
 use Rattle.unwinding.specs.Epochs.{acknowledged_replies}
 use Rattle.unwinding.proofs.CourseCounts.{on_count}
-use Rattle.unwinding.proofs.CourseLines.{on_down, on_held, on_quiet_down, on_replies, tried_keeps}
+use Rattle.unwinding.proofs.CourseLines.{on_down, on_flush, on_flush_down, on_held, on_quiet_down, on_replies, tried_keeps}
 use Rattle.unwinding.proofs.CourseRestarts.{on_opened, on_reopened}
 use Rattle.unwinding.proofs.CourseScript.{steps_answered, steps_down, steps_reopened, steps_wait}
-use Rattle.unwinding.proofs.CourseSums.{holding_stands}
+use Rattle.unwinding.proofs.CourseSums.{base_is, committed_stands, holding_stands, length_held}
 use Rattle.unwinding.proofs.Transcripts.{transcript_answered, transcript_down, transcript_reopened, transcript_wait}
 use Rattle.suffix_list.specs.Suffix.{Rule}
 use Rattle.script_actions.specs.Action.{PlainAction, PlainStep}
@@ -19,42 +20,48 @@ use Rattle.agent_model.specs.Isolation.{printed, text_of}
 use Rattle.agent_model.specs.TheMachine.{machine}
 use Rattle.durable_model.specs.Histories.{AgentOpening}
 use Rattle.durable_model.specs.Keeping.{AgentDurable, keeping}
-use Rattle.agent_core.specs.Means.{AgentMay, Fits, Same, after_commit, after_line}
+use Rattle.agent_core.specs.Means.{AgentMay, Fails, Fits, Same, after_commit, after_line}
 use Rattle.agent_core.specs.Seen.{AgentSeen}
 use Rattle.store_runs.specs.Calls.{StaysOrRose}
-use Rattle.store_runs.specs.Courses.{Adds, On, Shows, Steps, Watch, downs_on, faults_on, text_on}
+use Rattle.store_runs.specs.Closing.{Commits, HoldsNone}
+use Rattle.store_runs.specs.Courses.{Adds, On, Steps, Watch, downs_on, faults_on, met_on, text_on, unshown}
 use Rattle.store_runs.specs.Faults.{RoseBy, closed_faults, epoch_faults}
 use Rattle.printed_model.specs.Histories.{closed_downs, down_reply, restart_reply}
-use Rattle.store_runs.proofs.CountLemmas.{closed_faults_more, no_fault_more, one_fault_more, rose_by_rose, rose_by_stays}
+use Rattle.store_runs.proofs.CountLemmas.{closed_faults_more, no_fault_more, one_fault_more, rose_by_fewer, rose_by_rose, rose_by_stays, unshown_behind, unshown_few, unshown_up}
 use Rattle.store_runs.proofs.TextLemmas.{text_append, text_one}
 
--- an agent that is up shows nothing
-pub up_shows : (b : AgentSeen) (q : Course PlainAction) → b.up ≡ true → Shows b q
-up_shows b q up down = absurd (true≢false (sym up ∙ down))
+-- ---- faults that were met, by what some lines do to an agent and to the lines answered `down`
 
--- a line that was answered `down` is shown
-one_shows : (ds : List PlainStep) (step : PlainStep) → (ds ++ step ∷ []) ≢ []
-one_shows [] step is = cc
-one_shows (d ∷ ds) step is = cc
+-- those that are shown
+pub shown_met : (a : AgentSeen) (r : Course PlainAction) → faults_on r ≤ met_on a r
+unfolding met_on
+shown_met a r = omega arith
 
--- ---- faults that some lines show, by what they do to the lines that were answered `down`
+module _ (a b : AgentSeen) (r : Course PlainAction) where
+  -- an agent that is up met none but these
+  pub up_met : (q : Course PlainAction) → b.up ≡ true → q.closed ≡ r.closed → q.downs ≡ r.downs → met_on b q ≤ met_on a r
+  unfolding met_on faults_on
+  up_met q up closed downs = omega (arith, unshown_up b.up q.downs up, ap closed_faults closed, ap epoch_faults downs)
 
-module _ (r q : Course PlainAction) (first before now : ℕ) (same : q.closed ≡ r.closed) where
-  -- none more
-  pub counted_same : epoch_faults q.downs ≤ epoch_faults r.downs → StaysOrRose before now → RoseBy (faults_on r) first before → RoseBy (faults_on q) first now
-  unfolding faults_on
-  counted_same few stays was = rose_by_stays _ _ first before now (omega (arith, ap closed_faults same, few)) stays was
+  -- a restart closes the open epoch, with its faults
+  pub closed_met : (kept : ℕ) → b.up ≡ true → met_on b (reopen r kept) ≤ met_on a r
+  unfolding met_on faults_on
+  closed_met kept up = omega (arith, unshown_up b.up [] up, closed_faults_more r.closed (stretch_of r kept))
 
-  -- one more at most
-  pub counted_one : epoch_faults q.downs ≤ epoch_faults r.downs + 1 → Rose before now → RoseBy (faults_on r) first before → RoseBy (faults_on q) first now
-  unfolding faults_on
-  counted_one few rose was = rose_by_rose _ _ first before now (omega (arith, ap closed_faults same, few)) rose was
+  -- a line that is answered `down` is one more at most
+  pub down_met : (step : PlainStep) → met_on b (down_one r step) ≤ met_on a r + 1
+  unfolding met_on faults_on
+  down_met step = omega (arith, unshown_behind b.up r.downs step, one_fault_more r.downs step)
 
--- a restart closes the open epoch, with its faults
-pub counted_closed : (r : Course PlainAction) (kept first before now : ℕ) → StaysOrRose before now → RoseBy (faults_on r) first before → RoseBy (faults_on (reopen r kept)) first now
-unfolding faults_on
-counted_closed r kept first before now stays was =
-    rose_by_stays _ _ first before now (omega (arith, closed_faults_more r.closed (stretch_of r kept))) stays was
+  -- and none where it acts, and the agent was down
+  pub down_again : (l : PlainAction) → a.up ≡ false → met_on b (down_one r (Acts l)) ≤ met_on a r
+  unfolding met_on faults_on
+  down_again l down = omega (arith, unshown_behind b.up r.downs (Acts l), no_fault_more r.downs l, ap (λ up. unshown up r.downs) down)
+
+  -- a checkpoint that failed is one more at most
+  pub failed_met : met_on b r ≤ met_on a r + 1
+  unfolding met_on
+  failed_met = omega (arith, unshown_few b.up r.downs)
 
 -- the lines that were answered `down` in one closed stretch more
 closed_downs_more : (ss : List (Stretch PlainAction)) (s : Stretch PlainAction) → closed_downs (ss ++ s ∷ []) ≡ closed_downs ss ++ s.downs
@@ -64,6 +71,10 @@ closed_downs_more (t ∷ ss) s = ap (λ ds. t.downs ++ ds) (closed_downs_more ss
 pub nothing_printed : (rules : List Rule) (x : AgentOpening) → text_on rules x empty_course ≡ []
 unfolding text_on text_of acknowledged_replies
 nothing_printed rules x = refl
+
+pub up_after_commit : (rules : List Rule) (a : AgentSeen) → (after_commit rules a).up ≡ true
+unfolding committed
+up_after_commit rules a = refl
 
 module _ (rules : List Rule) (batch : ℕ) where
   pub on_up : (x : AgentOpening) (r : Course PlainAction) (a : AgentSeen) (may : AgentMay) → On rules batch x r a may → a.up ≡ true
@@ -79,17 +90,18 @@ module _ (rules : List Rule) (batch : ℕ) where
   pub held_line : (l : PlainAction) (watch : Watch) (a b : AgentSeen) (may may' : AgentMay) → StaysOrRose watch.before watch.now → b.up ≡ true → a.up ≡ true → length a.held + 1 < batch → b ≡ after_line rules a l → AtBase b.base may'
       → Steps rules batch (Acts l ∷ []) watch a may b may' []
   unfolding On text_on downs_on
-  held_line l watch a b may may' stays still up less is base x r on = (
-    wait r l,
-    on_held (machine rules) keeping batch x r l a b may may' on up less is base,
-    record {
-      steps = steps_wait r l (on_up x r a may on up).0;
-      prints = ap text_of (transcript_wait (machine rules) keeping x restart_reply down_reply r l) ∙ sym (append-nil _);
-      downs = λ q. refl;
-      counted = λ first shown was. counted_same r (wait r l) first watch.before watch.now refl (omega arith) stays was;
-      shows = λ on. up_shows b (wait r l) still;
-    },
-  )
+  held_line l watch a b may may' stays still up less is base x r on =
+      let met : (first : ℕ) → RoseBy (met_on a r) first watch.before → RoseBy (met_on b (wait r l)) first watch.now = λ first was. rose_by_stays _ _ first watch.before watch.now (up_met a b r (wait r l) still refl refl) stays was in (
+        wait r l,
+        on_held (machine rules) keeping batch x r l a b may may' on up less is base,
+        record {
+          steps = steps_wait r l (on_up x r a may on up).0;
+          prints = ap text_of (transcript_wait (machine rules) keeping x restart_reply down_reply r l) ∙ sym (append-nil _);
+          downs = λ q. refl;
+          counted = λ first was. rose_by_fewer _ _ first watch.now (shown_met b (wait r l)) (met first was);
+          met = λ goes. met;
+        },
+      )
 
   -- the line and all that waited are answered
   pub replied_line : (l : PlainAction) (watch : Watch) (a b : AgentSeen) (may may' : AgentMay) → StaysOrRose watch.before watch.now → b.up ≡ true → a.up ≡ true → length a.held + 1 ≡ batch → b ≡ after_commit rules (after_line rules a l) → AtBase b.base may'
@@ -99,6 +111,7 @@ module _ (rules : List Rule) (batch : ℕ) where
       let m = machine rules in
       let was = on_up x r a may on up in
       let o = last_opening m keeping x r in
+      let met : (first : ℕ) → RoseBy (met_on a r) first watch.before → RoseBy (met_on b (answer_all (wait r l))) first watch.now = λ first was. rose_by_stays _ _ first watch.before watch.now (up_met a b r (answer_all (wait r l)) still refl refl) stays was in
       let held : (after_line rules a l).held ≡ (stands m keeping o (wait r l)).held = ap (λ s. (after_line rules s l).held) was.1 ∙ ap (λ s. s.held) (holding_stands m keeping o r l) in (
         answer_all (wait r l),
         on_replies m keeping batch x r l a b may may' on up full is base,
@@ -109,8 +122,8 @@ module _ (rules : List Rule) (batch : ℕ) where
               ∙ ap (λ ts. text_of ts ++ text_of (stands m keeping o (wait r l)).held) (transcript_wait m keeping x restart_reply down_reply r l)
               ∙ ap (λ ts. text_on rules x r ++ text_of ts) (sym held);
           downs = λ q. refl;
-          counted = λ first shown was. counted_same r (answer_all (wait r l)) first watch.before watch.now refl (omega arith) stays was;
-          shows = λ on. up_shows b (answer_all (wait r l)) still;
+          counted = λ first was. rose_by_fewer _ _ first watch.now (shown_met b (answer_all (wait r l))) (met first was);
+          met = λ goes. met;
         },
       )
 
@@ -119,67 +132,123 @@ module _ (rules : List Rule) (batch : ℕ) where
       → GoesDown (machine rules) keeping a b may may' (λ d n. ((a.up ≡ true) × (length a.held + 1 ≡ batch)) × IsAt (after_commit rules (after_line rules a l)).base d n)
       → Steps rules batch (Acts l ∷ []) watch a may b may' (reply_text (printed (down_reply (Acts l))))
   unfolding On text_on downs_on
-  down_line l watch a b may may' stays fell loud goes x r on = (
-    down_one r (Acts l),
-    on_down (machine rules) keeping batch x r (Acts l) a b may may' _ on goes (λ d n other. tried_keeps (machine rules) keeping batch x r l a may d n on other.0.0 other.0.1 other.1),
-    record {
-      steps = steps_down r (Acts l);
-      prints =
-          ap text_of (transcript_down (machine rules) keeping x restart_reply down_reply r (Acts l)) ∙ text_append _ _
-          ∙ ap (λ t. text_on rules x r ++ t) (text_one (down_reply (Acts l)));
-      downs = λ q. absurd (loud q);
-      counted = λ first shown was. ⊎_elim
-          (λ up. counted_one r (down_one r (Acts l)) first watch.before watch.now refl (one_fault_more r.downs (Acts l)) (fell up) was)
-          (λ down. counted_same r (down_one r (Acts l)) first watch.before watch.now refl (no_fault_more r.downs l (shown down)) stays was)
-          (cases_Bool a.up);
-      shows = λ on down. one_shows r.downs (Acts l);
-    },
-  )
+  down_line l watch a b may may' stays fell loud goes x r on =
+      let met : (first : ℕ) → RoseBy (met_on a r) first watch.before → RoseBy (met_on b (down_one r (Acts l))) first watch.now = λ first was. ⊎_elim
+      (λ up. rose_by_rose _ _ first watch.before watch.now (down_met a b r (Acts l)) (fell up) was)
+      (λ down. rose_by_stays _ _ first watch.before watch.now (down_again a b r l down) stays was)
+      (cases_Bool a.up) in (
+        down_one r (Acts l),
+        on_down (machine rules) keeping batch x r (Acts l) a b may may' _ on goes (λ d n other. tried_keeps (machine rules) keeping batch x r l a may d n on other.0.0 other.0.1 other.1),
+        record {
+          steps = steps_down r (Acts l);
+          prints =
+              ap text_of (transcript_down (machine rules) keeping x restart_reply down_reply r (Acts l)) ∙ text_append _ _
+              ∙ ap (λ t. text_on rules x r ++ t) (text_one (down_reply (Acts l)));
+          downs = λ q. absurd (loud q);
+          counted = λ first was. rose_by_fewer _ _ first watch.now (shown_met b (down_one r (Acts l))) (met first was);
+          met = λ goes. met;
+        },
+      )
 
   pub down_restart : (watch : Watch) (a b : AgentSeen) (may may' : AgentMay) → Rose watch.before watch.now → (watch.Quiet → ⊥) → GoesDown (machine rules) keeping a b may may' (λ d n. ⊥)
       → Steps rules batch (Reopens ∷ []) watch a may b may' (reply_text (printed (down_reply Reopens)))
   unfolding On text_on downs_on
-  down_restart watch a b may may' rose loud goes x r on = (
-    down_one r Reopens,
-    on_down (machine rules) keeping batch x r Reopens a b may may' _ on goes (λ d n other. absurd other),
-    record {
-      steps = steps_down r Reopens;
-      prints =
-          ap text_of (transcript_down (machine rules) keeping x restart_reply down_reply r Reopens) ∙ text_append _ _
-          ∙ ap (λ t. text_on rules x r ++ t) (text_one (down_reply Reopens));
-      downs = λ q. absurd (loud q);
-      counted = λ first shown was. counted_one r (down_one r Reopens) first watch.before watch.now refl (one_fault_more r.downs Reopens) rose was;
-      shows = λ on down. one_shows r.downs Reopens;
-    },
-  )
+  down_restart watch a b may may' rose loud goes x r on =
+      let met : (first : ℕ) → RoseBy (met_on a r) first watch.before → RoseBy (met_on b (down_one r Reopens)) first watch.now = λ first was. rose_by_rose _ _ first watch.before watch.now (down_met a b r Reopens) rose was in (
+        down_one r Reopens,
+        on_down (machine rules) keeping batch x r Reopens a b may may' _ on goes (λ d n other. absurd other),
+        record {
+          steps = steps_down r Reopens;
+          prints =
+              ap text_of (transcript_down (machine rules) keeping x restart_reply down_reply r Reopens) ∙ text_append _ _
+              ∙ ap (λ t. text_on rules x r ++ t) (text_one (down_reply Reopens));
+          downs = λ q. absurd (loud q);
+          counted = λ first was. rose_by_fewer _ _ first watch.now (shown_met b (down_one r Reopens)) (met first was);
+          met = λ goes. met;
+        },
+      )
 
   -- the store is opened again
   pub restart_line : (kept : ℕ) (d : AgentDurable) (watch : Watch) (a b : AgentSeen) (may may' : AgentMay) → StaysOrRose watch.before watch.now → b.up ≡ true → 0 < batch → may d kept → b ≡ reopened (machine rules) keeping a.world.rest d → AtBase b.base may'
       → Steps rules batch (Reopens ∷ []) watch a may b may' (reply_text (printed (restart_reply kept)))
   unfolding On text_on downs_on
-  restart_line kept d watch a b may may' stays up some left is base x r on = (
-    reopen r kept,
-    on_reopened (machine rules) keeping batch x r kept d a b may may' some on left is base,
-    record {
-      steps = steps_reopened r kept;
-      prints =
-          ap text_of (transcript_reopened (machine rules) keeping x restart_reply down_reply r kept) ∙ text_append _ _
-          ∙ ap (λ t. text_on rules x r ++ t) (text_one (restart_reply kept));
-      downs = λ q. append-nil _ ∙ closed_downs_more r.closed (stretch_of r kept);
-      counted = λ first shown was. counted_closed r kept first watch.before watch.now stays was;
-      shows = λ on. up_shows b (reopen r kept) up;
-    },
-  )
+  restart_line kept d watch a b may may' stays up some left is base x r on =
+      let met : (first : ℕ) → RoseBy (met_on a r) first watch.before → RoseBy (met_on b (reopen r kept)) first watch.now = λ first was. rose_by_stays _ _ first watch.before watch.now (closed_met a b r kept up) stays was in (
+        reopen r kept,
+        on_reopened (machine rules) keeping batch x r kept d a b may may' some on left is base,
+        record {
+          steps = steps_reopened r kept;
+          prints =
+              ap text_of (transcript_reopened (machine rules) keeping x restart_reply down_reply r kept) ∙ text_append _ _
+              ∙ ap (λ t. text_on rules x r ++ t) (text_one (restart_reply kept));
+          downs = λ q. append-nil _ ∙ closed_downs_more r.closed (stretch_of r kept);
+          counted = λ first was. rose_by_fewer _ _ first watch.now (shown_met b (reopen r kept)) (met first was);
+          met = λ goes. met;
+        },
+      )
 
   -- no line runs, and the course goes on by nothing
-  adds_nothing : (x : AgentOpening) (a b : AgentSeen) (r : Course PlainAction) (watch : Watch) → StaysOrRose watch.before watch.now → (watch.GoesOn → ⊥) → Adds rules x a b r r [] watch []
-  adds_nothing x a b r watch stays stops = record {
+  adds_nothing : (x : AgentOpening) (a b : AgentSeen) (r : Course PlainAction) (watch : Watch) → StaysOrRose watch.before watch.now → (watch.GoesOn → (first : ℕ) → RoseBy (met_on a r) first watch.before → RoseBy (met_on b r) first watch.now)
+      → Adds rules x a b r r [] watch []
+  adds_nothing x a b r watch stays met = record {
     steps = sym (append-nil _);
     prints = sym (append-nil _);
     downs = λ q. refl;
-    counted = λ first shown was. counted_same r r first watch.before watch.now refl (omega arith) stays was;
-    shows = λ on. absurd (stops on);
+    counted = λ first was. rose_by_stays _ _ first watch.before watch.now (shown_met a r) stays was;
+    met = met;
   }
+
+  -- nothing is held, so that no line waits
+  none_waits : (x : AgentOpening) (r : Course PlainAction) (a : AgentSeen) (may : AgentMay) → On rules batch x r a may → a.up ≡ true → a.held ≡ [] → r.waiting ≡ []
+  none_waits x r a may on up none =
+      nil_from_length r.waiting (sym (length_held (machine rules) keeping (last_opening (machine rules) keeping x r) r a (on_up x r a may on up).1) ∙ ap length none)
+
+  -- and a commit would commit nothing
+  pub nothing_held : (x : AgentOpening) (r : Course PlainAction) (a b : AgentSeen) (may may' : AgentMay) → On rules batch x r a may → HoldsNone rules a b may may' → Commits rules a b may'
+  unfolding On
+  nothing_held x r a b may may' on (inl done) = done
+  nothing_held x r a b may may' on (inr (up, none, same)) =
+      let m = machine rules in
+      let o = last_opening m keeping x r in
+      let was = on_up x r a may on up in
+      let empty = none_waits x r a may on up none in
+      let all : answer_all r ≡ r = λ i. record { closed = r.closed; answered = (ap (λ ls. r.answered ++ ls) empty ∙ append-nil r.answered) i; waiting = sym empty i; downs = r.downs } in
+      let still : after_commit rules a ≡ a = ap (committed m keeping) was.1 ∙ committed_stands m keeping o r ∙ ap (stands m keeping o) all ∙ sym was.1 in
+      let base : a.base ≡ base_of m keeping o r.answered = ap (λ s. s.base) was.1 ∙ base_is m keeping o r in (
+        up,
+        same.0 ∙ sym still,
+        λ d n left. ⊎_elim
+            (λ at. subst (λ s. IsAt s d n) (sym (ap (λ s. s.base) same.0 ∙ base)) at)
+            (λ tried. absurd (none_tried tried.0 (sym (ap interrupted_line was.0) ∙ tried.1)))
+            (on.images d n (same.1 d n left)),
+      )
+    where
+      none_tried : (l : PlainAction) → interrupted_line {Line = PlainAction} [] ≡ Some l → ⊥
+      none_tried l is = cc
+
+  -- a checkpoint was made of an agent that holds nothing, or it is as it was
+  pub checkpoint_made : (watch : Watch) (a b : AgentSeen) (may may' : AgentMay) → StaysOrRose watch.before watch.now → a.held ≡ [] → HoldsNone rules a b may may' → Steps rules batch [] watch a may b may' []
+  unfolding On
+  checkpoint_made watch a b may may' stays none holds x r on =
+      let done = nothing_held x r a b may may' on holds in
+      let up : b.up ≡ true = ap (λ s. s.up) done.1 ∙ up_after_commit rules a in (
+        r,
+        on_flush (machine rules) keeping batch x r a b may may' on (none_waits x r a may on done.0 none) done.0 done.1 done.2,
+        adds_nothing x a b r watch stays (λ goes first was. rose_by_stays _ _ first watch.before watch.now (up_met a b r r up refl refl) stays was),
+      )
+
+  -- or it failed
+  pub checkpoint_failed : (watch : Watch) (a b : AgentSeen) (may may' : AgentMay) → Rose watch.before watch.now → a.up ≡ true → a.held ≡ [] → Fails rules a a b may may' (a.up ≡ true) → Steps rules batch [] watch a may b may' []
+  unfolding On
+  checkpoint_failed watch a b may may' rose up none goes x r on = (
+    r,
+    on_flush_down (machine rules) keeping batch x r a b may may' on (none_waits x r a may on up none) goes,
+    adds_nothing x a b r watch (inr rose) (λ on first was. rose_by_rose _ _ first watch.before watch.now (failed_met a b r) rose was),
+  )
+
+  -- no call was made
+  pub nothing_stands : (watch : Watch) (a : AgentSeen) (may : AgentMay) → StaysOrRose watch.before watch.now → Steps rules batch [] watch a may a may []
+  nothing_stands watch a may stays x r on = (r, on, adds_nothing x a a r watch stays (λ goes first was. rose_by_stays _ _ first watch.before watch.now (omega arith) stays was))
 
   -- memory was wanting, and the agent is as it was
   pub same_stands : (watch : Watch) (a b : AgentSeen) (may may' : AgentMay) → StaysOrRose watch.before watch.now → (watch.GoesOn → ⊥) → Same a may b may' → Steps rules batch [] watch a may b may' []
@@ -195,14 +264,14 @@ module _ (rules : List Rule) (batch : ℕ) where
       up = λ up. ((on.up (sym (ap (λ s. s.up) same.0) ∙ up)).0, same.0 ∙ (on.up (sym (ap (λ s. s.up) same.0) ∙ up)).1);
       images = λ d n left. on.images d n (same.1 d n left);
     },
-    adds_nothing x a b r watch stays stops,
+    adds_nothing x a b r watch stays (λ on. absurd (stops on)),
   )
 
   -- memory was wanting at a restart, and the agent is not up
   pub spoilt_stands : (watch : Watch) (a b : AgentSeen) (may may' : AgentMay) → StaysOrRose watch.before watch.now → (watch.GoesOn → ⊥) → GoesDown (machine rules) keeping a b may may' (λ d n. ⊥)
       → Steps rules batch [] watch a may b may' []
   unfolding On
-  spoilt_stands watch a b may may' stays stops goes x r on = (r, on_quiet_down (machine rules) keeping batch x r a b may may' on goes, adds_nothing x a b r watch stays stops)
+  spoilt_stands watch a b may may' stays stops goes x r on = (r, on_quiet_down (machine rules) keeping batch x r a b may may' on goes, adds_nothing x a b r watch stays (λ on. absurd (stops on)))
 
   -- what waits is answered at the end
   pub text_answered : (x : AgentOpening) (r : Course PlainAction) (a : AgentSeen) (may : AgentMay) → On rules batch x r a may → a.up ≡ true → text_on rules x (answer_all r) ≡ text_on rules x r ++ text_of a.held

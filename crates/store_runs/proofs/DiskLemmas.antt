@@ -27,6 +27,7 @@ use Rattle.store_runs.specs.Endings.{ending_of}
 use Rattle.store_runs.specs.Openings.{IsOpenedAt, just_opened, list_of}
 use Rattle.store_runs.specs.Faults.{LeavesDisk, RoseBy, faults_of}
 use Rattle.store_runs.specs.Runs.{HasNoCuts, WritesLines}
+use Rattle.store_runs.specs.Tidy.{LeavesTidy}
 use Rattle.store_runs.specs.declared.ending.Ending.{Ending}
 use Rattle.store_runs.specs.declared.ending.Ending.TheVariants.{Device, Memory, Store}
 use Rattle.store_runs.proofs.EndLemmas.{refused_exactly}
@@ -69,11 +70,11 @@ module _ (old new : View) (calls : ℕ) (before : IsLawful old) (after : IsLawfu
 -- ---- a run over a disk
 
 -- the first opening was refused
-pub refused_writes : (ending : Ending) (list : RuleList) (start batch : ℕ) (why : OpenFault) (old new : View) (steps : List PlainStep) (taken : Option (List ℕ)) → ending ≡ ending_of why
+pub refused_writes : (ending : Ending) (list : RuleList) (start batch checkpoint : ℕ) (why : OpenFault) (old new : View) (steps : List PlainStep) (taken : Option (List ℕ)) → ending ≡ ending_of why
     → ((c : List ℕ) → old.contents ≡ Some c → IsRefusal (bodies.Takes list.rules) (Refuses list.rules) nothing_saved true list.digest c why) → (why ≡ fault.DeviceFault → Rose old.faults new.faults × HasFailed old new) → OpensByCuts (Err why) old
     → (IsOfFile why → new.contents ≡ old.contents) → (IsSettled old → (c : List ℕ) → old.contents ≡ Some c → LeavesOnly old new (IsOpening list.digest c)) → IsLawful new
-    → WritesOn ending list start batch old steps taken taken new
-refused_writes ending list start batch why old new steps taken is cause device cuts unchanged moments lawful = inl (
+    → WritesOn ending list start batch checkpoint old steps taken taken new
+refused_writes ending list start batch checkpoint why old new steps taken is cause device cuts unchanged moments lawful = inl (
   why,
   is,
   record {
@@ -92,7 +93,7 @@ refused_writes ending list start batch why old new steps taken is cause device c
 pub refused_ends : (found why : OpenFault) (ending : Ending) → ending ≡ ending_of found → IsOfFile why → (found ≡ why) ⊎ IsExcused found → (ending ≡ Store why) ⊎ ((ending ≡ Device) ⊎ (ending ≡ Memory))
 refused_ends found why ending is of causes = subst (λ e. (e ≡ Store why) ⊎ ((e ≡ Device) ⊎ (e ≡ Memory))) (sym is) (refused_exactly found why of causes)
 
-module _ {D : Type 0} (list : RuleList) (start batch : ℕ) (old view : View) (agent : AgentView D) (base : Saved) (is_rules : agent.memory.rules ≡ list.rules) (is_digest : agent.journal.digest ≡ list.digest) (is_batch : agent.batch ≡ batch) where
+module _ {D : Type 0} (list : RuleList) (start batch checkpoint : ℕ) (old view : View) (agent : AgentView D) (base : Saved) (is_rules : agent.memory.rules ≡ list.rules) (is_digest : agent.journal.digest ≡ list.digest) (is_batch : agent.batch ≡ batch) (is_checkpoint : agent.checkpoint ≡ checkpoint) where
   -- an agent was opened over the disk
   pub opened_here : view.tells ≡ true → 1 ≤ batch → IsSeen agent view (just_opened list.rules (opened_at start base)) → AtBase (just_opened list.rules (opened_at start base)).base (may_of agent view) → IsOpenedAt agent view (opened_at start base)
   opened_here told some seen at = record {
@@ -104,23 +105,28 @@ module _ {D : Type 0} (list : RuleList) (start batch : ℕ) (old view : View) (a
 
   -- and the lines ran
   pub opened_writes : IsValid base → (ending : Ending) (new : View) (steps : List PlainStep) (before after : Option (List ℕ)) → IsPowered old view → view.faults ≡ old.faults → IsMeantBy list old base → OpensByCuts (Ok tt) old
-      → WritesLines ending agent.memory.rules agent.batch (opened_at start base) (HasNoCuts view) steps before after (LeavesDisk ending (list_of agent) agent.batch (opened_at start base) view new) → WritesOn ending list start batch old steps before after new
+      → WritesLines ending agent.memory.rules agent.batch agent.checkpoint (opened_at start base) (HasNoCuts view) steps before after (LeavesDisk ending (list_of agent) agent.batch (opened_at start base) view new) → WritesOn ending list start batch checkpoint old steps before after new
   opened_writes valid ending new steps before after powered faults means cuts written =
       let x : AgentOpening = opened_at start base in
       let left : History PlainAction → Type 0 = LeavesDisk ending list batch x view new in
-      let in_batches : WritesLines ending agent.memory.rules batch x (HasNoCuts view) steps before after (LeavesDisk ending (list_of agent) batch x view new) =
-      subst (λ n. WritesLines ending agent.memory.rules n x (HasNoCuts view) steps before after (LeavesDisk ending (list_of agent) n x view new)) is_batch written in
+      let in_batches : WritesLines ending agent.memory.rules batch checkpoint x (HasNoCuts view) steps before after (LeavesDisk ending (list_of agent) batch x view new) =
+      subst (λ n. WritesLines ending agent.memory.rules batch n x (HasNoCuts view) steps before after (LeavesDisk ending (list_of agent) batch x view new)) is_checkpoint
+      (subst (λ n. WritesLines ending agent.memory.rules n agent.checkpoint x (HasNoCuts view) steps before after (LeavesDisk ending (list_of agent) n x view new)) is_batch written) in
       let same : list_of agent ≡ list = λ i. record { rules = is_rules i; digest = is_digest i } in
-      let under : WritesLines ending list.rules batch x (HasNoCuts view) steps before after left =
-      subst (λ (l : RuleList). WritesLines ending l.rules batch x (HasNoCuts view) steps before after (LeavesDisk ending l batch x view new)) same in_batches in
+      let under : WritesLines ending list.rules batch checkpoint x (HasNoCuts view) steps before after left =
+      subst (λ (l : RuleList). WritesLines ending l.rules batch checkpoint x (HasNoCuts view) steps before after (LeavesDisk ending l batch x view new)) same in_batches in
       inr (
         base,
         valid,
         means,
         cuts,
-        writes_other list.rules batch x (HasNoCuts old) (HasNoCuts view) left (LeavesDisk ending list batch x old new) (λ none. (powered.after, powered.cuts ∙ none.1))
+        writes_other list.rules batch checkpoint x (HasNoCuts old) (HasNoCuts view) left (LeavesDisk ending list batch x old new) (λ none. (powered.after, powered.cuts ∙ none.1))
             (λ history l. (l.0, subst (λ n. RoseBy (faults_of ending history) n new.faults) faults l.1)) before after ending steps under,
       )
+
+-- no checkpoint is due by equal options
+pub tidy_under : (checkpoint mine : ℕ) (digest own : List ℕ) (images : List ℕ → Type 0) → mine ≡ checkpoint → own ≡ digest → LeavesTidy mine own images → LeavesTidy checkpoint digest images
+tidy_under checkpoint mine digest own images is same tidy = subst (λ n. LeavesTidy n digest images) is (subst (λ d. LeavesTidy mine d images) same tidy)
 
 -- ---- a run in memory
 
@@ -157,12 +163,12 @@ module _ (cuts : List Cut) (old : View) (empty : old.contents ≡ Some []) (on :
       few len is less = omega (arith, is, less)
 
   -- a run over an empty disk
-  pub memory_writes : (ending : Ending) (list : RuleList) (start batch : ℕ) (new : View) (steps : List PlainStep) (before after : Option (List ℕ)) → WritesOn ending list start batch old steps before after new
-      → WritesInMemory ending list.rules start batch cuts steps before after
-  memory_writes ending list start batch new steps before after (inl (why, is, refused)) =
+  pub memory_writes : (ending : Ending) (list : RuleList) (start batch checkpoint : ℕ) (new : View) (steps : List PlainStep) (before after : Option (List ℕ)) → WritesOn ending list start batch checkpoint old steps before after new
+      → WritesInMemory ending list.rules start batch checkpoint cuts steps before after
+  memory_writes ending list start batch checkpoint new steps before after (inl (why, is, refused)) =
       inl (subst (λ e. IsUnopened e cuts) (sym is) (unopened why list new before after refused), refused.text)
-  memory_writes ending list start batch new steps before after (inr (base, valid, means, opens, written)) =
+  memory_writes ending list start batch checkpoint new steps before after (inr (base, valid, means, opens, written)) =
       let nothing : base ≡ nothing_saved = means [] nothing_saved 0 empty (inr (inl (omega arith), refl, refl)) in
-      let told_lines : WritesLines ending list.rules batch (opened_at start base) (cuts ≡ []) steps before after (λ history. Unit {0}) =
-      writes_other list.rules batch (opened_at start base) (cuts ≡ []) (HasNoCuts old) (LeavesDisk ending list batch (opened_at start base) old new) (λ history. Unit {0}) no_cuts (λ history l. tt) before after ending steps written in
-      inr (opens_beyond cuts told opens, subst (λ d. WritesLines ending list.rules batch (opened_at start d) (cuts ≡ []) steps before after (λ history. Unit {0})) nothing told_lines)
+      let told_lines : WritesLines ending list.rules batch checkpoint (opened_at start base) (cuts ≡ []) steps before after (λ history. Unit {0}) =
+      writes_other list.rules batch checkpoint (opened_at start base) (cuts ≡ []) (HasNoCuts old) (LeavesDisk ending list batch (opened_at start base) old new) (λ history. Unit {0}) no_cuts (λ history l. tt) before after ending steps written in
+      inr (opens_beyond cuts told opens, subst (λ d. WritesLines ending list.rules batch checkpoint (opened_at start d) (cuts ≡ []) steps before after (λ history. Unit {0})) nothing told_lines)

@@ -6,3 +6,4 @@ pub mod AgentLemmas
 pub mod DiskLemmas
 pub mod CountLemmas
 pub mod EndLemmas
+pub mod TidyLemmas

@@ -1,14 +1,14 @@
 -- What the loop over the lines keeps, and how it ends.
-use Rattle.std.proofs.Common.{◌≡◌, ℕ, ◌+◌, ◌<◌, ◌≤◌, ◌^◌, true, false, List, [], ◌∷◌, ◌++◌, Option, take, drop, length, get_or, inl, inr, refl, sym, ap, subst, ⊎_elim, ◌∙◌, append-nil, arith}
+use Rattle.std.proofs.Common.{◌≡◌, ◌≢◌, ℕ, ◌+◌, ◌<◌, ◌≤◌, ◌^◌, true, false, List, [], ◌∷◌, ◌++◌, Option, take, drop, length, get_or, inl, inr, refl, sym, ap, subst, ⊎_elim, ◌∙◌, append-nil, arith}
 use Rattle.std.proofs.lemmas.Bool.{cases_Bool}
 use Rattle.std.proofs.lemmas.List.{length-map, length-take-le, map-append, take-append-drop, take_more}
 use Rattle.agent_base.specs.Counts.{Rose}
 use Rattle.unwinding.specs.Admissible.{History}
 use Rattle.unwinding.specs.Course.{AtBase, IsAt, answer_all, empty_course, executed_lines}
-use Rattle.unwinding.specs.CourseSteps.{base_of, committed, history_of, last_opening, reopened}
+use Rattle.unwinding.specs.CourseSteps.{base_of, committed, forward, history_of, last_opening, reopened}
 use Rattle.unwinding.proofs.CourseRestarts.{ends_answered, ends_lost}
 use Rattle.unwinding.proofs.CourseScript.{steps_answered}
-use Rattle.unwinding.proofs.CourseSums.{base_is, committed_stands}
+use Rattle.unwinding.proofs.CourseSums.{base_is, committed_stands, forward_append}
 use Rattle.agent_base.specs.Streams.{Takes, TakesPrefix}
 use Rattle.suffix_list.specs.Suffix.{Rule}
 use Rattle.script_actions.specs.Action.{PlainAction, PlainStep}
@@ -21,20 +21,21 @@ use Rattle.durable_model.specs.Keeping.{keeping}
 use Rattle.disk_model.specs.Disk.{View}
 use Rattle.agent_core.specs.Means.{AgentMay, Fails, Fits, Same, after_commit}
 use Rattle.agent_core.specs.Seen.{AgentSeen}
-use Rattle.printed_model.specs.Histories.{IsHistoryOf, history_text}
+use Rattle.printed_model.specs.Histories.{EndsUp, IsHistoryOf, history_text}
 use Rattle.printed_model.proofs.LeftLemmas.{left_of_answered, left_of_executed, left_of_kept}
-use Rattle.store_runs.specs.Calls.{Commits, EndsWith, IsQuiet, StaysOrRose}
-use Rattle.store_runs.specs.Courses.{Leaves, Marks, On, OnCourse, Steps, Watch, downs_on, faults_on, text_on}
+use Rattle.store_runs.specs.Calls.{IsQuiet, StaysOrRose}
+use Rattle.store_runs.specs.Closing.{Commits, EndsWith, HoldsNone}
+use Rattle.store_runs.specs.Courses.{Leaves, Marks, On, OnCourse, Steps, Watch, downs_on, faults_on, met_on, text_on, unshown}
 use Rattle.store_runs.specs.Faults.{RoseBy, epoch_faults, faults_of, last_faults}
 use Rattle.store_runs.specs.Openings.{just_opened}
-use Rattle.store_runs.specs.Runs.{Stopped, WritesLines}
+use Rattle.store_runs.specs.Runs.{Ran, Stopped, WritesLines}
 use Rattle.store_runs.specs.Steps.{steps_of}
 use Rattle.store_runs.specs.Waiting.{Ended}
 use Rattle.waiting_lines.specs.Waiting.{TakesFront}
 use Rattle.store_runs.specs.declared.ending.Ending.{Ending}
 use Rattle.store_runs.specs.declared.ending.Ending.TheVariants.{Done, Device, Store, Write, Memory}
-use Rattle.store_runs.proofs.CountLemmas.{last_fault_more, last_fault_shown, rose_by_none, rose_by_rose, rose_by_stays, some_fault}
-use Rattle.store_runs.proofs.CourseLemmas.{nothing_printed, on_begun, on_fits, on_up, text_answered, up_shows}
+use Rattle.store_runs.proofs.CountLemmas.{last_fault_met, last_fault_more, rose_by_fewer, rose_by_none, rose_by_rose, rose_by_stays, rose_later, some_fault, stays_more, unshown_up}
+use Rattle.store_runs.proofs.CourseLemmas.{nothing_held, nothing_printed, on_begun, on_fits, on_up, text_answered, up_after_commit}
 use Rattle.waiting_lines.proofs.PrefixLemmas.{front_end, front_more, front_none, front_part, front_then, prefix_all, prefix_front, prefix_longer}
 
 -- ---- steps
@@ -48,6 +49,15 @@ steps_parts lines i = ap steps_of (sym (take-append-drop i lines)) ∙ map-appen
 steps_few : (lines : List Line) (i : ℕ) → i ≤ length lines → length (steps_of (take i lines)) ≡ i
 steps_few lines i h = length-map (take i lines) (λ (l : Line). step_of l.step) ∙ length-take-le i lines h
 
+-- lines are few enough for their changes to stay in range
+pub steps_fit : (lines : List Line) (i : ℕ) → i ≤ length lines → length lines + 2 < 2 ^ 64 → length (steps_of (take i lines)) + 1 < 2 ^ 64
+steps_fit lines i h fits = omega (arith, steps_few lines i h, h, fits)
+
+-- a commit of nothing leaves the base
+committed_again : (rules : List Rule) (a : AgentSeen) → (after_commit rules (after_commit rules a)).base ≡ (after_commit rules a).base
+unfolding committed
+committed_again rules a = forward_append (machine rules) keeping a.pending [] a.base ∙ ap (λ ms. forward (machine rules) keeping ms a.base) (append-nil a.pending)
+
 -- an agent that was just opened is up
 pub opens_up : (rules : List Rule) (x : AgentOpening) → (just_opened rules x).up ≡ true
 unfolding reopened
@@ -57,14 +67,14 @@ module _ (rules : List Rule) (batch : ℕ) (x : AgentOpening) (watch : Watch) wh
   -- no line has run yet
   pub course_begins : (a : AgentSeen) (may : AgentMay) (out : Option (List ℕ)) → watch.before ≤ watch.now → a.up ≡ true → 0 < batch → a ≡ reopened (machine rules) keeping x.rest x.state → AtBase a.base may
       → OnCourse rules batch x a may [] watch out out []
-  unfolding downs_on faults_on
+  unfolding downs_on faults_on met_on
   course_begins a may out later up some is base = record {
     course = empty_course;
     on = on_begun rules batch x a may some is base;
     runs = refl;
     downs = λ q. refl;
     faults = rose_by_none watch.before watch.now later;
-    shows = λ on. up_shows a empty_course up;
+    met = λ goes. rose_by_fewer 0 _ watch.before watch.now (omega (arith, unshown_up a.up [] up)) (rose_by_none watch.before watch.now later);
     text = subst (λ t. TakesFront out out t []) (sym (nothing_printed rules x)) (front_none out);
   }
 
@@ -79,8 +89,8 @@ module _ (rules : List Rule) (batch : ℕ) (x : AgentOpening) (watch : Watch) wh
         on = next.1;
         runs = next.2.steps ∙ ap (λ ss. ss ++ ran) on.runs;
         downs = λ q. next.2.downs (still q) ∙ on.downs q;
-        faults = next.2.counted watch.before (on.shows goes) on.faults;
-        shows = next.2.shows;
+        faults = next.2.counted watch.before (on.met goes);
+        met = λ on_goes. next.2.met on_goes watch.before (on.met goes);
         text =
             subst (λ t. TakesFront first out t now) (sym next.2.prints)
             (subst (TakesFront first out (text_on rules x on.course ++ text)) (sym is) (front_more first out out (text_on rules x on.course) waiting on.text text));
@@ -95,7 +105,7 @@ module _ (rules : List Rule) (batch : ℕ) (x : AgentOpening) (watch : Watch) wh
       runs = on.runs;
       downs = on.downs;
       faults = on.faults;
-      shows = on.shows;
+      met = on.met;
       text = front_then first out later (text_on rules x on.course) waiting on.text rest took;
     }
 
@@ -122,19 +132,24 @@ module _ (rules : List Rule) (batch : ℕ) (x : AgentOpening) (watch : Watch) wh
 
     -- the commit at the end met one fault more, unless the agent was down
     lost_device : (now : ℕ) → watch.GoesOn → StaysOrRose watch.now now → (a.up ≡ true → Rose watch.now now) → RoseBy (faults_of Device lost) watch.before now
-    unfolding faults_on
+    unfolding faults_on met_on
     lost_device now goes stays fell = ⊎_elim
         (λ up. rose_by_rose _ _ watch.before watch.now now (omega (arith, last_fault_more on.course.downs)) (fell up) on.faults)
-        (λ down. lost_faults Device now (last_fault_shown on.course.downs (on.shows goes down)) stays)
+        (λ down. rose_by_stays _ _ watch.before watch.now now (omega (arith, last_fault_met on.course.downs, ap (λ up. unshown up on.course.downs) down)) stays (on.met goes))
         (cases_Bool a.up)
 
     -- so the count rose
     pub device_rose : (now : ℕ) → watch.GoesOn → StaysOrRose watch.now now → (a.up ≡ true → Rose watch.now now) → Rose watch.before now
-    unfolding faults_on
+    unfolding faults_on met_on
     device_rose now goes stays fell = ⊎_elim
         (λ up. rose_by_rose (faults_on on.course) 1 watch.before watch.now now (omega arith) (fell up) on.faults)
-        (λ down. rose_by_stays (faults_on on.course) 1 watch.before watch.now now (omega (arith, some_fault on.course.downs (on.shows goes down))) stays on.faults)
+        (λ down. rose_by_stays (met_on a on.course) 1 watch.before watch.now now (omega (arith, some_fault on.course.downs, ap (λ up. unshown up on.course.downs) down)) stays (on.met goes))
         (cases_Bool a.up)
+
+    -- and the checkpoint behind the last commit met one
+    last_device : (now : ℕ) → Rose watch.now now → RoseBy (faults_of Device lost) watch.before now
+    unfolding faults_on
+    last_device now rose = rose_by_rose _ _ watch.before watch.now now (omega (arith, last_fault_more on.course.downs)) rose on.faults
 
     lost_leaves : Leaves rules batch x may lost
     unfolding On
@@ -163,9 +178,32 @@ module _ (rules : List Rule) (batch : ℕ) (x : AgentOpening) (watch : Watch) wh
         ap (λ s. (committed (machine rules) keeping s).base) (on_up rules batch x on.course a may on.on up).1 ∙ ap (λ s. s.base) (committed_stands (machine rules) keeping o on.course)
         ∙ base_is (machine rules) keeping o (answer_all on.course)
 
-    answered_leaves : (b : AgentSeen) (may' : AgentMay) → Commits rules a b may' → Leaves rules batch x may' answered
-    answered_leaves b may' done d n left = left_of_answered rules batch x on.course d n (on_up rules batch x on.course a may on.on done.0).0
-        (subst (λ base. IsAt base d n) (ap (λ s. s.base) done.1 ∙ committed_base done.0) (done.2 d n left))
+    -- the store has all that a commit leads to
+    abbrev IsStored : AgentMay → Type 0
+    IsStored may' = (a.up ≡ true) × AtBase (after_commit rules a).base may'
+
+    answered_leaves : (may' : AgentMay) → IsStored may' → Leaves rules batch x may' answered
+    answered_leaves may' stored d n left = left_of_answered rules batch x on.course d n (on_up rules batch x on.course a may on.on stored.0).0
+        (subst (λ base. IsAt base d n) (committed_base stored.0) (stored.1 d n left))
+
+    commits_stored : (b : AgentSeen) (may' : AgentMay) → Commits rules a b may' → IsStored may'
+    commits_stored b may' done = (done.0, λ d n left. subst (λ base. IsAt base d n) (ap (λ s. s.base) done.1) (done.2 d n left))
+
+    -- a checkpoint behind that commit leaves it so, whether it was made
+    stored_again : (b c : AgentSeen) (may' after : AgentMay) → Commits rules a b may' → Commits rules b c after → IsStored after
+    stored_again b c may' after done more = (done.0, λ d n left. subst (λ base. IsAt base d n) (ap (λ s. s.base) more.1 ∙ ap (λ s. (after_commit rules s).base) done.1 ∙ committed_again rules a) (more.2 d n left))
+
+    stored_still : (b c : AgentSeen) (may' after : AgentMay) → Commits rules a b may' → Same b may' c after → IsStored after
+    stored_still b c may' after done same = (done.0, λ d n left. (commits_stored b may' done).1 d n (same.1 d n left))
+
+    -- or failed
+    stored_down : (b c : AgentSeen) (may' after : AgentMay) → Commits rules a b may' → Fails rules b b c may' after (b.up ≡ true) → IsStored after
+    stored_down b c may' after done goes = (
+      done.0,
+      λ d n left. ⊎_elim ((commits_stored b may' done).1 d n)
+          (λ at. subst (λ base. IsAt base d n) (ap (λ s. (after_commit rules s).base) done.1 ∙ committed_again rules a) at.1)
+          (goes.images d n left),
+    )
 
     tried_leaves : (b : AgentSeen) (may' : AgentMay) → Fails rules a a b may may' (a.up ≡ true) → Leaves rules batch x may' lost
     tried_leaves b may' goes d n left = ⊎_elim (lost_leaves d n)
@@ -173,8 +211,8 @@ module _ (rules : List Rule) (batch : ℕ) (x : AgentOpening) (watch : Watch) wh
         (goes.images d n left)
 
     -- what a run wrote and left that ended so
-    abbrev Writes : (all : List PlainStep) → (later : Option (List ℕ)) → AgentMay → (now : ℕ) → Ending → Type 0
-    Writes all later may' now ending = WritesLines ending rules batch x watch.Quiet all first later (Marks rules batch x may' ending watch.before now)
+    abbrev Writes : (checkpoint : ℕ) → (all : List PlainStep) → (later : Option (List ℕ)) → AgentMay → (now : ℕ) → Ending → Type 0
+    Writes checkpoint all later may' now ending = WritesLines ending rules batch checkpoint x watch.Quiet all first later (Marks rules batch x may' ending watch.before now)
 
     -- the run was stopped after these lines, and a part of what waits was written
     stopped : (all rest : List PlainStep) (later : Option (List ℕ)) (ending : Ending) (may' : AgentMay) (now : ℕ) → all ≡ steps ++ rest → TakesPrefix out later waiting
@@ -192,108 +230,143 @@ module _ (rules : List Rule) (batch : ℕ) (x : AgentOpening) (watch : Watch) wh
     same_faults : StaysOrRose watch.now watch.now
     same_faults = inl refl
 
-    pub course_stopped : (all rest : List PlainStep) (later : Option (List ℕ)) → all ≡ steps ++ rest → TakesPrefix out later waiting → Writes all later may watch.now Write
-    course_stopped all rest later parts took = stopped all rest later Write may watch.now parts took (lost_leaves, lost_faults Write watch.now (omega arith) same_faults)
+    pub course_stopped : (checkpoint : ℕ) (all rest : List PlainStep) (later : Option (List ℕ)) → all ≡ steps ++ rest → TakesPrefix out later waiting → Writes checkpoint all later may watch.now Write
+    course_stopped checkpoint all rest later parts took = stopped all rest later Write may watch.now parts took (lost_leaves, lost_faults Write watch.now (omega arith) same_faults)
 
     -- memory was wanting, and a part of what should wait does
-    pub course_memory : (all rest : List PlainStep) (later : Option (List ℕ)) (shown more : List ℕ) (ending : Ending) (count rose : ℕ) → all ≡ steps ++ rest → waiting ≡ shown ++ more → Ended Memory ending out later count rose shown
-        → Writes all later may watch.now ending
-    course_memory all rest later shown more ending count rose parts is ended = ⊎_elim
-        (λ ok. subst (Writes all later may watch.now) (sym ok.0)
+    pub course_memory : (checkpoint : ℕ) (all rest : List PlainStep) (later : Option (List ℕ)) (shown more : List ℕ) (ending : Ending) (count rose : ℕ) → all ≡ steps ++ rest → waiting ≡ shown ++ more → Ended Memory ending out later count rose shown
+        → Writes checkpoint all later may watch.now ending
+    course_memory checkpoint all rest later shown more ending count rose parts is ended = ⊎_elim
+        (λ ok. subst (Writes checkpoint all later may watch.now) (sym ok.0)
         (stopped all rest later Memory may watch.now parts (subst (TakesPrefix out later) (sym is) (prefix_front out later shown more ok.1.0)) (lost_leaves, lost_faults Memory watch.now (omega arith) same_faults)))
-        (λ fault. subst (Writes all later may watch.now) (sym fault.0) (course_stopped all rest later parts (subst (TakesPrefix out later) (sym is) (prefix_longer out later shown more fault.1.0))))
+        (λ fault. subst (Writes checkpoint all later may watch.now) (sym fault.0) (course_stopped checkpoint all rest later parts (subst (TakesPrefix out later) (sym is) (prefix_longer out later shown more fault.1.0))))
         ended
 
     no_rest : steps ≡ steps ++ []
     no_rest = sym (append-nil steps)
 
-    -- the commit at the end left this
-    module _ (b : AgentSeen) (may' : AgentMay) (now : ℕ) (stays : StaysOrRose watch.now now) where
+    -- the end left this
+    module _ (checkpoint : ℕ) (may' : AgentMay) (now : ℕ) (stays : StaysOrRose watch.now now) where
       -- the lines that waited were committed
-      answered_marks : (ending : Ending) → last_faults ending on.course.downs ≤ epoch_faults on.course.downs → Commits rules a b may' → Marks rules batch x may' ending watch.before now answered
-      answered_marks ending few done = (answered_leaves b may' done, lost_faults ending now few stays)
+      answered_marks : (ending : Ending) → last_faults ending on.course.downs ≤ epoch_faults on.course.downs → IsStored may' → Marks rules batch x may' ending watch.before now answered
+      answered_marks ending few stored = (answered_leaves may' stored, lost_faults ending now few stays)
 
       -- and a part of the text was written
-      answered_stopped : (ending : Ending) (later : Option (List ℕ)) → last_faults ending on.course.downs ≤ epoch_faults on.course.downs → Commits rules a b may' → TakesPrefix out later (waiting ++ text_of a.held)
+      answered_stopped : (ending : Ending) (later : Option (List ℕ)) → last_faults ending on.course.downs ≤ epoch_faults on.course.downs → IsStored may' → TakesPrefix out later (waiting ++ text_of a.held)
           → Stopped rules batch x watch.Quiet steps first later (Marks rules batch x may' ending watch.before now)
-      answered_stopped ending later few done took = record {
+      answered_stopped ending later few stored took = record {
         front = steps;
         rest = [];
         parts = no_rest;
         history = answered;
-        «is» = answered_is done.0;
+        «is» = answered_is stored.0;
         text =
-            subst (TakesPrefix first later) (sym (answered_text done.0))
+            subst (TakesPrefix first later) (sym (answered_text stored.0))
             (front_part first out later (text_on rules x on.course ++ text_of a.held) (waiting ++ text_of a.held) (front_more first out out (text_on rules x on.course) waiting on.text (text_of a.held)) took);
-        left = answered_marks ending few done;
+        left = answered_marks ending few stored;
       }
 
+      -- or all of it was
+      abbrev answered_ran : (ending : Ending) (later : Option (List ℕ)) → IsStored may' → Takes out later (waiting ++ text_of a.held) → Marks rules batch x may' ending watch.before now answered
+          → Ran rules batch x watch.Quiet steps first later (Marks rules batch x may' ending watch.before now)
+      answered_ran ending later stored took marks = record {
+        history = answered;
+        «is» = answered_is stored.0;
+        text =
+            subst (Takes first later) (sym (answered_text stored.0))
+            (front_end first out later (text_on rules x on.course ++ text_of a.held) (waiting ++ text_of a.held) (front_more first out out (text_on rules x on.course) waiting on.text (text_of a.held)) took);
+        left = marks;
+      }
+
+      -- the agent was up then
+      answered_up : IsStored may' → EndsUp answered
+      answered_up stored = ((on_up rules batch x on.course a may on.on stored.0).0, refl)
+
       -- they were, and all that waits was written or a part
-      done_ended : (ending : Ending) (waits : List ℕ) (later : Option (List ℕ)) (count rose : ℕ) → Commits rules a b may' → waits ≡ waiting ++ text_of a.held → Ended Done ending out later count rose waits → Writes steps later may' now ending
-      done_ended ending waits later count rose done is ended =
-          let front : TakesFront first out (text_on rules x on.course ++ text_of a.held) (waiting ++ text_of a.held) = front_more first out out (text_on rules x on.course) waiting on.text (text_of a.held) in
-          ⊎_elim
-          (λ ok. subst (Writes steps later may' now) (sym ok.0) (
-            record {
-              history = answered;
-              «is» = answered_is done.0;
-              text = subst (Takes first later) (sym (answered_text done.0)) (front_end first out later (text_on rules x on.course ++ text_of a.held) (waiting ++ text_of a.held) front (subst (Takes out later) is ok.1.0));
-              left = answered_marks Done (omega arith) done;
-            },
-            ((on_up rules batch x on.course a may on.on done.0).0, refl),
-          ))
-          (λ fault. subst (Writes steps later may' now) (sym fault.0) (answered_stopped Write later (omega arith) done (subst (TakesPrefix out later) is fault.1.0)))
+      done_ended : (ending : Ending) (waits : List ℕ) (later : Option (List ℕ)) (count rose : ℕ) → IsStored may' → waits ≡ waiting ++ text_of a.held → Ended Done ending out later count rose waits → Writes checkpoint steps later may' now ending
+      done_ended ending waits later count rose stored is ended = ⊎_elim
+          (λ ok. subst (Writes checkpoint steps later may' now) (sym ok.0) (answered_ran Done later stored (subst (Takes out later) is ok.1.0) (answered_marks Done (omega arith) stored), answered_up stored))
+          (λ fault. subst (Writes checkpoint steps later may' now) (sym fault.0) (answered_stopped Write later (omega arith) stored (subst (TakesPrefix out later) is fault.1.0)))
           ended
 
       -- they were, and memory was wanting for their text
-      answered_memory : (ending : Ending) (later : Option (List ℕ)) (count rose : ℕ) → Commits rules a b may' → Ended Memory ending out later count rose waiting → Writes steps later may' now ending
-      answered_memory ending later count rose done ended = ⊎_elim
-          (λ ok. subst (Writes steps later may' now) (sym ok.0) (answered_stopped Memory later (omega arith) done (prefix_front out later waiting (text_of a.held) ok.1.0)))
-          (λ fault. subst (Writes steps later may' now) (sym fault.0) (answered_stopped Write later (omega arith) done (prefix_longer out later waiting (text_of a.held) fault.1.0)))
+      answered_memory : (ending : Ending) (later : Option (List ℕ)) (count rose : ℕ) → IsStored may' → Ended Memory ending out later count rose waiting → Writes checkpoint steps later may' now ending
+      answered_memory ending later count rose stored ended = ⊎_elim
+          (λ ok. subst (Writes checkpoint steps later may' now) (sym ok.0) (answered_stopped Memory later (omega arith) stored (prefix_front out later waiting (text_of a.held) ok.1.0)))
+          (λ fault. subst (Writes checkpoint steps later may' now) (sym fault.0) (answered_stopped Write later (omega arith) stored (prefix_longer out later waiting (text_of a.held) fault.1.0)))
           ended
 
+      -- they were, all was written, and the checkpoint behind their commit failed
+      checkpoint_ended : (later : Option (List ℕ)) → checkpoint ≢ 0 → (watch.Quiet → ⊥) → Rose watch.now now → IsStored may' → Takes out later (waiting ++ text_of a.held) → Writes checkpoint steps later may' now Device
+      checkpoint_ended later some loud rose stored took = (answered_ran Device later stored took (answered_leaves may' stored, last_device now rose), inr (some, answered_up stored), loud)
+
       -- the last commit failed
-      device_ended : (ending : Ending) (later : Option (List ℕ)) (count rose : ℕ) → watch.GoesOn → (a.up ≡ true → Rose watch.now now) → (watch.Quiet → ⊥) → Fails rules a a b may may' (a.up ≡ true) → Ended Device ending out later count rose waiting
-          → Writes steps later may' now ending
-      device_ended ending later count rose on_goes fell loud goes ended = ⊎_elim
-          (λ ok. subst (Writes steps later may' now) (sym ok.0) (
+      device_ended : (b : AgentSeen) (ending : Ending) (later : Option (List ℕ)) (count rose : ℕ) → watch.GoesOn → (a.up ≡ true → Rose watch.now now) → (watch.Quiet → ⊥) → Fails rules a a b may may' (a.up ≡ true) → Ended Device ending out later count rose waiting
+          → Writes checkpoint steps later may' now ending
+      device_ended b ending later count rose on_goes fell loud goes ended = ⊎_elim
+          (λ ok. subst (Writes checkpoint steps later may' now) (sym ok.0) (
             record {
               history = lost;
               «is» = lost_is;
               text = subst (Takes first later) (sym lost_text) (front_end first out later (text_on rules x on.course) waiting on.text ok.1.0);
               left = (tried_leaves b may' goes, lost_device now on_goes stays fell);
             },
-            inr refl,
+            inl (inr refl),
             loud,
           ))
-          (λ fault. subst (Writes steps later may' now) (sym fault.0) (stopped steps [] later Write may' now no_rest fault.1.0 (tried_leaves b may' goes, lost_faults Write now (omega arith) stays)))
+          (λ fault. subst (Writes checkpoint steps later may' now) (sym fault.0) (stopped steps [] later Write may' now no_rest fault.1.0 (tried_leaves b may' goes, lost_faults Write now (omega arith) stays)))
           ended
 
       -- memory was wanting, and the agent is as it was
-      same_memory : (ending : Ending) (later : Option (List ℕ)) (count rose : ℕ) → Same a may b may' → Ended Memory ending out later count rose waiting → Writes steps later may' now ending
-      same_memory ending later count rose same ended =
+      same_memory : (b : AgentSeen) (ending : Ending) (later : Option (List ℕ)) (count rose : ℕ) → Same a may b may' → Ended Memory ending out later count rose waiting → Writes checkpoint steps later may' now ending
+      same_memory b ending later count rose same ended =
           let leaves : Leaves rules batch x may' lost = λ d n left. lost_leaves d n (same.1 d n left) in
           ⊎_elim
-          (λ ok. subst (Writes steps later may' now) (sym ok.0) (stopped steps [] later Memory may' now no_rest (prefix_all out later waiting ok.1.0) (leaves, lost_faults Memory now (omega arith) stays)))
-          (λ fault. subst (Writes steps later may' now) (sym fault.0) (stopped steps [] later Write may' now no_rest fault.1.0 (leaves, lost_faults Write now (omega arith) stays)))
+          (λ ok. subst (Writes checkpoint steps later may' now) (sym ok.0) (stopped steps [] later Memory may' now no_rest (prefix_all out later waiting ok.1.0) (leaves, lost_faults Memory now (omega arith) stays)))
+          (λ fault. subst (Writes checkpoint steps later may' now) (sym fault.0) (stopped steps [] later Write may' now no_rest fault.1.0 (leaves, lost_faults Write now (omega arith) stays)))
           ended
 
+    -- what a last commit that is done leaves
+    last_commits : (b : AgentSeen) (may' : AgentMay) → HoldsNone rules a b may may' → Commits rules a b may'
+    last_commits b may' holds = nothing_held rules batch x on.course a b may may' on.on holds
+
     -- the end of the lines
-    pub course_ends : (b : AgentSeen) (may' : AgentMay) (old new : View) (asking ending : Ending) (waits : List ℕ) (later : Option (List ℕ)) (count rose : ℕ) → watch.now ≡ old.faults → watch.GoesOn → (watch.Quiet → IsQuiet a old)
-        → EndsWith rules a b may may' old new asking waiting waits → StaysOrRose old.faults new.faults → Ended asking ending out later count rose waits → Writes steps later may' new.faults ending
-    course_ends b may' old new Done ending waits later count rose is goes still ends stays ended = done_ended b may' new.faults (subst (λ n. StaysOrRose n new.faults) (sym is) stays) ending waits later count rose ends.0 ends.1 ended
-    course_ends b may' old new Device ending waits later count rose is goes still ends stays ended =
-        device_ended b may' new.faults (subst (λ n. StaysOrRose n new.faults) (sym is) stays) ending later count rose goes (λ up. subst (λ n. Rose n new.faults) (sym is) (ends.3 up)) (λ q. ends.2 (still q)) ends.0
+    pub course_ends : (checkpoint : ℕ) (b : AgentSeen) (may' : AgentMay) (old new : View) (asking ending : Ending) (waits : List ℕ) (later : Option (List ℕ)) (count rose : ℕ) → watch.now ≡ old.faults → watch.GoesOn → (watch.Quiet → IsQuiet a old)
+        → EndsWith rules a b may may' old new asking waiting waits → StaysOrRose old.faults new.faults → Ended asking ending out later count rose waits → Writes checkpoint steps later may' new.faults ending
+    course_ends checkpoint b may' old new Done ending waits later count rose is goes still ends stays ended =
+        done_ended checkpoint may' new.faults (subst (λ n. StaysOrRose n new.faults) (sym is) stays) ending waits later count rose (commits_stored b may' (last_commits b may' ends.0)) ends.1 ended
+    course_ends checkpoint b may' old new Device ending waits later count rose is goes still ends stays ended =
+        device_ended checkpoint may' new.faults (subst (λ n. StaysOrRose n new.faults) (sym is) stays) b ending later count rose goes (λ up. subst (λ n. Rose n new.faults) (sym is) (ends.3 up)) (λ q. ends.2 (still q)) ends.0
         (subst (Ended Device ending out later count rose) ends.1 ended)
-    course_ends b may' old new Memory ending waits later count rose is goes still ends stays ended =
+    course_ends checkpoint b may' old new Memory ending waits later count rose is goes still ends stays ended =
         let left : Ended Memory ending out later count rose waiting = subst (Ended Memory ending out later count rose) ends.1 ended in
         let stayed = subst (λ n. StaysOrRose n new.faults) (sym is) stays in
-        ⊎_elim (λ done. answered_memory b may' new.faults stayed ending later count rose done left) (λ same. same_memory b may' new.faults stayed ending later count rose same left) ends.0
-    course_ends b may' old new Write ending waits later count rose is goes still ends stays ended = absurd ends
-    course_ends b may' old new (Store why) ending waits later count rose is goes still ends stays ended = absurd ends
+        ⊎_elim (λ done. answered_memory checkpoint may' new.faults stayed ending later count rose (commits_stored b may' done) left) (λ same. same_memory checkpoint may' new.faults stayed b ending later count rose same left) ends.0
+    course_ends checkpoint b may' old new Write ending waits later count rose is goes still ends stays ended = absurd ends
+    course_ends checkpoint b may' old new (Store why) ending waits later count rose is goes still ends stays ended = absurd ends
 
--- changes stay in range before each line
-pub lines_fit : (rules : List Rule) (batch : ℕ) (x : AgentOpening) (watch : Watch) (lines : List Line) (i : ℕ) (a : AgentSeen) (may : AgentMay) (first out : Option (List ℕ)) (waiting : List ℕ) → i ≤ length lines → length lines + 2 < 2 ^ 64
-    → OnCourse rules batch x a may (steps_of (take i lines)) watch first out waiting → Fits a
-lines_fit rules batch x watch lines i a may first out waiting h fits on =
-    course_fits rules batch x watch a may (steps_of (take i lines)) first out waiting on (omega (arith, steps_few lines i h, h, fits))
+    -- and the checkpoint behind the last commit, once all is written
+    module _ (checkpoint : ℕ) (some : checkpoint ≢ 0) (b c : AgentSeen) (may' after : AgentMay) (old here new : View) (waits : List ℕ) (later : Option (List ℕ)) (is : watch.now ≡ old.faults) (still : watch.Quiet → IsQuiet a old)
+        (ends : EndsWith rules a b may may' old here Done waiting waits) (stays : StaysOrRose old.faults here.faults) (more : StaysOrRose here.faults new.faults) (took : Takes out later waits) where
+      done : Commits rules a b may'
+      done = last_commits b may' ends.0
+
+      kept : StaysOrRose watch.now new.faults
+      kept = subst (λ n. StaysOrRose n new.faults) (sym is) (stays_more old.faults here.faults new.faults stays more)
+
+      all_taken : Takes out later (waiting ++ text_of a.held)
+      all_taken = subst (Takes out later) ends.1 took
+
+      pub course_closes : (ending : Ending) → EndsWith rules b c may' after here new ending [] [] → Writes checkpoint steps later after new.faults ending
+      course_closes Done last =
+          let stored = ⊎_elim (stored_again b c may' after done) (λ same. stored_still b c may' after done same.2) last.0 in
+          (answered_ran checkpoint after new.faults kept Done later stored all_taken (answered_marks checkpoint after new.faults kept Done (omega arith) stored), answered_up checkpoint after new.faults kept stored)
+      course_closes Device last =
+          let up : b.up ≡ true = ap (λ s. s.up) done.1 ∙ up_after_commit rules a in
+          let rose : Rose watch.now new.faults = subst (λ n. Rose n new.faults) (sym is) (rose_later old.faults here.faults new.faults stays (last.3 up)) in
+          checkpoint_ended checkpoint after new.faults kept later some (λ q. last.2 (ends.2 (still q))) rose (stored_down b c may' after done last.0) all_taken
+      course_closes Memory last =
+          let stored = ⊎_elim (stored_again b c may' after done) (stored_still b c may' after done) last.0 in
+          answered_stopped checkpoint after new.faults kept Memory later (omega arith) stored (prefix_all out later (waiting ++ text_of a.held) all_taken)
+      course_closes Write last = absurd last
+      course_closes (Store why) last = absurd last

@@ -20,6 +20,10 @@ pub text_one : (one : SiteReply PlainSite Answer) → text_of (one ∷ []) ≡ r
 unfolding text_of
 text_one one = append-nil (reply_text (printed one))
 
+pub text_nothing : (told : List (SiteReply PlainSite Answer)) → told ≡ [] → text_of told ≡ []
+unfolding text_of
+text_nothing told none = ap text_of none
+
 -- the text of replies is that of what is printed of them
 pub text_printed : (told : List (SiteReply PlainSite Answer)) → text_of told ≡ replies_text (map printed told)
 unfolding text_of replies_text

@@ -1,21 +1,20 @@
 -- What each call of an agent makes of the courses that it stands on, and of faults. Only private
 -- functions see it.
 -- Source: none; these are the words of the general law.
-use Rattle.std.specs.Prelude.{◌≡◌, ◌⊎◌, ℕ, ◌<◌, true, false, List, [], ◌∷◌, ◌++◌, Some}
-use Rattle.unwinding.specs.Course.{AtBase}
+use Rattle.std.specs.Prelude.{◌≡◌, ◌⊎◌, ℕ, ◌<◌, true, false, List, [], ◌∷◌, ◌++◌, Option, Some}
 use Rattle.agent_base.specs.Counts.{Rose}
+use Rattle.agent_base.specs.Streams.{Takes, TakesPrefix}
 use Rattle.disk_model.specs.Disk.{View}
 use Rattle.journal.specs.Opening.{IsOfFile}
-use Rattle.suffix_list.specs.Suffix.{Rule}
 use Rattle.script_actions.specs.Action.{PlainStep}
-use Rattle.agent_model.specs.Isolation.{text_of}
 use Rattle.agent_core.specs.AgentView.{AgentView, may_of}
-use Rattle.agent_core.specs.Means.{AgentMay, Fails, Fits, Same, after_commit}
+use Rattle.agent_core.specs.Means.{Fits}
 use Rattle.agent_core.specs.Seen.{AgentSeen, IsSeen}
 use Rattle.store_runs.specs.Courses.{Steps, Watch}
 use Rattle.store_runs.specs.Runs.{HasNoCuts}
+use Rattle.waiting_lines.specs.Waiting.{TakesFront}
 use Rattle.store_runs.specs.declared.ending.Ending.{Ending}
-use Rattle.store_runs.specs.declared.ending.Ending.TheVariants.{Done, Device, Store, Write, Memory}
+use Rattle.store_runs.specs.declared.ending.Ending.TheVariants.{Store, Write, Memory}
 
 -- no call of the disk can fail: the agent is up, the power is on, and no cut is to come
 abbrev pub IsQuiet : AgentSeen → View → Type 0
@@ -75,39 +74,22 @@ Stops tell old new step (Store why) =
     × ((tell old.disk).tells ≡ true → (a : AgentSeen) → IsSeen old (tell old.disk) a → ⊥)
 Stops tell old new step other = ⊥
 
--- ---- the end
+-- ---- between two lines
 
--- the endings of the last commit
-abbrev pub IsEnd : Ending → Type 0
-IsEnd Done = Unit {0}
-IsEnd Device = Unit {0}
-IsEnd Memory = Unit {0}
-IsEnd Write = ⊥
-IsEnd (Store why) = ⊥
+-- Of what waited the sink took the front, and the agent stands where it stood. What waits now is
+-- the rest.
+abbrev pub Settled : {D : Type 0} → (tell : D → View) → (old new : AgentView D)
+    → (before after : Option (List ℕ)) → (count later : ℕ) → (waiting rest : List ℕ) → Type 0
+Settled tell old new before after count later waiting rest =
+    TakesFront before after waiting rest × (later ≡ count)
+    × Called tell old new (Unit {0}) [] []
 
--- what was held was committed
-abbrev pub Commits : List Rule → (a b : AgentSeen) → AgentMay → Type 0
-Commits rules a b may' = (a.up ≡ true) × (b ≡ after_commit rules a) × AtBase b.base may'
-
--- what the last commit gives out waits, too
-abbrev pub EndsWith : List Rule → (a b : AgentSeen) → (may may' : AgentMay) → (old new : View)
-    → Ending → (before now : List ℕ) → Type 0
-EndsWith rules a b may may' old new Done before now =
-    Commits rules a b may' × (now ≡ before ++ text_of a.held)
-EndsWith rules a b may may' old new Device before now =
-    Fails rules a a b may may' (a.up ≡ true) × (now ≡ before) × (IsQuiet a old → ⊥)
-    × (a.up ≡ true → Rose old.faults new.faults)
-EndsWith rules a b may may' old new Memory before now =
-    (Commits rules a b may' ⊎ Same a may b may') × (now ≡ before)
-EndsWith rules a b may may' old new Write before now = ⊥
-EndsWith rules a b may may' old new (Store why) before now = ⊥
-
--- the same of an agent; the disk's count stays or rises
-abbrev pub Ends : {D : Type 0} → (tell : D → View) → (old new : AgentView D) → Ending
-    → (before now : List ℕ) → Type 0
-Ends tell old new ending before now =
-    (a : AgentSeen) → IsSeen old (tell old.disk) a
-    → (b : AgentSeen) × IsSeen new (tell new.disk) b
-    × EndsWith old.memory.rules a b (may_of old (tell old.disk)) (may_of new (tell new.disk))
-    (tell old.disk) (tell new.disk) ending before now
-    × StaysOrRose (tell old.disk).faults (tell new.disk).faults
+-- The run stops between two lines. Writing what waited failed, and the agent is as it was; or all
+-- of it was written, and memory was wanting for a checkpoint.
+abbrev pub Unsettled : {D : Type 0} → (tell : D → View) → (old new : AgentView D)
+    → (before after : Option (List ℕ)) → (count later : ℕ) → List ℕ → Ending → Type 0
+Unsettled tell old new before after count later waiting Write =
+    TakesPrefix before after waiting × Rose count later × (new ≡ old)
+Unsettled tell old new before after count later waiting Memory =
+    Takes before after waiting × (later ≡ count) × Called tell old new ⊥ [] []
+Unsettled tell old new before after count later waiting other = ⊥

@@ -1,6 +1,6 @@
 -- How lines go on over an agent. Only private functions see it.
 -- Source: none; these are the words of the general law.
-use Rattle.std.specs.Prelude.{◌≡◌, ◌≢◌, ℕ, ◌+◌, false, List, [], ◌++◌, Option}
+use Rattle.std.specs.Prelude.{◌≡◌, ℕ, ◌+◌, Bool, true, false, List, [], ◌∷◌, ◌++◌, Option}
 use Rattle.unwinding.specs.Admissible.{History}
 use Rattle.unwinding.specs.Course.{Course, course_steps}
 use Rattle.unwinding.specs.CourseSteps.{IsOn, course_transcript}
@@ -38,9 +38,16 @@ downs_on r = closed_downs r.closed ++ r.downs
 unfoldable pub faults_on : Course PlainAction → ℕ
 faults_on r = closed_faults r.closed + epoch_faults r.downs
 
--- where the agent is not up, a line of the open epoch was answered `down`
-abbrev pub Shows : AgentSeen → Course PlainAction → Type 0
-Shows a r = a.up ≡ false → r.downs ≢ []
+-- the fault that no line shows yet, by whether the agent is up: it is down, and no line of the open
+-- epoch was answered `down`, for a checkpoint met the fault
+abbrev pub unshown : Bool → List PlainStep → ℕ
+unshown true downs = 0
+unshown false [] = 1
+unshown false (d ∷ downs) = 0
+
+-- the faults that it shows so far, and that one
+unfoldable pub met_on : AgentSeen → Course PlainAction → ℕ
+met_on a r = faults_on r + unshown a.up r.downs
 
 -- what is known of faults over some lines: when no call of the disk can fail, when the run goes on
 -- after them, and the disk's counts of faults before and after them
@@ -50,16 +57,18 @@ pub record Watch : Type 1 where
   pub before : ℕ
   pub now : ℕ
 
--- a course goes on by some lines, which print a text. Where the disk cannot fail, none of them is
--- answered `down`. Since any first count, the disk's rose by all faults that are shown.
+-- A course goes on by some lines, which print a text. Where the disk cannot fail, none of them is
+-- answered `down`. Since any first count, the disk's rose by all faults that are shown, and where
+-- the run goes on by all that were met.
 pub record Adds (rules : List Rule) (x : AgentOpening) (a b : AgentSeen) (r q : Course PlainAction)
     (ran : List PlainStep) (watch : Watch) (text : List ℕ) : Type 0 where
   pub steps : course_steps q ≡ course_steps r ++ ran
   pub prints : text_on rules x q ≡ text_on rules x r ++ text
   pub downs : watch.Quiet → downs_on q ≡ downs_on r
-  pub counted : (first : ℕ) → Shows a r → RoseBy (faults_on r) first watch.before
+  pub counted : (first : ℕ) → RoseBy (met_on a r) first watch.before
       → RoseBy (faults_on q) first watch.now
-  pub shows : watch.GoesOn → Shows b q
+  pub met : watch.GoesOn → (first : ℕ) → RoseBy (met_on a r) first watch.before
+      → RoseBy (met_on b q) first watch.now
 
 -- what some lines do to every course that the agent stands on
 abbrev pub Steps : List Rule → ℕ → List PlainStep → Watch → AgentSeen → AgentMay → AgentSeen
@@ -80,7 +89,8 @@ Marks rules batch x may ending before now history =
     Leaves rules batch x may history × RoseBy (faults_of ending history) before now
 
 -- The agent stands on a course of these lines, and of its text the sink took the front, and the
--- rest waits. The disk's count rose by the faults that are shown.
+-- rest waits. The disk's count rose by the faults that are shown, and where the run goes on by
+-- those that were met.
 pub record OnCourse (rules : List Rule) (batch : ℕ) (x : AgentOpening) (a : AgentSeen)
     (may : AgentMay) (steps : List PlainStep) (watch : Watch)
     (before after : Option (List ℕ)) (waiting : List ℕ) : Type 0 where
@@ -89,5 +99,5 @@ pub record OnCourse (rules : List Rule) (batch : ℕ) (x : AgentOpening) (a : Ag
   pub runs : course_steps course ≡ steps
   pub downs : watch.Quiet → downs_on course ≡ []
   pub faults : RoseBy (faults_on course) watch.before watch.now
-  pub shows : watch.GoesOn → Shows a course
+  pub met : watch.GoesOn → RoseBy (met_on a course) watch.before watch.now
   pub text : TakesFront before after (text_on rules x course) waiting

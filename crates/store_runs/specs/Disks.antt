@@ -53,13 +53,13 @@ IsMeantBy list view base =
 
 -- A run over a disk ended so. The first opening was refused, or the lines ran from the durable
 -- state that the disk's bytes stand for, which is a valid one.
-abbrev pub WritesOn : Ending → RuleList → (start batch : ℕ) → View → List PlainStep
+abbrev pub WritesOn : Ending → RuleList → (start batch checkpoint : ℕ) → View → List PlainStep
     → (before after : Option (List ℕ)) → View → Type 0
-WritesOn ending list start batch old steps before after new =
+WritesOn ending list start batch checkpoint old steps before after new =
     ((why : OpenFault) × (ending ≡ ending_of why) × IsRefusedOn list why old new before after)
     ⊎ ((base : Saved) × IsValid base × IsMeantBy list old base × OpensByCuts (Ok tt) old
-    × WritesLines ending list.rules batch (opened_at start base) (HasNoCuts old) steps before after
-    (LeavesDisk ending list batch (opened_at start base) old new))
+    × WritesLines ending list.rules batch checkpoint (opened_at start base) (HasNoCuts old) steps
+    before after (LeavesDisk ending list batch (opened_at start base) old new))
 
 -- ---- in memory
 
@@ -78,10 +78,10 @@ IsUnopened ending cuts = ⊥
 -- A run over a new store, whose power is cut so, ended so. The sink took nothing where the first
 -- opening failed. It is not opened where a cut falls into the opening. Of what is left nothing is
 -- said, since the disk is gone.
-abbrev pub WritesInMemory : Ending → List Rule → (start batch : ℕ) → List Cut → List PlainStep
-    → (before after : Option (List ℕ)) → Type 0
-WritesInMemory ending rules start batch cuts steps before after =
+abbrev pub WritesInMemory : Ending → List Rule → (start batch checkpoint : ℕ) → List Cut
+    → List PlainStep → (before after : Option (List ℕ)) → Type 0
+WritesInMemory ending rules start batch checkpoint cuts steps before after =
     (IsUnopened ending cuts × Takes before after [])
     ⊎ ((CutsOpening cuts → ⊥)
-    × WritesLines ending rules batch (begins_at start) (cuts ≡ []) steps before after
+    × WritesLines ending rules batch checkpoint (begins_at start) (cuts ≡ []) steps before after
     (λ history. Unit {0}))

@@ -38,7 +38,7 @@ closed_faults [] = 0
 closed_faults (s ∷ ss) = epoch_faults s.downs + closed_faults ss
 
 -- the faults of the last epoch. Where the agent is down at the end and no line was answered `down`,
--- the commit at the end met one.
+-- a checkpoint or the commit at the end met one.
 abbrev pub last_faults : Ending → List PlainStep → ℕ
 last_faults Device [] = 1
 last_faults ending downs = epoch_faults downs

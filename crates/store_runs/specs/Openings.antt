@@ -29,9 +29,11 @@ pub record IsOpenedAt {D : Type 0} (agent : AgentView D) (view : View) (opening 
 abbrev pub list_of : {D : Type 0} → AgentView D → RuleList
 list_of agent = record { rules = agent.memory.rules; digest = agent.journal.digest }
 
--- a run changes neither the list nor the length of a batch, and the disk goes on telling
+-- a run changes neither the list nor the length of a batch, nor when a checkpoint is due, and the
+-- disk goes on telling
 pub record GoesOn {D : Type 0} (tell : D → View) (old new : AgentView D) : Type 0 where
   pub rules : new.memory.rules ≡ old.memory.rules
   pub digest : new.journal.digest ≡ old.journal.digest
   pub batch : new.batch ≡ old.batch
+  pub checkpoint : new.checkpoint ≡ old.checkpoint
   pub tells : (tell new.disk).tells ≡ (tell old.disk).tells

@@ -1,7 +1,7 @@
 -- What a run of lines writes and leaves, and what each ending means.
 -- A clause on bytes speaks of a sink that tells its bytes; one that tells none has `None`.
 -- Source: none; these are the words of the promise.
-use Rattle.std.specs.Prelude.{◌≡◌, ℕ, false, List, [], ◌++◌, Option, Some}
+use Rattle.std.specs.Prelude.{◌≡◌, ◌≢◌, ◌⊎◌, ℕ, false, List, [], ◌++◌, Option, Some}
 use Rattle.unwinding.specs.Admissible.{History}
 use Rattle.agent_base.specs.Streams.{Takes, TakesPrefix}
 use Rattle.disk_model.specs.Disk.{View}
@@ -61,18 +61,25 @@ pub record Stopped (rules : List Rule) (batch : ℕ) (opening : AgentOpening) (N
 
 -- ---- endings
 
+-- at the end the agent was down; or it was up, and the checkpoint behind the last commit met a
+-- fault, where checkpoints are made at all
+abbrev pub EndsAtFault : (checkpoint : ℕ) → History PlainAction → Type 0
+EndsAtFault checkpoint history = EndsDown history ⊎ ((checkpoint ≢ 0) × EndsUp history)
+
 -- What the sink took of lines whose run over an opened agent ended so, and what their history
--- leaves. At `Done` the agent was up at the end, and at `Device` it was down. `Device` comes only
--- of a disk with cuts. A store that an agent opened is never refused again.
-abbrev pub WritesLines : Ending → List Rule → ℕ → AgentOpening → Type 0 → List PlainStep
-    → (before after : Option (List ℕ)) → (Left : History PlainAction → Type 0) → Type 0
-WritesLines Done rules batch opening NoCuts steps before after Left =
+-- leaves, in batches of so many lines, with a checkpoint after so many durable changes. At `Done`
+-- the agent was up at the end, and at `Device` it was down, or its last checkpoint met a fault.
+-- `Device` comes only of a disk with cuts. A store that an agent opened is never refused again.
+abbrev pub WritesLines : Ending → List Rule → (batch checkpoint : ℕ) → AgentOpening → Type 0
+    → List PlainStep → (before after : Option (List ℕ)) → (Left : History PlainAction → Type 0)
+    → Type 0
+WritesLines Done rules batch checkpoint opening NoCuts steps before after Left =
     (ran : Ran rules batch opening NoCuts steps before after Left) × EndsUp ran.history
-WritesLines Device rules batch opening NoCuts steps before after Left =
-    (ran : Ran rules batch opening NoCuts steps before after Left) × EndsDown ran.history
-    × (NoCuts → ⊥)
-WritesLines (Store why) rules batch opening NoCuts steps before after Left = ⊥
-WritesLines Write rules batch opening NoCuts steps before after Left =
+WritesLines Device rules batch checkpoint opening NoCuts steps before after Left =
+    (ran : Ran rules batch opening NoCuts steps before after Left)
+    × EndsAtFault checkpoint ran.history × (NoCuts → ⊥)
+WritesLines (Store why) rules batch checkpoint opening NoCuts steps before after Left = ⊥
+WritesLines Write rules batch checkpoint opening NoCuts steps before after Left =
     Stopped rules batch opening NoCuts steps before after Left
-WritesLines Memory rules batch opening NoCuts steps before after Left =
+WritesLines Memory rules batch checkpoint opening NoCuts steps before after Left =
     Stopped rules batch opening NoCuts steps before after Left

@@ -13,6 +13,7 @@ ghost use Rattle.row_store.specs.Bodies as bodies;
 ghost use Rattle.store_runs.specs.Disks.{WritesInMemory, WritesOn};
 ghost use Rattle.store_runs.specs.Endings.{IsStoreEnding, WriteCounts};
 ghost use Rattle.store_runs.specs.Steps.{steps_of};
+ghost use Rattle.store_runs.specs.Tidy.{LeavesTidy};
 
 use crate::ending::refused;
 use crate::{Ending, run_lines};
@@ -44,8 +45,9 @@ pub fn run_on<D: Disk + Drop, O: Sink>(
     requires batch { (1 ≤ options.batch) × (options.batch ≤ 256) }
     requires fits { length lines.now + 2 < 2 ^ 64 }
     ensures written { (D.view disk).tells ≡ true
-        → WritesOn result.ending list.now options.start options.batch (D.view disk)
-        (steps_of lines.now) (O.taken out.old) (O.taken out.new) (D.view result.disk) }
+        → WritesOn result.ending list.now options.start options.batch options.checkpoint
+        (D.view disk) (steps_of lines.now) (O.taken out.old) (O.taken out.new)
+        (D.view result.disk) }
     // A file that is no store of this list is refused, whatever the lines are.
     ensures refused { (why : OpenFault) (c : List ℕ) → (D.view disk).contents ≡ Some c
         → IsOfFile why
@@ -54,6 +56,9 @@ pub fn run_on<D: Disk + Drop, O: Sink>(
         → Takes (O.taken out.old) (O.taken out.new) []
         × ((result.ending ≡ Ending.Store why)
         ⊎ ((result.ending ≡ Ending.Device) ⊎ (result.ending ≡ Ending.Memory))) }
+    // At `Done` no checkpoint is due for the store that is left.
+    ensures tidy { (D.view disk).tells ≡ true → result.ending ≡ Ending.Done
+        → LeavesTidy options.checkpoint list.now.digest (D.view result.disk).may_leave }
     ensures store { IsStoreEnding result.ending }
     // A call of the disk failed.
     ensures device { (D.view disk).tells ≡ true → result.ending ≡ Ending.Device
@@ -91,7 +96,7 @@ pub fn run_in_memory<O: Sink>(
     requires cuts { AreFrom 1 cuts.items }
     requires fits { length lines.now + 2 < 2 ^ 64 }
     ensures written { WritesInMemory result list.now.rules options.start options.batch
-        cuts.items (steps_of lines.now) (O.taken out.old) (O.taken out.new) }
+        options.checkpoint cuts.items (steps_of lines.now) (O.taken out.old) (O.taken out.new) }
     ensures write { WriteCounts result (O.faults out.old) (O.faults out.new) }
 {
     let disk = MemDisk::new(alloc, Vec::new(alloc), cuts, Vec::new(alloc));

@@ -1,11 +1,13 @@
 //! Lines, run one by one over an agent. Their replies wait in memory, and are written together.
-ghost use Rattle.std.specs.Prelude.{◌≡◌, ◌<◌, ◌+◌, ◌^◌, IfErr, OnErr, OnOk, length};
+ghost use Rattle.std.specs.Prelude.{◌≡◌, ◌<◌, ◌+◌, ◌^◌, [], IfErr, OnErr, OnOk, false, length};
+ghost use Rattle.std.specs.Prelude.{true};
 ghost use Rattle.unwinding.specs.Admissible.{Acts, Reopens};
 ghost use Rattle.agent_base.specs.Counts.{Rose};
 ghost use Rattle.durable_model.specs.Histories.{AgentOpening};
 ghost use Rattle.script_actions.specs.Plain.{action_of, step_of};
-ghost use Rattle.agent_core.specs.Seen.{AgentSeen, IsSeen};
-ghost use Rattle.store_runs.specs.Calls.{Ends, IsEnd, Stepped, Stops};
+ghost use Rattle.agent_core.specs.AgentView.{owes};
+ghost use Rattle.store_runs.specs.Calls.{Settled, Stepped, Stops, Unsettled};
+ghost use Rattle.store_runs.specs.Closing.{Closes, Ends, IsEnd};
 ghost use Rattle.store_runs.specs.Endings.{IsStoreEnding, TellsPower, WriteCounts};
 ghost use Rattle.store_runs.specs.Openings.{GoesOn, IsOpenedAt};
 ghost use Rattle.store_runs.specs.Faults.{LeavesDisk};
@@ -13,12 +15,13 @@ ghost use Rattle.store_runs.specs.Runs.{HasNoCuts};
 ghost use Rattle.store_runs.specs.Openings.{list_of};
 ghost use Rattle.store_runs.specs.Runs.{WritesLines};
 ghost use Rattle.store_runs.specs.Steps.{steps_of};
+ghost use Rattle.store_runs.specs.Tidy.{IsTidyAt};
 
 use crate::Ending;
 use crate::ending::refused;
 use crate::replies::{down, restarted};
 use crate::waiting::{end, hold, hold_all};
-use agent_base::{NoMemory, Sink};
+use agent_base::{Failed, NoMemory, Sink, write_all};
 use agent_core::{Agent, Outcome};
 use disk_model::Disk;
 use journal::OpenFault;
@@ -30,6 +33,9 @@ use waiting_lines::write_many;
 ///
 /// The replies wait in memory, and are written together. Where the run ends or stops, what waits
 /// is written. After the last line the agent commits the lines that wait for their batch.
+///
+/// A checkpoint that is due is made behind the next line that acts, once the replies are written,
+/// and after the last commit.
 pub fn run_lines<D: Disk + Drop, O: Sink>(
     alloc: Global,
     agent: &mut Agent<'_, D>,
@@ -40,7 +46,7 @@ pub fn run_lines<D: Disk + Drop, O: Sink>(
     // It is told of an agent that was just opened, and of a disk that tells its contents.
     ensures written { (opening : AgentOpening)
         → IsOpenedAt agent.old (D.view agent.old.disk) opening
-        → WritesLines result agent.old.memory.rules agent.old.batch opening
+        → WritesLines result agent.old.memory.rules agent.old.batch agent.old.checkpoint opening
         (HasNoCuts (D.view agent.old.disk)) (steps_of lines.now)
         (O.taken out.old) (O.taken out.new)
         (LeavesDisk result (list_of agent.old) agent.old.batch opening
@@ -51,6 +57,10 @@ pub fn run_lines<D: Disk + Drop, O: Sink>(
     ensures device { (opening : AgentOpening)
         → IsOpenedAt agent.old (D.view agent.old.disk) opening → result ≡ Ending.Device
         → Rose (D.view agent.old.disk).faults (D.view agent.new.disk).faults }
+    // At `Done` no checkpoint is due for the store that is left.
+    ensures tidy { (opening : AgentOpening)
+        → IsOpenedAt agent.old (D.view agent.old.disk) opening
+        → result ≡ Ending.Done → IsTidyAt agent.new (D.view agent.new.disk) }
     ensures store { IsStoreEnding result }
     ensures goes_on { GoesOn D.view agent.old agent.new }
     ensures write { WriteCounts result (O.faults out.old) (O.faults out.new) }
@@ -62,12 +72,14 @@ pub fn run_lines<D: Disk + Drop, O: Sink>(
             Ok(()) => {}
             Err(ending) => return end(out, &waiting, ending),
         }
-        let Ok(()) = write_many(out, &mut waiting) else {
-            return Ending::Write;
-        };
+        match settle(agent, &line.step, out, &mut waiting) {
+            Ok(()) => {}
+            Err(ending) => return ending,
+        }
     }
     let ending = last_commit(agent, &mut text, &mut waiting);
-    end(out, &waiting, ending)
+    let ending = end(out, &waiting, ending);
+    last_checkpoint(agent, ending)
 }
 
 // Runs one line. The text of what it answers waits behind what waits already.
@@ -136,8 +148,75 @@ fn reopen<D: Disk + Drop>(
     }
 }
 
+// Behind a line. Where the agent owes a checkpoint all that waits is written, and then it is made,
+// but not behind a line that opened the store again. Else what waits is written once it is much.
+fn settle<D: Disk + Drop, O: Sink>(
+    agent: &mut Agent<'_, D>,
+    step: &Step,
+    out: &mut O,
+    waiting: &mut Vec<u8>,
+) -> Result<(), Ending>
+    ensures settled { OnOk result (Settled D.view agent.old agent.new
+        (O.taken out.old) (O.taken out.new) (O.faults out.old) (O.faults out.new)
+        waiting.old.items waiting.new.items) }
+    ensures stops { IfErr result (Unsettled D.view agent.old agent.new
+        (O.taken out.old) (O.taken out.new) (O.faults out.old) (O.faults out.new)
+        waiting.old.items) }
+    ensures goes_on { GoesOn D.view agent.old agent.new }
+{
+    match step {
+        Step::Act(_) if agent.owes_checkpoint() => write_and_checkpoint(agent, out, waiting),
+        Step::Act(_) | Step::Restart => match write_many(out, waiting) {
+            Ok(()) => Ok(()),
+            Err(Failed) => Err(Ending::Write),
+        },
+    }
+}
+
+// Writes what waits, and then makes the checkpoint that the agent owes. Where writing fails, none
+// is made.
+fn write_and_checkpoint<D: Disk + Drop, O: Sink>(
+    agent: &mut Agent<'_, D>,
+    out: &mut O,
+    waiting: &mut Vec<u8>,
+) -> Result<(), Ending>
+    requires { owes agent.old ≡ true }
+    ensures settled { OnOk result (Settled D.view agent.old agent.new
+        (O.taken out.old) (O.taken out.new) (O.faults out.old) (O.faults out.new)
+        waiting.old.items waiting.new.items) }
+    ensures stops { IfErr result (Unsettled D.view agent.old agent.new
+        (O.taken out.old) (O.taken out.new) (O.faults out.old) (O.faults out.new)
+        waiting.old.items) }
+    ensures goes_on { GoesOn D.view agent.old agent.new }
+{
+    match write_all(out, waiting) {
+        Ok(()) => waiting.clear(),
+        Err(Failed) => return Err(Ending::Write),
+    }
+    match make_checkpoint(agent) {
+        Ending::Memory => Err(Ending::Memory),
+        _ => Ok(()),
+    }
+}
+
+// Makes the checkpoint that the agent owes. `Device`: a call of the disk failed.
+fn make_checkpoint<D: Disk + Drop>(agent: &mut Agent<'_, D>) -> Ending
+    requires { owes agent.old ≡ true }
+    ensures ends { Ends D.view agent.old agent.new result [] [] }
+    ensures tidy { result ≡ Ending.Done → owes agent.new ≡ false }
+    ensures goes_on { GoesOn D.view agent.old agent.new }
+    ensures ending { IsEnd result }
+{
+    match agent.flush() {
+        Outcome::Replies(_none) => Ending::Done,
+        Outcome::Down => Ending::Device,
+        Outcome::Held => Ending::Memory,
+        Outcome::NoMemory => Ending::Memory,
+    }
+}
+
 // After the last line: the lines that wait for their batch are committed, and their replies
-// wait to be written.
+// wait to be written. Where a checkpoint is owed, no line waits, and it is not made yet.
 fn last_commit<D: Disk + Drop>(
     agent: &mut Agent<'_, D>,
     text: &mut Vec<u8>,
@@ -147,6 +226,9 @@ fn last_commit<D: Disk + Drop>(
     ensures goes_on { GoesOn D.view agent.old agent.new }
     ensures ending { IsEnd result }
 {
+    if agent.owes_checkpoint() {
+        return Ending::Done;
+    }
     match agent.flush() {
         Outcome::Replies(replies) => match hold_all(&replies, text, waiting) {
             Ok(()) => Ending::Done,
@@ -155,5 +237,17 @@ fn last_commit<D: Disk + Drop>(
         Outcome::Down => Ending::Device,
         Outcome::Held => Ending::Memory,
         Outcome::NoMemory => Ending::Memory,
+    }
+}
+
+// Once all replies are written: the checkpoint that the agent owes, where the run was not stopped.
+fn last_checkpoint<D: Disk + Drop>(agent: &mut Agent<'_, D>, ending: Ending) -> Ending
+    ensures closes { Closes D.view agent.old agent.new ending result }
+    ensures tidy { result ≡ Ending.Done → owes agent.new ≡ false }
+    ensures goes_on { GoesOn D.view agent.old agent.new }
+{
+    match ending {
+        Ending::Done if agent.owes_checkpoint() => make_checkpoint(agent),
+        _ => ending,
     }
 }

@@ -1,8 +1,8 @@
-use Rattle.std.proofs.Common.{rules, ◌++◌, map, refl, ap, ◌∙◌}
+use Rattle.std.proofs.Common.{rules, ◌++◌, map, refl, sym, ap, ◌∙◌}
 use Rattle.reply_lines.specs.Plain.{reply_of}
 use Rattle.agent_core.specs.declared.outcome.Outcome.TheVariants.{Replies, Held, Down, NoMemory}
 use Rattle.store_runs.specs.Waiting.{replies_text}
-use Rattle.store_runs.proofs.AgentLemmas.{down_ends, held_ends, memory_ends, replies_end, replies_lost}
+use Rattle.store_runs.proofs.AgentLemmas.{down_ends, held_ends, memory_ends, owed_ends, replies_end, replies_lost}
 use Rattle.store_runs.proofs.lines.last_commit.Goals as goal
 
 pub returns-in-Ok-clause-ends : goal.returns-in-Ok-clause-ends
@@ -25,3 +25,6 @@ returns-in-Held-clause-ends g c = held_ends g.D.Disk.view c.args.agent.now c.flu
 
 pub returns-clause-ends : goal.returns-clause-ends
 returns-clause-ends g c = memory_ends g.D.Disk.view c.args.agent.now c.flush.new.self NoMemory c.in-NoMemory.ensures.means c.in-NoMemory.ensures.device c.flush.ensures.off c.args.waiting.now.items c.args.waiting.now.items refl refl
+
+pub returns-then-owes_checkpoint-clause-ends : goal.returns-then-owes_checkpoint-clause-ends
+returns-then-owes_checkpoint-clause-ends g c = owed_ends g.D.Disk.view c.args.agent.now c.args.waiting.now.items (sym c.owes_checkpoint.ensures.owes ∙ c.if-owes_checkpoint.true)

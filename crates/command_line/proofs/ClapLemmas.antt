@@ -21,7 +21,7 @@ abbrev pub placed : ℕ → Text → Rule
 placed index name = record (one (place_rule name)) { index = Some index }
 
 abbrev pub replay_rules : List Rule
-replay_rules = placed 1 (codes "list") ∷ one (option_rule (codes "store")) ∷ one (option_rule (codes "batch")) ∷ one (option_rule (codes "start")) ∷ []
+replay_rules = placed 1 (codes "list") ∷ one (option_rule (codes "store")) ∷ one (option_rule (codes "batch")) ∷ one (option_rule (codes "checkpoint")) ∷ one (option_rule (codes "start")) ∷ []
 
 abbrev pub dump_rules : List Rule
 dump_rules = placed 1 (codes "list") ∷ placed 2 (codes "store") ∷ []

@@ -5,13 +5,13 @@ use Rattle.std.specs.Option.{option_eq}
 use Rattle.std.proofs.lemmas.Bool.{eq-eqb}
 use Rattle.std.proofs.lemmas.Slice.Eq.{bytes_eq-Decides}
 use Rattle.clap.specs.Words.{Row, Text, subcommand_of, takes}
-use Rattle.command_line.specs.Options.{Pair, batch_of, is_path, options_of, start_of, value_named}
+use Rattle.command_line.specs.Options.{Pair, batch_of, checkpoint_of, is_path, options_of, start_of, value_named}
 use Rattle.command_line.specs.Program.{is_found, program_app}
 use Rattle.command_line.specs.Words.{Dump, PlainCommand, ReadsList, command_of, run_of}
 use Rattle.command_line.proofs.ClapLemmas.{IsTaken, value_row}
 use Rattle.command_line.proofs.CommandLemmas.{command_is}
 use Rattle.command_line.proofs.DumpLemmas.{dump_taken}
-use Rattle.command_line.proofs.OptionLemmas.{batch_option, path_plain, start_option, store_option}
+use Rattle.command_line.proofs.OptionLemmas.{batch_option, checkpoint_option, path_plain, start_option, store_option}
 use Rattle.command_line.proofs.RunLemmas.{option_found, option_row, run_taken}
 
 -- the words are taken, and what is found is this command
@@ -29,11 +29,13 @@ run_is_found : (list : Text) (words : List Text) (options : List Pair) → optio
 run_is_found list words options are =
     let store = option_found list (codes "--store") (codes "store") words options store_option are in
     let batch = option_found list (codes "--batch") (codes "batch") words options batch_option are in
+    let checkpoint = option_found list (codes "--checkpoint") (codes "checkpoint") words options checkpoint_option are in
     let start = option_found list (codes "--start") (codes "start") words options start_option are in
     ap₂ (λ x y. x && y) (same_text (Some list))
     (ap₂ (λ x y. x && y) (ap (λ v. option_eq bytes_eq v (value_named (codes "--store") options)) store ∙ same_text (value_named (codes "--store") options))
     (ap₂ (λ x y. x && y) (ap (λ v. batch_of v == batch_of (value_named (codes "--batch") options)) batch ∙ eq-eqb (batch_of (value_named (codes "--batch") options)) _ refl)
-    (ap (λ v. start_of v == start_of (value_named (codes "--start") options)) start ∙ eq-eqb (start_of (value_named (codes "--start") options)) _ refl)))
+    (ap₂ (λ x y. x && y) (ap (λ v. checkpoint_of v == checkpoint_of (value_named (codes "--checkpoint") options)) checkpoint ∙ eq-eqb (checkpoint_of (value_named (codes "--checkpoint") options)) _ refl)
+    (ap (λ v. start_of v == start_of (value_named (codes "--start") options)) start ∙ eq-eqb (start_of (value_named (codes "--start") options)) _ refl))))
 
 confirmed : (name : Text) (words : List Text) (found : Text × List Row) (command : PlainCommand) → IsTaken name words found → is_found command (Some found) ≡ true → IsConfirmed (name ∷ words) command
 confirmed name words found command is same = record { takes_them = is.takes_them; finds = ap (is_found command) is.finds ∙ same }

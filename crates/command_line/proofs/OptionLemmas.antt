@@ -11,7 +11,7 @@ use Rattle.clap.specs.Lexer.{long_of}
 use Rattle.clap.specs.Takes.{flag_word_passes, long_passes, other_passes, settle_passes, step_passes, turn_passes, use_passes, word_passes}
 use Rattle.clap.specs.Walk.{Held, Step, Walk, after_flag, after_step, arg_by_id, arg_by_long, at_row, has_row, idle, long_met, long_or_other, more_values, next, option, option_word, reading_by, settled, settled_rows, subcommand_or_other, trailing, used_by_id, walked, with_default, with_values, without, word_met}
 use Rattle.clap.specs.declared.parser.matches.ValueSource.TheVariants.{CommandLine}
-use Rattle.command_line.specs.Options.{Pair, first_batch, first_start, is_digit, is_named, is_number, is_option, is_path, last_batch, last_start, number_of, within}
+use Rattle.command_line.specs.Options.{Pair, first_batch, first_start, is_digit, is_named, is_number, is_option, is_path, last_batch, last_checkpoint, last_start, no_checkpoint, number_of, within}
 use Rattle.command_line.specs.Program.{option_rule}
 use Rattle.command_line.proofs.NumberLemmas.{digit_bounds, digits}
 use Rattle.command_line.proofs.ClapLemmas.{IsPlain, at_value, met_plain, none_met, one, plain_passes, replay_leaf, replay_rules, starts_plain, value_row}
@@ -40,9 +40,10 @@ no_default rows false = refl
 
 pub no_defaults : (rows : List Row) → fold with_default rows replay_rules ≡ rows
 no_defaults rows =
-    ap (λ rs. fold with_default rs (one (option_rule (codes "store")) ∷ one (option_rule (codes "batch")) ∷ one (option_rule (codes "start")) ∷ [])) (no_default rows (has_row (codes "list") rows))
-    ∙ ap (λ rs. fold with_default rs (one (option_rule (codes "batch")) ∷ one (option_rule (codes "start")) ∷ [])) (no_default rows (has_row (codes "store") rows))
-    ∙ ap (λ rs. fold with_default rs (one (option_rule (codes "start")) ∷ [])) (no_default rows (has_row (codes "batch") rows))
+    ap (λ rs. fold with_default rs (one (option_rule (codes "store")) ∷ one (option_rule (codes "batch")) ∷ one (option_rule (codes "checkpoint")) ∷ one (option_rule (codes "start")) ∷ [])) (no_default rows (has_row (codes "list") rows))
+    ∙ ap (λ rs. fold with_default rs (one (option_rule (codes "batch")) ∷ one (option_rule (codes "checkpoint")) ∷ one (option_rule (codes "start")) ∷ [])) (no_default rows (has_row (codes "store") rows))
+    ∙ ap (λ rs. fold with_default rs (one (option_rule (codes "checkpoint")) ∷ one (option_rule (codes "start")) ∷ [])) (no_default rows (has_row (codes "batch") rows))
+    ∙ ap (λ rs. fold with_default rs (one (option_rule (codes "start")) ∷ [])) (no_default rows (has_row (codes "checkpoint") rows))
     ∙ no_default rows (has_row (codes "start") rows)
 
 -- ---- values that are settled
@@ -160,26 +161,33 @@ store_option = record { spelled = refl; dashes = refl; long = refl; by_long = re
 pub batch_option : IsOption (codes "--batch") (codes "batch")
 batch_option = record { spelled = refl; dashes = refl; long = refl; by_long = refl; by_id = refl; no_list = refl }
 
+pub checkpoint_option : IsOption (codes "--checkpoint") (codes "checkpoint")
+checkpoint_option = record { spelled = refl; dashes = refl; long = refl; by_long = refl; by_id = refl; no_list = refl }
+
 pub start_option : IsOption (codes "--start") (codes "start")
 start_option = record { spelled = refl; dashes = refl; long = refl; by_long = refl; by_id = refl; no_list = refl }
 
 given_as : (pair : Pair) (word : Text) → IsOption word (drop 2 word) → bytes_eq pair.0 word ≡ true → IsPlain pair.1 → IsGiven pair
 given_as pair word is same plain = record { is = subst (λ w. IsOption w (drop 2 w)) (sym ((bytes_eq-Decides pair.0 word).0 same)) is; plain = plain }
 
+-- an option whose value is a number
+numeric_given : (pair : Pair) (word : Text) (first last : ℕ) → IsOption word (drop 2 word) → (is_named word pair && is_some (number_of first last pair.1)) ≡ true → IsGiven pair
+numeric_given pair word first last known is =
+    let parts = and_parts (is_named word pair) (is_some (number_of first last pair.1)) is in
+    given_as pair word known parts.0 (number_plain first last pair.1 parts.1)
+
 pub option_given : (pair : Pair) → is_option pair ≡ true → IsGiven pair
-option_given pair = at (is_named (codes "--store") pair && is_path pair.1) (is_named (codes "--batch") pair && is_some (number_of first_batch last_batch pair.1)) refl refl
+option_given pair = at (is_named (codes "--store") pair && is_path pair.1) (is_named (codes "--batch") pair && is_some (number_of first_batch last_batch pair.1)) (is_named (codes "--checkpoint") pair && is_some (number_of no_checkpoint last_checkpoint pair.1)) refl refl refl
   where
-    at : (store batch : Bool) → (is_named (codes "--store") pair && is_path pair.1) ≡ store → (is_named (codes "--batch") pair && is_some (number_of first_batch last_batch pair.1)) ≡ batch
-        → (store || (batch || (is_named (codes "--start") pair && is_some (number_of first_start last_start pair.1)))) ≡ true → IsGiven pair
-    at true batch is other any =
+    at : (store batch checkpoint : Bool) → (is_named (codes "--store") pair && is_path pair.1) ≡ store → (is_named (codes "--batch") pair && is_some (number_of first_batch last_batch pair.1)) ≡ batch
+        → (is_named (codes "--checkpoint") pair && is_some (number_of no_checkpoint last_checkpoint pair.1)) ≡ checkpoint
+        → (store || (batch || (checkpoint || (is_named (codes "--start") pair && is_some (number_of first_start last_start pair.1))))) ≡ true → IsGiven pair
+    at true batch checkpoint is other another any =
         let parts = and_parts (is_named (codes "--store") pair) (is_path pair.1) is in
         given_as pair (codes "--store") store_option parts.0 (path_plain pair.1 parts.1)
-    at false true other is any =
-        let parts = and_parts (is_named (codes "--batch") pair) (is_some (number_of first_batch last_batch pair.1)) is in
-        given_as pair (codes "--batch") batch_option parts.0 (number_plain first_batch last_batch pair.1 parts.1)
-    at false false other another is =
-        let parts = and_parts (is_named (codes "--start") pair) (is_some (number_of first_start last_start pair.1)) is in
-        given_as pair (codes "--start") start_option parts.0 (number_plain first_start last_start pair.1 parts.1)
+    at false true checkpoint is other another any = numeric_given pair (codes "--batch") first_batch last_batch batch_option other
+    at false false true is other another any = numeric_given pair (codes "--checkpoint") no_checkpoint last_checkpoint checkpoint_option another
+    at false false false is other another last = numeric_given pair (codes "--start") first_start last_start start_option last
 
 -- options are the same where their names are
 pub same_names : (word other name another : Text) → IsOption word name → IsOption other another → bytes_eq word other ≡ bytes_eq name another

@@ -6,7 +6,7 @@ use Rattle.std.specs.List.{list_all, list_any}
 use Rattle.std.specs.declared.alloc.Global.{Global}
 use Rattle.std.proofs.lemmas.Bool.{false≢true}
 use Rattle.clap.specs.Words.{Text}
-use Rattle.command_line.specs.Options.{Pair, batch_of, have_distinct_names, is_named, is_option, options_of, pairs_of, start_of, value_named}
+use Rattle.command_line.specs.Options.{Pair, batch_of, checkpoint_of, have_distinct_names, is_named, is_option, options_of, pairs_of, start_of, value_named}
 use Rattle.command_line.specs.Walk.{value_in}
 use Rattle.command_line.specs.Words.{Replay, run_of}
 
@@ -121,14 +121,14 @@ values_of_options words = at (pairs_of words) (λ name. value_of_pairs name word
 
 -- the run of the values that are found among options is the run of the options
 pub run_found : (list : Text) (words : List Text) → is_some (options_of words) ≡ true
-    → Some (Replay list (value_in (codes "--store") words) (batch_of (value_in (codes "--batch") words)) (start_of (value_in (codes "--start") words)))
+    → Some (Replay list (value_in (codes "--store") words) (batch_of (value_in (codes "--batch") words)) (checkpoint_of (value_in (codes "--checkpoint") words)) (start_of (value_in (codes "--start") words)))
     ≡ option_map (run_of list) (options_of words)
 run_found list words = at (options_of words) (values_of_options words)
   where
     at : (options : Option (List Pair)) → IfSome options (λ os. (name : Text) → value_in name words ≡ value_named name os) → is_some options ≡ true
-        → Some (Replay list (value_in (codes "--store") words) (batch_of (value_in (codes "--batch") words)) (start_of (value_in (codes "--start") words)))
+        → Some (Replay list (value_in (codes "--store") words) (batch_of (value_in (codes "--batch") words)) (checkpoint_of (value_in (codes "--checkpoint") words)) (start_of (value_in (codes "--start") words)))
         ≡ option_map (run_of list) options
     at None found is = absurd (false≢true is)
     at (Some options) found is =
-        ap₂ (λ store batch. Some (Replay list store (batch_of batch) (start_of (value_in (codes "--start") words)))) (found (codes "--store")) (found (codes "--batch"))
-        ∙ ap (λ start. Some (Replay list (value_named (codes "--store") options) (batch_of (value_named (codes "--batch") options)) (start_of start))) (found (codes "--start"))
+        ap₂ (λ store batch. Some (Replay list store (batch_of batch) (checkpoint_of (value_in (codes "--checkpoint") words)) (start_of (value_in (codes "--start") words)))) (found (codes "--store")) (found (codes "--batch"))
+        ∙ ap₂ (λ checkpoint start. Some (Replay list (value_named (codes "--store") options) (batch_of (value_named (codes "--batch") options)) (checkpoint_of checkpoint) (start_of start))) (found (codes "--checkpoint")) (found (codes "--start"))

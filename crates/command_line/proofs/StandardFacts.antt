@@ -4,15 +4,15 @@ use Rattle.std.specs.Prelude.{codes}
 use Rattle.command_line.specs.Options.{have_distinct_names, number_of, pairs_of}
 use Rattle.command_line.specs.Words.{Dump, Help, IsInRange, ReadsList, Replay, command_of}
 
-alone : command_of (codes "replay" ∷ codes "l" ∷ []) ≡ Some (Replay (codes "l") None 1 1767225600)
+alone : command_of (codes "replay" ∷ codes "l" ∷ []) ≡ Some (Replay (codes "l") None 1 1000 1767225600)
 unfolding pairs_of have_distinct_names
 alone = refl
 
-stored : command_of (codes "replay" ∷ codes "l" ∷ codes "--store" ∷ codes "s" ∷ []) ≡ Some (Replay (codes "l") (Some (codes "s")) 1 1767225600)
+stored : command_of (codes "replay" ∷ codes "l" ∷ codes "--store" ∷ codes "s" ∷ []) ≡ Some (Replay (codes "l") (Some (codes "s")) 1 1000 1767225600)
 unfolding pairs_of have_distinct_names
 stored = refl
 
-all_options : command_of (codes "replay" ∷ codes "l" ∷ codes "--start" ∷ codes "5" ∷ codes "--batch" ∷ codes "256" ∷ codes "--store" ∷ codes "s" ∷ []) ≡ Some (Replay (codes "l") (Some (codes "s")) 256 5)
+all_options : command_of (codes "replay" ∷ codes "l" ∷ codes "--start" ∷ codes "5" ∷ codes "--checkpoint" ∷ codes "0" ∷ codes "--batch" ∷ codes "256" ∷ codes "--store" ∷ codes "s" ∷ []) ≡ Some (Replay (codes "l") (Some (codes "s")) 256 0 5)
 unfolding pairs_of have_distinct_names
 all_options = refl
 
@@ -36,7 +36,15 @@ empty_store : command_of (codes "replay" ∷ codes "l" ∷ codes "--store" ∷ [
 unfolding pairs_of have_distinct_names
 empty_store = refl
 
-other_option : command_of (codes "replay" ∷ codes "l" ∷ codes "--checkpoint" ∷ codes "5" ∷ []) ≡ None
+rare_checkpoints : command_of (codes "replay" ∷ codes "l" ∷ codes "--checkpoint" ∷ codes "1000000" ∷ []) ≡ Some (Replay (codes "l") None 1 1000000 1767225600)
+unfolding pairs_of have_distinct_names
+rare_checkpoints = refl
+
+too_rare_checkpoints : command_of (codes "replay" ∷ codes "l" ∷ codes "--checkpoint" ∷ codes "1000001" ∷ []) ≡ None
+unfolding pairs_of have_distinct_names
+too_rare_checkpoints = refl
+
+other_option : command_of (codes "replay" ∷ codes "l" ∷ codes "--stores" ∷ codes "5" ∷ []) ≡ None
 unfolding pairs_of have_distinct_names
 other_option = refl
 
@@ -86,16 +94,19 @@ first_of_two = refl
 before_the_first : number_of 1 2 (codes "00") ≡ None
 before_the_first = refl
 
-in_range : IsInRange (Replay (codes "l") None 256 253402300799)
-in_range = (omega arith, omega arith, omega arith)
+in_range : IsInRange (Replay (codes "l") None 256 1000000 253402300799)
+in_range = (omega arith, omega arith, omega arith, omega arith)
 
-begins_too_late : IsInRange (Replay (codes "l") None 1 253402300800) → ⊥
-begins_too_late is = omega (arith, is.2)
+begins_too_late : IsInRange (Replay (codes "l") None 1 0 253402300800) → ⊥
+begins_too_late is = omega (arith, is.3)
 
-batch_of_none : IsInRange (Replay (codes "l") None 0 0) → ⊥
+checkpoints_too_rare : IsInRange (Replay (codes "l") None 1 1000001 0) → ⊥
+checkpoints_too_rare is = omega (arith, is.2)
+
+batch_of_none : IsInRange (Replay (codes "l") None 0 0 0) → ⊥
 batch_of_none is = omega (arith, is.0)
 
-batch_too_long : IsInRange (Replay (codes "l") None 257 0) → ⊥
+batch_too_long : IsInRange (Replay (codes "l") None 257 0 0) → ⊥
 batch_too_long is = omega (arith, is.1)
 
 help_reads_no_list : ReadsList Help → ⊥

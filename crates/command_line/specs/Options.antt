@@ -78,6 +78,18 @@ last_batch = 256
 abbrev pub default_batch : ℕ
 default_batch = 1
 
+-- a checkpoint that is never made
+abbrev pub no_checkpoint : ℕ
+no_checkpoint = 0
+
+-- the most durable changes between two checkpoints
+abbrev pub last_checkpoint : ℕ
+last_checkpoint = 1000000
+
+-- after how many durable changes a checkpoint is made where no option says so
+abbrev pub default_checkpoint : ℕ
+default_checkpoint = 1000
+
 -- the first moment at which a clock may begin, 1970-01-01 00:00:00 UTC
 abbrev pub first_start : ℕ
 first_start = 0
@@ -94,7 +106,9 @@ default_start = 1767225600
 abbrev pub is_option : Pair → Bool
 is_option pair = (is_named (codes "--store") pair && is_path pair.1)
     || ((is_named (codes "--batch") pair && is_some (number_of first_batch last_batch pair.1))
-    || (is_named (codes "--start") pair && is_some (number_of first_start last_start pair.1)))
+    || ((is_named (codes "--checkpoint") pair
+    && is_some (number_of no_checkpoint last_checkpoint pair.1))
+    || (is_named (codes "--start") pair && is_some (number_of first_start last_start pair.1))))
 
 -- the options that the words are, each at most once
 abbrev pub options_of : List (List ℕ) → Option (List Pair)
@@ -105,6 +119,11 @@ options_of words = option_and_then (λ pairs.
 -- the lines of a batch that a value says
 abbrev pub batch_of : Option (List ℕ) → ℕ
 batch_of value = unwrap_or (option_and_then (number_of first_batch last_batch) value) default_batch
+
+-- the durable changes between two checkpoints that a value says
+abbrev pub checkpoint_of : Option (List ℕ) → ℕ
+checkpoint_of value =
+    unwrap_or (option_and_then (number_of no_checkpoint last_checkpoint) value) default_checkpoint
 
 -- the beginning of the clock that a value says
 abbrev pub start_of : Option (List ℕ) → ℕ

@@ -9,6 +9,6 @@ use Rattle.command_line.specs.declared.commands.Command.TheVariants.{Help, Repla
 -- a command
 abbrev pub plain_command : Command → PlainCommand
 plain_command Help = plain.Help
-plain_command (Replay list store batch start) =
-    plain.Replay list.now (option_map (λ path. path.now) store) batch start
+plain_command (Replay list store batch checkpoint start) =
+    plain.Replay list.now (option_map (λ path. path.now) store) batch checkpoint start
 plain_command (Dump list store) = plain.Dump list.now store.now

@@ -5,7 +5,7 @@ use Rattle.std.specs.Prelude.{option_and_then, bytes_eq, codes, if◌then◌else
 use Rattle.std.specs.Option.{option_eq}
 use Rattle.clap.specs.Words.{App, Row, Rule, Text, first_of, new_app, new_rule, with_rule}
 use Rattle.clap.specs.Words.{with_subcommand}
-use Rattle.command_line.specs.Options.{batch_of, start_of}
+use Rattle.command_line.specs.Options.{batch_of, checkpoint_of, start_of}
 use Rattle.command_line.specs.Words.{PlainCommand, Help, Replay, Dump}
 use Rattle.clap.specs.declared.builder.ArgAction.TheVariants.{Set}
 use Rattle.clap.specs.declared.builder.command.Command.{Command}
@@ -19,12 +19,17 @@ place_rule name = record (new_rule name) { required = true; action = Some Set }
 abbrev pub option_rule : Text → Rule
 option_rule name = record (new_rule name) { long = Some name; action = Some Set }
 
+-- a command with the options of a run that are numbers
+abbrev pub with_numbers : App → App
+with_numbers app = with_rule
+    (with_rule (with_rule app (option_rule (codes "batch"))) (option_rule (codes "checkpoint")))
+    (option_rule (codes "start"))
+
 -- a run of a script
 abbrev pub replay_app : App
-replay_app = with_rule
-    (with_rule
+replay_app = with_numbers
     (with_rule (with_rule (new_app (codes "replay")) (place_rule (codes "list")))
-    (option_rule (codes "store"))) (option_rule (codes "batch"))) (option_rule (codes "start"))
+    (option_rule (codes "store")))
 
 -- a dump of a store
 abbrev pub dump_app : App
@@ -59,11 +64,12 @@ found_in command name met = option_and_then
 -- what was found is this run or this dump
 abbrev pub is_found : PlainCommand → Option (Text × List Row) → Bool
 is_found Help met = false
-is_found (Replay list store batch start) met =
+is_found (Replay list store batch checkpoint start) met =
     option_eq bytes_eq (found_in (codes "replay") (codes "list") met) (Some list)
     && (option_eq bytes_eq (found_in (codes "replay") (codes "store") met) store
     && ((batch_of (found_in (codes "replay") (codes "batch") met) == batch)
-    && (start_of (found_in (codes "replay") (codes "start") met) == start)))
+    && ((checkpoint_of (found_in (codes "replay") (codes "checkpoint") met) == checkpoint)
+    && (start_of (found_in (codes "replay") (codes "start") met) == start))))
 is_found (Dump list store) met =
     option_eq bytes_eq (found_in (codes "dump") (codes "list") met) (Some list)
     && option_eq bytes_eq (found_in (codes "dump") (codes "store") met) (Some store)

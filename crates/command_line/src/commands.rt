@@ -5,7 +5,7 @@ ghost use Rattle.command_line.specs.Plain.{plain_command};
 ghost use Rattle.command_line.specs.Words as spec;
 
 use crate::matches::confirms;
-use crate::options::{are_options, batch_of, start_of, value_named};
+use crate::options::{are_options, batch_of, checkpoint_of, start_of, value_named};
 use crate::paths::is_path;
 use agent_base::NoMemory;
 use std::alloc::Global;
@@ -23,6 +23,8 @@ pub enum Command<'a> {
         store: Option<&'a str>,
         /// How many lines make a batch, whose replies wait until its changes are in the store.
         batch: u16,
+        /// After how many durable changes a checkpoint is made; 0 is never.
+        checkpoint: u32,
         /// Where the clock begins, in seconds since 1970.
         start: u64,
     },
@@ -98,6 +100,7 @@ fn replay<'a>(list: &'a str, rest: &'a [String]) -> Option<Command<'a>>
         list,
         store: value_named(rest, "--store"),
         batch: batch_of(value_named(rest, "--batch")),
+        checkpoint: checkpoint_of(value_named(rest, "--checkpoint")),
         start: start_of(value_named(rest, "--start")),
     })
 }

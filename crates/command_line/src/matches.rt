@@ -5,13 +5,13 @@ ghost use Rattle.std.specs.Option.{option_eq};
 ghost use Rattle.clap.specs.Words.{app_of, kind_of, rule_of, subcommand_of, subcommand_rows_of};
 ghost use Rattle.clap.specs.Words.{takes};
 ghost use Rattle.command_line.specs.Program.{dump_app, found_in, has_globals, option_rule};
-ghost use Rattle.command_line.specs.Program.{place_rule, program_app, replay_app};
+ghost use Rattle.command_line.specs.Program.{place_rule, program_app, replay_app, with_numbers};
 ghost use Rattle.command_line.specs.Program as spec;
 ghost use Rattle.command_line.specs.Plain.{plain_command};
 ghost use Rattle.command_line.specs.Words.{ReadsList, command_of};
 
 use crate::commands::Command;
-use crate::options::{batch_of, start_of};
+use crate::options::{batch_of, checkpoint_of, start_of};
 use clap::error::ErrorKind;
 use clap::{Arg, ArgAction, ArgMatches, Error};
 use std::alloc::{AllocError, Global};
@@ -55,11 +55,13 @@ fn is_found(matches: &ArgMatches<'_>, command: Command<'_>) -> bool
             list,
             store,
             batch,
+            checkpoint,
             start,
         } => {
             is_same(value_of(matches, "replay", "list"), Some(list))
                 && is_same(value_of(matches, "replay", "store"), store)
                 && batch_of(value_of(matches, "replay", "batch")) == batch
+                && checkpoint_of(value_of(matches, "replay", "checkpoint")) == checkpoint
                 && start_of(value_of(matches, "replay", "start")) == start
         }
         Command::Dump { list, store } => {
@@ -116,10 +118,23 @@ fn replay<'a>(alloc: Global) -> Result<clap::Command<'a>, AllocError>
     ensures shape { IfOk result (λ command. app_of command ≡ replay_app) }
     ensures own { IfOk result (λ command. has_globals command ≡ false) }
 {
-    clap::Command::new(alloc, "replay")
+    let command = clap::Command::new(alloc, "replay")
         .arg(place(alloc, "list"))?
-        .arg(option(alloc, "store"))?
+        .arg(option(alloc, "store"))?;
+    with_numbers(alloc, command)
+}
+
+// The command with the options of a run that are numbers.
+fn with_numbers<'a>(
+    alloc: Global,
+    command: clap::Command<'a>,
+) -> Result<clap::Command<'a>, AllocError>
+    ensures shape { IfOk result (λ more. app_of more ≡ with_numbers (app_of command.entry)) }
+    ensures own { IfOk result (λ more. has_globals more ≡ has_globals command.entry) }
+{
+    command
         .arg(option(alloc, "batch"))?
+        .arg(option(alloc, "checkpoint"))?
         .arg(option(alloc, "start"))
 }
 

@@ -15,6 +15,15 @@ const LAST_BATCH: u64 = 256;
 /// How many lines a batch has where no option says so.
 const DEFAULT_BATCH: u16 = 1;
 
+/// The option of a checkpoint that is never made.
+const NO_CHECKPOINT: u64 = 0;
+
+/// The most durable changes between two checkpoints.
+const LAST_CHECKPOINT: u64 = 1_000_000;
+
+/// After how many durable changes a checkpoint is made where no option says so.
+const DEFAULT_CHECKPOINT: u32 = 1_000;
+
 /// The first moment at which a clock may begin: 1970-01-01 00:00:00 UTC.
 const FIRST_START: u64 = 0;
 
@@ -74,6 +83,7 @@ fn is_option(name: &str, value: &str) -> bool
 {
     (name == "--store" && is_path(value))
         || (name == "--batch" && batch(value).is_some())
+        || (name == "--checkpoint" && checkpoint(value).is_some())
         || (name == "--start" && start(value).is_some())
 }
 
@@ -82,6 +92,13 @@ pub fn batch_of(value: Option<&str>) -> u16
     ensures { result ≡ spec.batch_of (option_map (λ text. text.now) value.entry) }
 {
     value.and_then(batch).unwrap_or(DEFAULT_BATCH)
+}
+
+/// The durable changes between two checkpoints that a value says.
+pub fn checkpoint_of(value: Option<&str>) -> u32
+    ensures { result ≡ spec.checkpoint_of (option_map (λ text. text.now) value.entry) }
+{
+    value.and_then(checkpoint).unwrap_or(DEFAULT_CHECKPOINT)
 }
 
 /// The beginning of the clock that a value says.
@@ -96,6 +113,15 @@ fn batch(text: &str) -> Option<u16>
 {
     match number(text, FIRST_BATCH, LAST_BATCH) {
         Some(n) => Some(n as u16),
+        None => None,
+    }
+}
+
+fn checkpoint(text: &str) -> Option<u32>
+    ensures { result ≡ spec.number_of spec.no_checkpoint spec.last_checkpoint text.now }
+{
+    match number(text, NO_CHECKPOINT, LAST_CHECKPOINT) {
+        Some(n) => Some(n as u32),
         None => None,
     }
 }

@@ -99,16 +99,16 @@ module _ (told : Option (List ℕ)) (fine : IfSome told (λ bytes. IsOk (list_of
   store_read_cause path Memory stores counts = tt
 
 -- the store of a path
-pub replay_device : (list store : List ℕ) (batch start : ℕ) (tells : Bool) (stores : BeforeAfter ℕ) (status : Status) → (tells ≡ true → StoreCounts status stores) → DeviceCounts (Some (Replay list (Some store) batch start)) tells status stores
-replay_device list store batch start tells stores Done rose = tt
-replay_device list store batch start tells stores Usage rose = tt
-replay_device list store batch start tells stores (Script why) rose = tt
-replay_device list store batch start tells stores (ListStatus why) rose = tt
-replay_device list store batch start tells stores (Store why) rose = tt
-replay_device list store batch start tells stores Read rose = tt
-replay_device list store batch start tells stores Write rose = tt
-replay_device list store batch start tells stores Device rose = rose
-replay_device list store batch start tells stores Memory rose = tt
+pub replay_device : (list store : List ℕ) (batch checkpoint start : ℕ) (tells : Bool) (stores : BeforeAfter ℕ) (status : Status) → (tells ≡ true → StoreCounts status stores) → DeviceCounts (Some (Replay list (Some store) batch checkpoint start)) tells status stores
+replay_device list store batch checkpoint start tells stores Done rose = tt
+replay_device list store batch checkpoint start tells stores Usage rose = tt
+replay_device list store batch checkpoint start tells stores (Script why) rose = tt
+replay_device list store batch checkpoint start tells stores (ListStatus why) rose = tt
+replay_device list store batch checkpoint start tells stores (Store why) rose = tt
+replay_device list store batch checkpoint start tells stores Read rose = tt
+replay_device list store batch checkpoint start tells stores Write rose = tt
+replay_device list store batch checkpoint start tells stores Device rose = rose
+replay_device list store batch checkpoint start tells stores Memory rose = tt
 
 pub dump_device : (list store : List ℕ) (tells : Bool) (stores : BeforeAfter ℕ) (status : Status) → StoreCounts status stores → DeviceCounts (Some (Dump list store)) tells status stores
 dump_device list store tells stores Done rose = tt
@@ -123,11 +123,11 @@ dump_device list store tells stores Memory rose = tt
 
 -- ---- what the host told before the list was read
 
-module _ (start batch : ℕ) (taken : BeforeAfter (Option (List ℕ))) (counts : BeforeAfter ℕ) (old mid after : Images) (same : SameImages old mid) where
-  pub ran_before : (e : Ending) (list : RuleList) (steps : List _) → RanOverStore start batch taken counts mid after e list steps → RanOverStore start batch taken counts old after e list steps
-  ran_before e list steps ran = record { file = ran.file; found = same.no_more ran.file ran.found; wrote = ran.wrote; refused = ran.refused }
+module _ (start batch checkpoint : ℕ) (taken : BeforeAfter (Option (List ℕ))) (counts : BeforeAfter ℕ) (old mid after : Images) (same : SameImages old mid) where
+  pub ran_before : (e : Ending) (list : RuleList) (steps : List _) → RanOverStore start batch checkpoint taken counts mid after e list steps → RanOverStore start batch checkpoint taken counts old after e list steps
+  ran_before e list steps ran = record { file = ran.file; found = same.no_more ran.file ran.found; wrote = ran.wrote; refused = ran.refused; tidy = ran.tidy }
 
-  pub stored_before : (tells told : Bool) → told ≡ tells → (e : Ending) (list : RuleList) (script : PlainScript) → RanStored start batch taken counts told mid after e list script → RanStored start batch taken counts tells old after e list script
+  pub stored_before : (tells told : Bool) → told ≡ tells → (e : Ending) (list : RuleList) (script : PlainScript) → RanStored start batch checkpoint taken counts told mid after e list script → RanStored start batch checkpoint taken counts tells old after e list script
   stored_before tells told is e list script ran tell = ran_before e list _ (ran (is ∙ tell))
 
 pub others_before : (path : List ℕ) (old mid new : List ℕ → Images) → LeavesStores old mid → LeavesOtherStores path mid new → LeavesOtherStores path old new

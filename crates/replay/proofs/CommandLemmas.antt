@@ -30,9 +30,9 @@ module _ {HostStays ScriptStays : Type 0} (lists : List ℕ → Option (List ℕ
       (from_to counts counts) (from_to reads reads) (from_to script script) (from_to out out) (from_to lists_out lists_out) None HostStays ScriptStays
   obeys_memory None taken out some is = absurd (false≢true some)
   obeys_memory (Some Help) taken out some is = absurd is
-  obeys_memory (Some (Replay list None batch start)) taken out some is = record {
+  obeys_memory (Some (Replay list None batch checkpoint start)) taken out some is = record {
     text = inl (takes_none taken);
-    usage = no_usage Memory (Replay list None batch start) tt;
+    usage = no_usage Memory (Replay list None batch checkpoint start) tt;
     ends = tt;
     refused = tt;
     list = tt;
@@ -46,9 +46,9 @@ module _ {HostStays ScriptStays : Type 0} (lists : List ℕ → Option (List ℕ
     store_closed = refl;
     others = same_stores stores;
   }
-  obeys_memory (Some (Replay list (Some path) batch start)) taken out some is = record {
+  obeys_memory (Some (Replay list (Some path) batch checkpoint start)) taken out some is = record {
     text = inl (takes_none taken);
-    usage = no_usage Memory (Replay list (Some path) batch start) tt;
+    usage = no_usage Memory (Replay list (Some path) batch checkpoint start) tt;
     ends = tt;
     refused = tt;
     list = tt;

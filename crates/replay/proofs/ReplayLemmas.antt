@@ -29,29 +29,29 @@ later_usage Device later = tt
 later_usage Memory later = tt
 
 -- and the script was read
-later_script : (list : List ℕ) (store : Option (List ℕ)) (batch start : ℕ) (status : Status) → IsAfterList status → ReadsNoScript (Some (Replay list store batch start)) status → ⊥
-later_script list store batch start Done later is = is
-later_script list store batch start Usage later is = is
-later_script list store batch start (Script why) later is = is
-later_script list store batch start (ListStatus why) later is = later
-later_script list store batch start (Store why) later is = is
-later_script list store batch start Read later is = is
-later_script list store batch start Write later is = is
-later_script list store batch start Device later is = is
-later_script list store batch start Memory later is = is
+later_script : (list : List ℕ) (store : Option (List ℕ)) (batch checkpoint start : ℕ) (status : Status) → IsAfterList status → ReadsNoScript (Some (Replay list store batch checkpoint start)) status → ⊥
+later_script list store batch checkpoint start Done later is = is
+later_script list store batch checkpoint start Usage later is = is
+later_script list store batch checkpoint start (Script why) later is = is
+later_script list store batch checkpoint start (ListStatus why) later is = later
+later_script list store batch checkpoint start (Store why) later is = is
+later_script list store batch checkpoint start Read later is = is
+later_script list store batch checkpoint start Write later is = is
+later_script list store batch checkpoint start Device later is = is
+later_script list store batch checkpoint start Memory later is = is
 
-module _ {HostStays ScriptStays : Type 0} (lists : List ℕ → Option (List ℕ)) (path : List ℕ) (start batch : ℕ) (status : Status) (tells : Bool) (old mid new : List ℕ → Images)
+module _ {HostStays ScriptStays : Type 0} (lists : List ℕ → Option (List ℕ)) (path : List ℕ) (start batch checkpoint : ℕ) (status : Status) (tells : Bool) (old mid new : List ℕ → Images)
     (left taken : BeforeAfter (Option (List ℕ))) (host counts reads script out lists_out : BeforeAfter ℕ) where
   -- the script ran over a new store in memory, and the host was left as it was when the list was read
   pub obeys_new : (list : RuleList) → IsListOf (lists path) list → LeavesStores old mid → host.after ≡ host.before → counts.after ≡ counts.before → lists_out.after ≡ lists_out.before → (store_out : Option (List ℕ)) → store_out ≡ None
-      → Written status taken (λ e. (read : ScriptRead true left) × RanInMemory start batch taken e list read.script)
+      → Written status taken (λ e. (read : ScriptRead true left) × RanInMemory start batch checkpoint taken e list read.script)
       → ScriptCanEnd None status → IsAfterList status → ScriptCauseOf true status left.before → ScriptCounts status script → WriteCounts status out
-      → Obeys (Some (Replay path None batch start)) status lists tells old mid left taken host counts reads script out lists_out store_out HostStays ScriptStays
+      → Obeys (Some (Replay path None batch checkpoint start)) status lists tells old mid left taken host counts reads script out lists_out store_out HostStays ScriptStays
   obeys_new list read stores still none closed store_out store_closed text ends later cause script_counts write =
       let fine = list_fine (lists path) list read in
       record {
-        text = writes_under status true (lists path) left taken list (RanInMemory start batch taken) read text;
-        usage = no_usage status (Replay path None batch start) (later_usage status later);
+        text = writes_under status true (lists path) left taken list (RanInMemory start batch checkpoint taken) read text;
+        usage = no_usage status (Replay path None batch checkpoint start) (later_usage status later);
         ends = ends;
         refused = cause;
         list = later_list status (lists path) later fine;
@@ -60,7 +60,7 @@ module _ {HostStays ScriptStays : Type 0} (lists : List ℕ → Option (List ℕ
         device = tt;
         write = write;
         untouched = λ never. absurd never;
-        unread = λ is. absurd (later_script path None batch start status later is);
+        unread = λ is. absurd (later_script path None batch checkpoint start status later is);
         closed = closed;
         store_closed = store_closed;
         others = stores;
@@ -68,27 +68,27 @@ module _ {HostStays ScriptStays : Type 0} (lists : List ℕ → Option (List ℕ
 
   -- the script ran over the store of a path
   pub obeys_stored : (store : List ℕ) (list : RuleList) (told : Bool) → IsListOf (lists path) list → LeavesStores old mid → told ≡ tells → lists_out.after ≡ lists_out.before → (store_out : Option (List ℕ)) → store_out ≡ None
-      → Written status taken (λ e. (read : ScriptRead false left) × RanStored start batch taken counts told (mid store) (new store) e list read.script)
+      → Written status taken (λ e. (read : ScriptRead false left) × RanStored start batch checkpoint taken counts told (mid store) (new store) e list read.script)
       → ScriptCanEnd (Some store) status → IsAfterList status → ScriptCauseOf false status left.before → ReadCounts status host counts script → (told ≡ true → StoreCounts status counts) → WriteCounts status out → LeavesOtherStores store mid new
-      → Obeys (Some (Replay path (Some store) batch start)) status lists tells old new left taken host counts reads script out lists_out store_out HostStays ScriptStays
+      → Obeys (Some (Replay path (Some store) batch checkpoint start)) status lists tells old new left taken host counts reads script out lists_out store_out HostStays ScriptStays
   obeys_stored store list told read stores is closed store_out store_closed text ends later cause read_counts device write others =
       let fine = list_fine (lists path) list read in
       let same = stores store in
       record {
-        text = writes_under status false (lists path) left taken list (RanStored start batch taken counts tells (old store) (new store)) read
-            (written_weaker status taken (λ e. (read : ScriptRead false left) × RanStored start batch taken counts told (mid store) (new store) e list read.script)
-            (λ e. (read : ScriptRead false left) × RanStored start batch taken counts tells (old store) (new store) e list read.script)
-            (λ e ran. (ran.0, stored_before start batch taken counts (old store) (mid store) (new store) same tells told is e list ran.0.script ran.1)) text);
-        usage = no_usage status (Replay path (Some store) batch start) (later_usage status later);
+        text = writes_under status false (lists path) left taken list (RanStored start batch checkpoint taken counts tells (old store) (new store)) read
+            (written_weaker status taken (λ e. (read : ScriptRead false left) × RanStored start batch checkpoint taken counts told (mid store) (new store) e list read.script)
+            (λ e. (read : ScriptRead false left) × RanStored start batch checkpoint taken counts tells (old store) (new store) e list read.script)
+            (λ e ran. (ran.0, stored_before start batch checkpoint taken counts (old store) (mid store) (new store) same tells told is e list ran.0.script ran.1)) text);
+        usage = no_usage status (Replay path (Some store) batch checkpoint start) (later_usage status later);
         ends = ends;
         refused = cause;
         list = later_list status (lists path) later fine;
         read = read_counts;
         read_told = store_read_cause (lists path) fine host reads script store status counts read_counts;
-        device = replay_device path store batch start tells counts status (λ tell. device (is ∙ tell));
+        device = replay_device path store batch checkpoint start tells counts status (λ tell. device (is ∙ tell));
         write = write;
         untouched = λ never. absurd never;
-        unread = λ is. absurd (later_script path (Some store) batch start status later is);
+        unread = λ is. absurd (later_script path (Some store) batch checkpoint start status later is);
         closed = closed;
         store_closed = store_closed;
         others = others_before store old mid new stores others;

@@ -33,11 +33,11 @@ pub steps_read : (script : PlainScript) (cuts : List Cut) (lines : List Line) �
 steps_read script cuts lines is = ap steps_in is ∙ steps_are lines
 
 -- lines that ran over a new store in memory are those of the script
-pub memory_ran : (start batch : ℕ) (taken : BeforeAfter (Option (List ℕ))) (e : Ending) (list : RuleList) (script : PlainScript) (cuts : List Cut) (lines : List Line)
-    → script ≡ record { cuts = cuts; lines = map line_of lines } → WritesInMemory e list.rules start batch cuts (steps_of lines) taken.before taken.after → RanInMemory start batch taken e list script
-memory_ran start batch taken e list script cuts lines is wrote =
-    subst (λ s. RanInMemory start batch taken e list s) (sym is)
-    (subst (λ steps. WritesInMemory e list.rules start batch cuts steps taken.before taken.after) (sym (steps_are lines)) wrote)
+pub memory_ran : (start batch checkpoint : ℕ) (taken : BeforeAfter (Option (List ℕ))) (e : Ending) (list : RuleList) (script : PlainScript) (cuts : List Cut) (lines : List Line)
+    → script ≡ record { cuts = cuts; lines = map line_of lines } → WritesInMemory e list.rules start batch checkpoint cuts (steps_of lines) taken.before taken.after → RanInMemory start batch checkpoint taken e list script
+memory_ran start batch checkpoint taken e list script cuts lines is wrote =
+    subst (λ s. RanInMemory start batch checkpoint taken e list s) (sym is)
+    (subst (λ steps. WritesInMemory e list.rules start batch checkpoint cuts steps taken.before taken.after) (sym (steps_are lines)) wrote)
 
 -- a list that was read in full is the one that was told
 pub list_is : (told left rest : Option (List ℕ)) (bytes : List ℕ) → HasLeft told left → Gives left rest bytes → IfSome rest (λ more. more ≡ []) → HasLeft told (Some bytes)
@@ -55,10 +55,10 @@ count_rises : (n faults before after : ℕ) → RoseBy n 0 faults → after ≡ 
 count_rises n faults before after rose is = omega (arith, rose, is)
 
 -- what was written and left of the store of a path, whose file this was
-pub store_writes : (e : Ending) (list : RuleList) (start batch : ℕ) (file : List ℕ) (old new : View) (steps : List PlainStep) (taken : BeforeAfter (Option (List ℕ))) (counts : BeforeAfter ℕ) (after : Images) → old.contents ≡ Some file → IsSettled old → old.faults ≡ 0
-    → counts.after ≡ raised new.faults counts.before → SameImages new.may_leave after → WritesOn e list start batch old steps taken.before taken.after new
-    → Unopened list file e taken after ⊎ ((base : Saved) × IsMeantBy list file base × WritesLines e list.rules batch (opened_at start base) ⊥ steps taken.before taken.after (LeavesStore e list batch (opened_at start base) counts after))
-store_writes e list start batch file old new steps taken counts after held settled fresh count same wrote = ⊎_elim
+pub store_writes : (e : Ending) (list : RuleList) (start batch checkpoint : ℕ) (file : List ℕ) (old new : View) (steps : List PlainStep) (taken : BeforeAfter (Option (List ℕ))) (counts : BeforeAfter ℕ) (after : Images) → old.contents ≡ Some file → IsSettled old → old.faults ≡ 0
+    → counts.after ≡ raised new.faults counts.before → SameImages new.may_leave after → WritesOn e list start batch checkpoint old steps taken.before taken.after new
+    → Unopened list file e taken after ⊎ ((base : Saved) × IsMeantBy list file base × WritesLines e list.rules batch checkpoint (opened_at start base) ⊥ steps taken.before taken.after (LeavesStore e list batch (opened_at start base) counts after))
+store_writes e list start batch checkpoint file old new steps taken counts after held settled fresh count same wrote = ⊎_elim
     (λ unopened. inl (record {
       why = unopened.0;
       ends = unopened.1;
@@ -71,7 +71,7 @@ store_writes e list start batch file old new steps taken counts after held settl
     inr (
       ran.0,
       record { valid = ran.1; meant = λ d n means. ran.2 file d n held means },
-      writes_other list.rules batch x ⊥ (HasNoCuts old) (LeavesDisk e list batch x old new) (LeavesStore e list batch x counts after) (λ never. absurd never)
+      writes_other list.rules batch checkpoint x ⊥ (HasNoCuts old) (LeavesDisk e list batch x old new) (LeavesStore e list batch x counts after) (λ never. absurd never)
           (λ history left. (
             (λ image is. left.0 image (same.no_more image is)),
             count_rises (faults_of e history) new.faults counts.before counts.after (subst (λ n. RoseBy (faults_of e history) n new.faults) fresh left.1) count,

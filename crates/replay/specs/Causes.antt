@@ -44,7 +44,7 @@ ScriptCauseOf cuts_allowed status told = Unit {0}
 
 -- the same of a command; others than runs of scripts read none
 abbrev pub ScriptCause : Option PlainCommand → Status → Option (List ℕ) → Type 0
-ScriptCause (Some (Replay list store batch start)) status told =
+ScriptCause (Some (Replay list store batch checkpoint start)) status told =
     ScriptCauseOf (allows_cuts store) status told
 ScriptCause command status told = Unit {0}
 
@@ -82,7 +82,7 @@ WriteCounts status out = out.after ≡ out.before
 -- run of a script this is told where the host tells what stores hold.
 abbrev pub DeviceCounts : Option PlainCommand → (tells : Bool) → Status → (stores : BeforeAfter ℕ)
     → Type 0
-DeviceCounts (Some (Replay list (Some store) batch start)) tells Device stores =
+DeviceCounts (Some (Replay list (Some store) batch checkpoint start)) tells Device stores =
     tells ≡ true → Rose stores.before stores.after
 DeviceCounts (Some (Dump list store)) tells Device stores = Rose stores.before stores.after
 DeviceCounts command tells status stores = Unit {0}
@@ -105,14 +105,14 @@ ReadCause store status told host reads script = Unit {0}
 
 -- the words name no list
 abbrev pub OpensNoList : Option PlainCommand → Type 0
-OpensNoList (Some (Replay list store batch start)) = ⊥
+OpensNoList (Some (Replay list store batch checkpoint start)) = ⊥
 OpensNoList (Some (Dump list store)) = ⊥
 OpensNoList command = Unit {0}
 
 -- the words name no script, or the list is refused: the script is not read
 abbrev pub ReadsNoScript : Option PlainCommand → Status → Type 0
-ReadsNoScript (Some (Replay list store batch start)) (ListStatus why) = Unit {0}
-ReadsNoScript (Some (Replay list store batch start)) status = ⊥
+ReadsNoScript (Some (Replay list store batch checkpoint start)) (ListStatus why) = Unit {0}
+ReadsNoScript (Some (Replay list store batch checkpoint start)) status = ⊥
 ReadsNoScript command status = Unit {0}
 
 -- ---- standard error

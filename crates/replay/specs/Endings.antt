@@ -5,7 +5,7 @@ use Rattle.std.specs.Prelude.{List, ℕ, Option, Some, None}
 use Rattle.journal.specs.Opening.{IsOfFile}
 use Rattle.suffix_list.specs.declared.fault.ListFault.{ListFault}
 use Rattle.suffix_list.specs.declared.fault.ListFault.TheVariants as list
-use Rattle.script_lines.specs.Script.{PlainFault, ReadFault, NoMemory}
+use Rattle.script_lines.specs.Script.{PlainFault, ReadFault, NoDivider, NoMemory}
 use Rattle.script_lines.specs.Plain.{fault_of}
 use Rattle.command_line.specs.Words.{PlainCommand, Help, Replay, Dump}
 use Rattle.replay.specs.declared.status.Status.{Status}
@@ -18,9 +18,10 @@ IsOfList list.ReadFault = ⊥
 IsOfList list.NoMemory = ⊥
 IsOfList why = Unit {0}
 
--- a fault of a script's bytes
+-- a fault of the bytes of one script
 abbrev pub IsOfScript : PlainFault → Type 0
 IsOfScript ReadFault = ⊥
+IsOfScript NoDivider = ⊥
 IsOfScript NoMemory = ⊥
 IsOfScript why = Unit {0}
 
@@ -43,7 +44,7 @@ DumpCanEnd status = Unit {0}
 
 -- the statuses with which a command can end
 abbrev pub CanEnd : Option PlainCommand → Status → Type 0
-CanEnd (Some (Replay list store batch start)) status = ScriptCanEnd store status
+CanEnd (Some (Replay list store batch checkpoint start)) status = ScriptCanEnd store status
 CanEnd (Some (Dump list store)) status = DumpCanEnd status
 CanEnd (Some Help) Done = Unit {0}
 CanEnd (Some Help) Write = Unit {0}

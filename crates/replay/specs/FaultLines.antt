@@ -8,7 +8,7 @@ use Rattle.suffix_list.specs.declared.fault.ListFault.{ListFault}
 use Rattle.suffix_list.specs.declared.fault.ListFault.TheVariants as list
 use Rattle.script_lines.specs.Plain.{fault_of}
 use Rattle.script_lines.specs.Script.{PlainFault, NotJson, UnknownAction, BadField, LineTooLong}
-use Rattle.script_lines.specs.Script.{TooLong, NotUtf8, ReadFault, BadHeader, NoMemory}
+use Rattle.script_lines.specs.Script.{TooLong, NotUtf8, ReadFault, BadHeader, NoDivider, NoMemory}
 use Rattle.replay.specs.declared.status.Status.{Status}
 use Rattle.replay.specs.declared.status.Status.TheVariants.{Done, Usage, Script, List as ListStatus}
 use Rattle.replay.specs.declared.status.Status.TheVariants.{Store, Read, Write, Device, Memory}
@@ -25,7 +25,8 @@ list_fault_line list.ReadFault = codes "read fault" ++ 10 ∷ []
 list_fault_line list.NoMemory = codes "no memory" ++ 10 ∷ []
 
 -- the line of a script's fault, which names the line and the member. No run ends with a script's
--- `ReadFault` or `NoMemory`: these are the statuses `Read` and `Memory`, whose lines they have.
+-- `ReadFault` or `NoMemory`: these are the statuses `Read` and `Memory`, whose lines they have. A
+-- run of one script does not end with `NoDivider`, which is a fault of an input of two.
 abbrev pub script_fault_line : PlainFault → List ℕ
 script_fault_line (NotJson number) =
     codes "script line " ++ (decimal number ++ (codes ": not json" ++ 10 ∷ []))
@@ -40,6 +41,7 @@ script_fault_line (NotUtf8 number) =
 script_fault_line (BadHeader number) =
     codes "script line " ++ (decimal number ++ (codes ": bad header" ++ 10 ∷ []))
 script_fault_line TooLong = codes "script: too long" ++ 10 ∷ []
+script_fault_line NoDivider = codes "script: no divider" ++ 10 ∷ []
 script_fault_line ReadFault = codes "read fault" ++ 10 ∷ []
 script_fault_line NoMemory = codes "no memory" ++ 10 ∷ []
 

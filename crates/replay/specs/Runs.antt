@@ -65,10 +65,10 @@ WritesScript status cuts_allowed told left taken Ran =
     Written status taken (λ ended. ReadAndRan cuts_allowed told left (Ran ended))
 
 -- the lines ran over a new store in memory, whose power is cut as the script says
-abbrev pub RanInMemory : (start batch : ℕ) → (taken : BeforeAfter (Option (List ℕ)))
+abbrev pub RanInMemory : (start batch checkpoint : ℕ) → (taken : BeforeAfter (Option (List ℕ)))
     → Ending → RuleList → PlainScript → Type 0
-RanInMemory start batch taken ending list script =
-    WritesInMemory ending list.rules start batch script.cuts (steps_in script)
+RanInMemory start batch checkpoint taken ending list script =
+    WritesInMemory ending list.rules start batch checkpoint script.cuts (steps_in script)
     taken.before taken.after
 
 -- ---- the usage line

@@ -15,6 +15,7 @@ use Rattle.row_store.specs.Bodies as bodies
 use Rattle.store_dumps.specs.Dump.{dump_text}
 use Rattle.store_runs.specs.Faults.{RoseBy, faults_of}
 use Rattle.store_runs.specs.Runs.{LeavesHistory, WritesLines}
+use Rattle.store_runs.specs.Tidy.{LeavesTidy}
 use Rattle.store_runs.specs.declared.ending.Ending.{Ending}
 use Rattle.store_runs.specs.declared.ending.Ending.TheVariants as ending
 use Rattle.hosts.specs.Hosts.{LeavesOtherStores, LeavesStores}
@@ -44,8 +45,9 @@ LeavesStore ended list batch opening counts after history =
 -- Lines ran over the store of a path. It held this file, which is one of the images that the host
 -- told of it before. The store was not opened; or a history of the lines went on from the state
 -- that the file stands for, and left this of the store. Where the file is no store of the list,
--- that is what ends the run, but for want of memory and a failed call of the disk.
-pub record RanOverStore (start batch : ℕ) (taken : BeforeAfter (Option (List ℕ)))
+-- that is what ends the run, but for want of memory and a failed call of the disk. A run that is
+-- done leaves a store for which no checkpoint is due.
+pub record RanOverStore (start batch checkpoint : ℕ) (taken : BeforeAfter (Option (List ℕ)))
     (counts : BeforeAfter ℕ) (before after : Images) (ended : Ending) (list : RuleList)
     (steps : List PlainStep) : Type 0 where
   pub file : List ℕ
@@ -53,24 +55,25 @@ pub record RanOverStore (start batch : ℕ) (taken : BeforeAfter (Option (List �
   pub wrote :
       Unopened list file ended taken after
       ⊎ ((base : Saved) × IsMeantBy list file base
-      × WritesLines ended list.rules batch (opened_at start base) ⊥ steps taken.before taken.after
-      (LeavesStore ended list batch (opened_at start base) counts after))
+      × WritesLines ended list.rules batch checkpoint (opened_at start base) ⊥ steps taken.before
+      taken.after (LeavesStore ended list batch (opened_at start base) counts after))
   pub refused : (why : OpenFault) → IsOfFile why → IsRefused list file why
       → (ended ≡ ending.Store why) ⊎ IsExcusedEnding ended
+  pub tidy : ended ≡ ending.Done → LeavesTidy checkpoint list.digest after
 
 -- the same where the host tells what stores hold
-abbrev pub RanLines : (start batch : ℕ) → (taken : BeforeAfter (Option (List ℕ)))
+abbrev pub RanLines : (start batch checkpoint : ℕ) → (taken : BeforeAfter (Option (List ℕ)))
     → (counts : BeforeAfter ℕ) → Bool → (before after : Images) → Ending → RuleList
     → List PlainStep → Type 0
-RanLines start batch taken counts tells before after ended list steps =
-    tells ≡ true → RanOverStore start batch taken counts before after ended list steps
+RanLines start batch checkpoint taken counts tells before after ended list steps =
+    tells ≡ true → RanOverStore start batch checkpoint taken counts before after ended list steps
 
 -- the lines of a script ran over the store of a path
-abbrev pub RanStored : (start batch : ℕ) → (taken : BeforeAfter (Option (List ℕ)))
+abbrev pub RanStored : (start batch checkpoint : ℕ) → (taken : BeforeAfter (Option (List ℕ)))
     → (counts : BeforeAfter ℕ) → Bool → (before after : Images) → Ending → RuleList → PlainScript
     → Type 0
-RanStored start batch taken counts tells before after ended list script =
-    RanLines start batch taken counts tells before after ended list (steps_in script)
+RanStored start batch checkpoint taken counts tells before after ended list script =
+    RanLines start batch checkpoint taken counts tells before after ended list (steps_in script)
 
 -- ---- a dump
 
@@ -120,12 +123,14 @@ LeavesAllBut (Some path) before after = LeavesOtherStores path before after
 abbrev pub Writes : Option PlainCommand → Status → (lists : List ℕ → Option (List ℕ))
     → (tells : Bool) → (before after : List ℕ → Images) → (counts : BeforeAfter ℕ)
     → (left taken : BeforeAfter (Option (List ℕ))) → Type 0
-Writes (Some (Replay list None batch start)) status lists tells before after counts left taken =
-    WritesScript status true (lists list) left taken (RanInMemory start batch taken)
 Writes (Some
-    (Replay list (Some store) batch start)) status lists tells before after counts left taken =
+    (Replay list None batch checkpoint start)) status lists tells before after counts left taken =
+    WritesScript status true (lists list) left taken (RanInMemory start batch checkpoint taken)
+Writes (Some
+    (Replay list
+    (Some store) batch checkpoint start)) status lists tells before after counts left taken =
     WritesScript status false (lists list) left taken
-    (RanStored start batch taken counts tells (before store) (after store))
+    (RanStored start batch checkpoint taken counts tells (before store) (after store))
 Writes (Some (Dump list store)) status lists tells before after counts left taken =
     Written status taken (λ ended. (read : ListRead (lists list))
     × DumpedRows taken tells (before store) (after store) ended read.list)

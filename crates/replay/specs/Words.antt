@@ -7,14 +7,14 @@ use Rattle.command_line.specs.Words.{PlainCommand, Help, Replay, Dump, command_o
 abbrev pub list_named : Option PlainCommand → Option (List ℕ)
 list_named None = None
 list_named (Some Help) = None
-list_named (Some (Replay list store batch start)) = Some list
+list_named (Some (Replay list store batch checkpoint start)) = Some list
 list_named (Some (Dump list store)) = Some list
 
 -- the path of the store that a command names
 abbrev pub store_named : Option PlainCommand → Option (List ℕ)
 store_named None = None
 store_named (Some Help) = None
-store_named (Some (Replay list store batch start)) = store
+store_named (Some (Replay list store batch checkpoint start)) = store
 store_named (Some (Dump list store)) = Some store
 
 -- what a host tells of the list that the words name, from what it tells of each path

@@ -119,27 +119,23 @@ fn command<H: Host, I: Source, O: Sink>(
                     list,
                     store,
                     batch,
+                    checkpoint,
                     start,
                 },
             ),
-        ) => replay(alloc, list, store, options(start, batch), host, script, out),
+        ) => {
+            let options = Options {
+                start,
+                batch,
+                checkpoint,
+            };
+            replay(alloc, list, store, options, host, script, out)
+        }
         Ok(Some(Command::Dump { list, store })) => dump_store(
             alloc, list, store, host, script, out,
         ),
         Ok(None) => Status::Usage,
         Err(NoMemory) => Status::Memory,
-    }
-}
-
-// How the agent of a run begins. It makes no checkpoint.
-fn options(start: u64, batch: u16) -> Options
-    ensures start { result.start ≡ start }
-    ensures batch { result.batch ≡ batch }
-{
-    Options {
-        start,
-        batch,
-        checkpoint: 0,
     }
 }
 

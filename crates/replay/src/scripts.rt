@@ -41,7 +41,7 @@ pub fn replay<H: Host, I: Source, O: Sink>(
     requires batch { (1 ≤ options.batch) × (options.batch ≤ 256) }
     requires closed { H.store_out host.old ≡ None }
     ensures { let path = option_map (λ path. path.now) store.entry in
-        Obeys (Some (Replay list.now path options.batch options.start)) result
+        Obeys (Some (Replay list.now path options.batch options.checkpoint options.start)) result
         (H.lists host.old) (H.tells_stores host.old) (H.stores host.old) (H.stores host.new)
         (from_to (I.left script.old) (I.left script.new))
         (from_to (O.taken out.old) (O.taken out.new))
@@ -74,7 +74,7 @@ fn run_in_new<I: Source, O: Sink>(
     requires batch { (1 ≤ options.batch) × (options.batch ≤ 256) }
     ensures text { Written result (from_to (O.taken out.old) (O.taken out.new)) (λ ended.
         (read : ScriptRead true (from_to (I.left script.old) (I.left script.new)))
-        × RanInMemory options.start options.batch
+        × RanInMemory options.start options.batch options.checkpoint
         (from_to (O.taken out.old) (O.taken out.new)) ended list.now read.script) }
     ensures ends { ScriptCanEnd None result }
     ensures later { IsAfterList result }
@@ -106,7 +106,7 @@ fn run_stored<H: Host, I: Source, O: Sink>(
     requires closed { H.store_out host.old ≡ None }
     ensures text { Written result (from_to (O.taken out.old) (O.taken out.new)) (λ ended.
         (read : ScriptRead false (from_to (I.left script.old) (I.left script.new)))
-        × RanStored options.start options.batch
+        × RanStored options.start options.batch options.checkpoint
         (from_to (O.taken out.old) (O.taken out.new))
         (from_to (H.store_faults host.old) (H.store_faults host.new)) (H.tells_stores host.old)
         (H.stores host.old path.now) (H.stores host.new path.now) ended list.now read.script) }
@@ -145,7 +145,8 @@ fn run_over<H: Host, O: Sink>(
     requires fits { length lines.now + 2 < 2 ^ 64 }
     requires closed { H.store_out host.old ≡ None }
     ensures text { Written result (from_to (O.taken out.old) (O.taken out.new)) (λ ended.
-        RanLines options.start options.batch (from_to (O.taken out.old) (O.taken out.new))
+        RanLines options.start options.batch options.checkpoint
+        (from_to (O.taken out.old) (O.taken out.new))
         (from_to (H.store_faults host.old) (H.store_faults host.new)) (H.tells_stores host.old)
         (H.stores host.old path.now) (H.stores host.new path.now) ended
         list.now (steps_of lines.now)) }

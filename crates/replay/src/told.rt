@@ -76,6 +76,7 @@ fn script_line(why: &ScriptFault) -> FaultLine<'_>
             numbered("script line ", *number as u64, ": bad header\n")
         }
         ScriptFault::TooLong => plain("script: too long\n"),
+        ScriptFault::NoDivider => plain("script: no divider\n"),
         ScriptFault::ReadFault => plain("read fault\n"),
         ScriptFault::NoMemory => plain("no memory\n"),
     }

@@ -8,10 +8,21 @@ const USUAL: u64 = 1_767_225_600;
 const LAST: u64 = 253_402_300_799;
 
 fn run<'a>(list: &'a str, store: Option<&'a str>, batch: u16, start: u64) -> Command<'a> {
+    checkpointed(list, store, batch, 1_000, start)
+}
+
+fn checkpointed<'a>(
+    list: &'a str,
+    store: Option<&'a str>,
+    batch: u16,
+    checkpoint: u32,
+    start: u64,
+) -> Command<'a> {
     Command::Replay {
         list,
         store,
         batch,
+        checkpoint,
         start,
     }
 }
@@ -20,7 +31,7 @@ fn dump<'a>(list: &'a str, store: &'a str) -> Command<'a> {
     Command::Dump { list, store }
 }
 
-fn commands() -> [(&'static str, Command<'static>); 18] {
+fn commands() -> [(&'static str, Command<'static>); 20] {
     [
         ("--help", Command::Help),
         ("replay l", run("l", None, 1, USUAL)),
@@ -39,12 +50,20 @@ fn commands() -> [(&'static str, Command<'static>); 18] {
             run("l", Some("s"), 3, 5),
         ),
         (
-            "replay l --start 5 --store s --batch 3",
+            "replay l --batch 3 --start 5 --store s",
             run("l", Some("s"), 3, 5),
         ),
         (
-            "replay l --batch 3 --start 5 --store s",
-            run("l", Some("s"), 3, 5),
+            "replay l --checkpoint 0",
+            checkpointed("l", None, 1, 0, USUAL),
+        ),
+        (
+            "replay l --checkpoint 000001000000",
+            checkpointed("l", None, 1, 1_000_000, USUAL),
+        ),
+        (
+            "replay l --batch 3 --checkpoint 7 --start 5 --store s",
+            checkpointed("l", Some("s"), 3, 7, 5),
         ),
         ("dump l s", dump("l", "s")),
         ("dump help dump", dump("help", "dump")),
@@ -52,7 +71,7 @@ fn commands() -> [(&'static str, Command<'static>); 18] {
     ]
 }
 
-const NO_COMMANDS: [&str; 29] = [
+const NO_COMMANDS: [&str; 31] = [
     "replay l --batch 0",
     "replay l --batch 257",
     "replay l --batch 65537",
@@ -63,7 +82,9 @@ const NO_COMMANDS: [&str; 29] = [
     "replay l --store ",
     "replay l --store",
     "replay l --store=s",
-    "replay l --checkpoint 5",
+    "replay l --checkpoint 1000001",
+    "replay l --checkpoint -1",
+    "replay l --checkpoint 5 --checkpoint 5",
     "replay --store s l",
     "replay l --start 253402300800",
     "replay l --start 0000000000000",

@@ -17,8 +17,8 @@ returns-in-Ok-clause-text g c =
     let taken = from_to (g.O.Sink.taken c.args.out.now) (g.O.Sink.taken c.run_in_memory-ending.new.out) in
     let ended = c.run_in_memory-ending.result in
     let lines = script.lines.items in
-    let wrote : WritesInMemory ended list.rules options.start options.batch script.cuts.items (steps_of lines) taken.before taken.after =
-    subst (λ ls. WritesInMemory ended list.rules options.start options.batch script.cuts.items (steps_of ls) taken.before taken.after) c.deref.ensures.value c.run_in_memory-ending.ensures.written in
-    subst (λ s. Written s taken (λ e. (r : ScriptRead true (from_to (g.I.Source.left c.args.script.now) (g.I.Source.left c.read_script.new.script))) × RanInMemory options.start options.batch taken e list r.script)) (sym c.status.ensures)
-    (written_of ended taken (λ e. (r : ScriptRead true (from_to (g.I.Source.left c.args.script.now) (g.I.Source.left c.read_script.new.script))) × RanInMemory options.start options.batch taken e list r.script)
-    (read.0, memory_ran options.start options.batch taken ended list read.0.script script.cuts.items lines read.1 wrote))
+    let wrote : WritesInMemory ended list.rules options.start options.batch options.checkpoint script.cuts.items (steps_of lines) taken.before taken.after =
+    subst (λ ls. WritesInMemory ended list.rules options.start options.batch options.checkpoint script.cuts.items (steps_of ls) taken.before taken.after) c.deref.ensures.value c.run_in_memory-ending.ensures.written in
+    subst (λ s. Written s taken (λ e. (r : ScriptRead true (from_to (g.I.Source.left c.args.script.now) (g.I.Source.left c.read_script.new.script))) × RanInMemory options.start options.batch options.checkpoint taken e list r.script)) (sym c.status.ensures)
+    (written_of ended taken (λ e. (r : ScriptRead true (from_to (g.I.Source.left c.args.script.now) (g.I.Source.left c.read_script.new.script))) × RanInMemory options.start options.batch options.checkpoint taken e list r.script)
+    (read.0, memory_ran options.start options.batch options.checkpoint taken ended list read.0.script script.cuts.items lines read.1 wrote))

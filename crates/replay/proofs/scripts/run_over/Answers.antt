@@ -20,15 +20,16 @@ returns-in-Ok-clause-text g c =
     let ended = c.run_on-finished.result.ending in
     let counts = from_to (g.H.Host.store_faults c.args.host.now) (g.H.Host.store_faults c.close_store.new.self) in
     let tells = g.H.Host.tells_stores c.args.host.now in
-    let ran : RanLines options.start options.batch taken counts tells before after ended list steps =
+    let ran : RanLines options.start options.batch options.checkpoint taken counts tells before after ended list steps =
     λ tell.
     let held = c.in-Ok.ensures.told tell in
     record {
       file = held.0;
       found = held.2;
-      wrote = store_writes ended list options.start options.batch held.0 _ _ steps taken counts after held.1 c.in-Ok.ensures.settled c.in-Ok.ensures.fresh (c.close_store.ensures.store_faults ∙ ap (raised _) c.in-Ok.ensures.store_faults) (c.close_store.ensures.told (c.in-Ok.ensures.tells ∙ tell))
+      wrote = store_writes ended list options.start options.batch options.checkpoint held.0 _ _ steps taken counts after held.1 c.in-Ok.ensures.settled c.in-Ok.ensures.fresh (c.close_store.ensures.store_faults ∙ ap (raised _) c.in-Ok.ensures.store_faults) (c.close_store.ensures.told (c.in-Ok.ensures.tells ∙ tell))
           (c.run_on-finished.ensures.written ((g.met.H.Store.Disk.lawful c.in-Ok.disk).tells_contents held.0 held.1));
       refused = λ why of why_so. (c.run_on-finished.ensures.refused why held.0 held.1 of why_so).1;
+      tidy = λ done now left. c.run_on-finished.ensures.tidy ((g.met.H.Store.Disk.lawful c.in-Ok.disk).tells_contents held.0 held.1) done now ((c.close_store.ensures.told (c.in-Ok.ensures.tells ∙ tell)).no_more now left);
     } in
-    subst (λ s. Written s taken (λ e. RanLines options.start options.batch taken counts tells before after e list steps)) (sym c.status.ensures)
-    (written_of ended taken (λ e. RanLines options.start options.batch taken counts tells before after e list steps) ran)
+    subst (λ s. Written s taken (λ e. RanLines options.start options.batch options.checkpoint taken counts tells before after e list steps)) (sym c.status.ensures)
+    (written_of ended taken (λ e. RanLines options.start options.batch options.checkpoint taken counts tells before after e list steps) ran)

@@ -21,6 +21,6 @@ returns-in-Ok-clause-text g c =
     let tells = g.H.Host.tells_stores c.args.host.now in
     let left = from_to (g.I.Source.left c.args.script.now) (g.I.Source.left c.read_script.new.script) in
     let same = steps_read read.0.script script.cuts.items script.lines.items read.1 ∙ ap steps_of (sym c.deref.ensures.value) in
-    written_weaker c.run_over.result taken (λ e. RanLines options.start options.batch taken counts tells before after e list (steps_of c.deref.result.now))
-    (λ e. (r : ScriptRead false left) × RanStored options.start options.batch taken counts tells before after e list r.script)
-    (λ e ran. (read.0, subst (RanLines options.start options.batch taken counts tells before after e list) (sym same) ran)) c.run_over.ensures.text
+    written_weaker c.run_over.result taken (λ e. RanLines options.start options.batch options.checkpoint taken counts tells before after e list (steps_of c.deref.result.now))
+    (λ e. (r : ScriptRead false left) × RanStored options.start options.batch options.checkpoint taken counts tells before after e list r.script)
+    (λ e ran. (read.0, subst (RanLines options.start options.batch options.checkpoint taken counts tells before after e list) (sym same) ran)) c.run_over.ensures.text

@@ -1,0 +1,11 @@
+//! The events that a line has at a site, read off the open tabs: the main one with the
+//! unpartitioned cookies that it consults, and the one beside it.
+#![tactic(auto)]
+
+mod cells;
+mod main_events;
+mod places;
+mod side_events;
+
+pub use main_events::{MainEvent, main_event};
+pub use side_events::side_event;

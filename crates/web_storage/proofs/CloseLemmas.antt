@@ -8,7 +8,8 @@ use Rattle.agent_model.proofs.HoldingsLemmas.{session_order_total, session_order
 use Rattle.agent_model.proofs.KeptLemmas as kept
 use Rattle.web_storage.specs.Stored.{without_areas}
 
-none_of : (test : SessionKey → Bool) (ks : List SessionKey) → list_all (λ k. not (test k)) ks ≡ true → list_any test ks ≡ false
+-- a test that each key fails passes for none
+pub none_of : (test : SessionKey → Bool) (ks : List SessionKey) → list_all (λ k. not (test k)) ks ≡ true → list_any test ks ≡ false
 none_of test [] pass = refl
 none_of test (k ∷ ks) pass = at (test k) pass (none_of test ks)
   where

@@ -14,3 +14,4 @@ pub mod StoredKeyLemmas
 pub mod CopyLemmas
 pub mod CloseLemmas
 pub mod StorageCopies
+pub mod SiteSessionLemmas

@@ -3,6 +3,7 @@ pub mod Stored
 pub mod Lends
 pub mod Listed
 pub mod BucketRoom
+pub mod SiteSessions
 -- What private functions compute. No public clause rests on it.
 pub mod Evicting
 pub mod Texts

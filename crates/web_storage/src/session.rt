@@ -1,5 +1,7 @@
 //! Session areas: room for a tab and a storage key, and copies for another tab.
 ghost use Rattle.std.specs.Prelude.{◌≡◌, [], IfOk, OnOk, OnErr, map};
+ghost use Rattle.std.specs.List.{list_any};
+ghost use Rattle.std.specs.List.Sorted.{IsStrictlySortedBy};
 ghost use Rattle.std.specs.Map.{keys_of};
 ghost use Rattle.unwinding.specs.FiniteCells.{get_cell};
 ghost use Rattle.storage_key.specs.Plain.{plain_key};
@@ -7,12 +9,15 @@ ghost use Rattle.origin_site.specs.Plain.{plain_site};
 ghost use Rattle.agent_model.specs.Partition.{Holdings, session_order};
 ghost use Rattle.agent_model.specs.Sessions.{copy_sessions};
 ghost use Rattle.session_area.specs.Sessions.{areas_of};
-ghost use Rattle.web_storage.specs.Evicting.{AreUnder, HasNone};
+ghost use Rattle.web_storage.specs.Evicting.{AreUnder, HasNone, key_cmp};
+ghost use Rattle.web_storage.specs.SiteSessions.{has_pairs_under, has_session_under};
 ghost use Rattle.web_storage.specs.Stored.{sessions_in};
 
 use crate::under::keys_under;
 use agent_base::NoMemory;
-use origin_site::Site;
+use key_map::KeyMap;
+use local_area::Area;
+use origin_site::{Site, same_site};
 use session_area::Sessions;
 use std::alloc::Global;
 use storage_key::StorageKey;
@@ -69,4 +74,37 @@ fn tab_keys_under(
         Some(areas) => keys_under(alloc, areas, site),
         None => Ok(Vec::new(alloc)),
     }
+}
+
+/// Whether a tab has a session area under a site, which is not empty.
+pub fn has_session_under(sessions: &Sessions<StorageKey>, tab: u16, site: &Site) -> bool
+    ensures { result ≡ has_session_under (plain_site site.now) tab (sessions_in sessions.now) }
+{
+    match sessions.areas(tab) {
+        Some(areas) => has_pairs_under(areas, site),
+        None => false,
+    }
+}
+
+// Whether some areas have one under a site that is not empty.
+fn has_pairs_under(areas: &KeyMap<StorageKey, Area>, site: &Site) -> bool
+    ensures pairs { result ≡ list_any (has_pairs_under (plain_site site.now)) areas.now }
+    ensures ordered { IsStrictlySortedBy key_cmp (keys_of areas.now) }
+{
+    let Some(first) = areas.next_key(None) else {
+        return false;
+    };
+    for (key, area) in areas.range_from(first) {
+        if has_pairs(key, area, site) {
+            return true;
+        }
+    }
+    false
+}
+
+// Whether the key of an area is under a site, and the area is not empty.
+fn has_pairs(key: &StorageKey, area: &Area, site: &Site) -> bool
+    ensures { result ≡ has_pairs_under (plain_site site.now) (key.now, area.now) }
+{
+    !area.is_empty() && same_site(site, &key.top)
 }

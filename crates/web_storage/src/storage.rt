@@ -16,11 +16,12 @@ ghost use Rattle.agent_model.specs.Sessions.{copy_sessions, has_session};
 ghost use Rattle.web_storage.specs.BucketRoom.{HasBucket};
 ghost use Rattle.web_storage.specs.Listed.{stored_in};
 ghost use Rattle.web_storage.specs.Stored.{held_with, without_areas};
+ghost use Rattle.web_storage.specs.SiteSessions.{has_session_under};
 ghost use Rattle.web_storage.specs.Lends.{LendsArea, LendsPresent, HoldsSame, HoldsPairs};
 
 use crate::listing::{keys_stored, keys_taken};
 use crate::local::{evict_local, is_persistent, reserve_local};
-use crate::session::{copy_areas, reserve_session};
+use crate::session::{copy_areas, has_session_under, reserve_session};
 use agent_base::NoMemory;
 use buckets::Shed;
 use local_area::{Area, AreaFault, Put};
@@ -273,6 +274,14 @@ impl Storage {
             (held_with beside self.new ≡ held_with beside self.old) }
     {
         copy_areas(self.alloc, &mut self.session, site, from, to)
+    }
+
+    /// Whether a tab has a session area under a site, which is not empty. It takes no memory.
+    pub fn has_session(&self, tab: u16, site: &Site) -> bool
+        ensures session { (beside : Holdings) → let held = held_with beside self.now in
+            result ≡ has_session_under (plain_site site.now) tab held.sessions }
+    {
+        has_session_under(&self.session, tab, site)
     }
 
     /// Drops the session areas of a tab.

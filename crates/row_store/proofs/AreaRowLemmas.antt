@@ -63,7 +63,8 @@ pub pairs_with : (q key : PlainKey) (pairs : List Pair) (e : Saved) → pairs_at
 pairs_with q key pairs e = get_set key_order key_order_total key_order_same q key pairs e.under.areas
 
 module _ (key : PlainKey) where
-  same_pairs : (pairs : List Pair) (e : Saved) → pairs_at key e ≡ pairs → e ≡ with_pairs key pairs e
+  -- an area that is set to what it has
+  pub same_pairs : (pairs : List Pair) (e : Saved) → pairs_at key e ≡ pairs → e ≡ with_pairs key pairs e
   same_pairs pairs e is = ap (λ areas. record e { under = record (e.under) { areas = areas } }) (sym (set_known key_order key_order_total key_order_same key pairs e.under.areas is))
 
   pairs_twice : (xs ys : List Pair) (e : Saved) → with_pairs key ys (with_pairs key xs e) ≡ with_pairs key ys e

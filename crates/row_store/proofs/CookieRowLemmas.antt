@@ -38,7 +38,8 @@ cookies_with (PartitionCell top bit a) (OwnCell b) cookies e = refl
 cookies_with (PartitionCell top bit a) (PartitionCell above inner b) cookies e =
     partitioned_with (record { top = top; bit = bit; domain = a }) (PartitionCell above inner b) cookies e.under.cookies
 
-same_cookies : (cell : PlainCell) (cookies : Cookies) (e : Saved) → cookies_at cell e ≡ cookies → e ≡ with_cookies cell cookies e
+-- a cell that is set to what it has
+pub same_cookies : (cell : PlainCell) (cookies : Cookies) (e : Saved) → cookies_at cell e ≡ cookies → e ≡ with_cookies cell cookies e
 same_cookies (OwnCell domain) cookies e is = ap (λ cells. record e { cells = cells }) (sym (set_known domain_order domain_order_total domain_order_same domain cookies e.cells is))
 same_cookies (PartitionCell top bit domain) cookies e is =
     let key : PartitionedKey = record { top = top; bit = bit; domain = domain } in

@@ -2,7 +2,7 @@
 use Rattle.std.proofs.Common.{◌≡◌, ℕ, ◌+◌, Bool, true, false, cond, ◌||◌, List, [], ◌∷◌, ◌++◌, map, length, Option, Some, None, T, refl, sym, ap, subst, ◌∙◌}
 use Rattle.std.specs.Prelude.{filter, fold, is_some}
 use Rattle.std.specs.Cmp.{IsTotalOrder, IsStrictWeakOrder, eq_by_cmp_equiv}
-use Rattle.std.specs.List.{All, AllByRecursion, flat_map, list_any}
+use Rattle.std.specs.List.{AllByRecursion, flat_map, list_any}
 use Rattle.std.specs.Ordering.{eq_by_cmp, is_eq, is_lt}
 use Rattle.std.specs.declared.cmp.Ordering.{Ordering}
 use Rattle.std.specs.declared.cmp.Ordering.TheVariants.{Less, Equal, Greater}
@@ -30,7 +30,7 @@ use Rattle.durable_model.specs.Keeping.{kept_cells, kept_entries}
 use Rattle.durable_model.specs.Saved.{IsValid, Saved, cookies_at}
 use Rattle.durable_model.proofs.CellsLemmas.{get_kept, kept_all}
 use Rattle.durable_model.proofs.KeptCellLemmas.{kept_same}
-use Rattle.row_store.specs.Kept.{kept_of, kept_own_cells, kept_own_entries}
+use Rattle.row_store.specs.Kept.{kept_change, kept_of, kept_own_cells, kept_own_entries}
 use Rattle.row_store.specs.Listing.{cell_rows, cell_text_order, cells_by_text, cookie_rows, in_cell_order, stored_cells}
 use Rattle.row_store.proofs.CellTextLemmas.{text_order_total}
 use Rattle.row_store.proofs.TimesLemmas.{lt_parts}
@@ -69,7 +69,7 @@ flat_filtered f p none (x ∷ xs) = at (p x) refl (flat_filtered f p none xs)
     at true is later = ap (λ l. f x ++ l) later
     at false is later = later ∙ ap (λ l. l ++ flat_map f xs) (sym (none x is))
 
-map_flat : {X Y Z : Type 0} (g : Y → Z) (f : X → List Y) (xs : List X) → flat_map (λ x. map g (f x)) xs ≡ map g (flat_map f xs)
+pub map_flat : {X Y Z : Type 0} (g : Y → Z) (f : X → List Y) (xs : List X) → flat_map (λ x. map g (f x)) xs ≡ map g (flat_map f xs)
 map_flat g f [] = refl
 map_flat g f (x ∷ xs) = ap (λ l. map g (f x) ++ l) (map_flat g f xs) ∙ sym (map-append g (f x) (flat_map f xs))
 
@@ -325,11 +325,6 @@ module _ (p : PartitionedKey → Bool) where
   some_by_text cells = all_kept [] cells tt
 
 -- ---- what is listed
-
--- a row change of a cookie as it outlives a restart
-abbrev pub kept_change : PlainChange → PlainChange
-kept_change (CookieInsert cell place c) = CookieInsert cell place (kept_cookie c)
-kept_change change = change
 
 rows_kept : (cell : PlainCell) (place : ℕ) (cs : Cookies) → cookie_rows cell place (map kept_cookie cs) ≡ map kept_change (cookie_rows cell place cs)
 rows_kept cell place [] = refl

@@ -19,3 +19,5 @@ mod PushedLemmas
 -- What is kept of a state.
 mod KeptLemmas
 mod WrittenLemmas
+-- What the bytes of a row change say.
+mod SpellingLemmas

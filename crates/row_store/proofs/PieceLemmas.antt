@@ -1,22 +1,23 @@
 -- What a piece makes of the parts, from the front of others.
-use Rattle.std.proofs.Common.{◌≡◌, ℕ, ◌+◌, ◌<◌, Bool, true, false, cond, List, [], ◌∷◌, length, drop, Option, Some, None, refl, sym, ap, subst, ◌∙◌, arith}
-use Rattle.std.specs.Prelude.{Err, slice_get}
+use Rattle.std.proofs.Common.{◌≡◌, ℕ, ◌+◌, Bool, true, false, cond, List, [], ◌∷◌, drop, Option, Some, None, refl, sym, ap, subst, ◌∙◌, arith}
+use Rattle.std.specs.Prelude.{Result, Ok, Err, IfOk, OnErr, slice_get}
 use Rattle.std.specs.List.{All}
 use Rattle.std.proofs.lemmas.List.Elements.{All-head}
 use Rattle.suffix_list.specs.Suffix.{Rule}
 use Rattle.row_changes.specs.Change.{PlainChange}
 use Rattle.row_changes.specs.Body.{PlainPiece, Begins, Row, Fault}
 use Rattle.row_changes.specs.Laws.{IsSpelledPiece}
+use Rattle.row_changes.specs.Spelled.{IsSpelled}
 use Rattle.cookie_jar.specs.Key.{OwnCell, PartitionCell}
 use Rattle.web_cookies.proofs.CellLemmas.{partitioned_at, shared_at}
-use Rattle.durable_model.specs.Saved.{IsKeptCell, IsValid, Saved, no_rows, nothing_saved}
-use Rattle.durable_model.specs.RowEdits.{after_change, edited, is_valid}
+use Rattle.durable_model.specs.Saved.{IsKeptCell, IsValid, no_rows, nothing_saved}
+use Rattle.durable_model.specs.RowEdits.{edited}
 use Rattle.durable_model.specs.Laws.{ChangesKeepValid}
 use Rattle.spelled_model.specs.Laws.{RowsStayRead}
 use Rattle.spelled_model.specs.Rows.{IsReadSaved}
 use Rattle.spelled_model.proofs.SavedLemmas.{nothing_read}
 use Rattle.row_store.specs.Bodies.{after_pieces}
-use Rattle.row_store.specs.Edits.{IsEdited, IsFaultAt, IsStanding, IsTaken}
+use Rattle.row_store.specs.Edits.{IsEdited, IsFaultAt, IsStanding, IsTaken, IsUndone}
 use Rattle.row_store.specs.Laws.{IsSpelledState, IsStorable}
 use Rattle.row_store.specs.Stored.{HasNoSession, saved_of}
 use Rattle.row_store.specs.declared.parts.Parts.{Parts}
@@ -30,24 +31,58 @@ begun parts = record { after = λ count pieces. refl; standing = λ rules spelle
 as_many : (count : ℕ) → count ≡ count + 0
 as_many count = omega arith
 
+-- ---- a row change by itself
+
+-- parts whose durable state stays stand as they stood
+pub stays_standing : (rules : List Rule) (old new : Parts) → IsUndone old new → IsStanding rules old → IsStanding rules new
+stays_standing rules old new is s = record {
+  valid = subst IsValid (sym is.saved) s.valid;
+  read = subst (IsReadSaved rules) (sym is.saved) s.read;
+  storable = subst IsStorable (sym is.saved) s.storable;
+  spelled = subst (IsSpelledState rules) (sym is.saved) s.spelled;
+  sessions = is.sessions s.sessions;
+}
+
+module _ (change : PlainChange) (old new : Parts) where
+  -- a row change that is done makes the state what it makes of it
+  pub done_saved : IsEdited change old new true → saved_of new ≡ edited change (saved_of old)
+  done_saved is = is.saved ∙ ap (λ b. cond b (edited change (saved_of old)) (saved_of old)) (sym is.valid)
+
+  -- and keeps the parts standing, where it has a spelling
+  pub done_standing : (rules : List Rule) → ChangesKeepValid → RowsStayRead → IsSpelled rules change → IsEdited change old new true → IsStanding rules old → IsStanding rules new
+  done_standing rules law read spelled is s = record {
+    valid = subst IsValid (sym is.saved) (law (saved_of old) change s.valid);
+    read = subst (IsReadSaved rules) (sym is.saved) (read rules (saved_of old) change spelled s.read);
+    storable = subst IsStorable (sym (done_saved is)) (edits_keep_storable.1 (saved_of old) change (sym is.valid) s.storable);
+    spelled = subst (IsSpelledState rules) (sym (done_saved is)) ((edits_keep_spelled rules).1 (saved_of old) change spelled s.spelled);
+    sessions = is.sessions s.sessions;
+  }
+
+  -- one that is not valid leaves them
+  pub passed_saved : IsEdited change old new false → saved_of new ≡ saved_of old
+  passed_saved is = is.saved ∙ ap (λ b. cond b (edited change (saved_of old)) (saved_of old)) (sym is.valid)
+
+  pub passed_standing : (rules : List Rule) → IsEdited change old new false → IsStanding rules old → IsStanding rules new
+  passed_standing rules is = stays_standing rules old new (record { saved = passed_saved is; sessions = is.sessions })
+
+-- parts stand after each answer to a row change that has a spelling
+pub edit_standing : {E : Type 0} (rules : List Rule) (change : PlainChange) (old new : Parts) (r : Result Bool E) → ChangesKeepValid → RowsStayRead → IsSpelled rules change
+    → IfOk r (λ valid. IsEdited change old new valid) → OnErr r (IsUndone old new) → IsStanding rules old → IsStanding rules new
+edit_standing rules change old new (Ok true) law read spelled is stays s = done_standing change old new rules law read spelled is s
+edit_standing rules change old new (Ok false) law read spelled is stays s = passed_standing change old new rules is s
+edit_standing rules change old new (Err why) law read spelled is stays s = stays_standing rules old new stays s
+
+-- ---- a row change as a piece
+
 module _ (at : ℕ) (change : PlainChange) (old new : Parts) where
-  -- a row change that is done
+  -- one that is done
   pub done : ChangesKeepValid → RowsStayRead → IsEdited change old new true → IsTaken (Row at change) old new 0
   done law read is =
-      let saved = is.saved refl in
-      let valid : is_valid change (saved_of old) ≡ true = sym is.valid in
-      let same : after_change (saved_of old) change ≡ saved_of new = ap (λ b. cond b (edited change (saved_of old)) (saved_of old)) valid ∙ sym saved in
       record {
         after = λ count pieces.
-            ap (λ b. cond b (after_pieces (edited change (saved_of old)) count pieces) (Err at)) valid
-            ∙ ap (λ d. after_pieces d count pieces) (sym saved) ∙ ap (λ n. after_pieces (saved_of new) n pieces) (as_many count);
-        standing = λ rules spelled s. record {
-          valid = subst IsValid same (law (saved_of old) change s.valid);
-          read = subst (IsReadSaved rules) same (read rules (saved_of old) change spelled s.read);
-          storable = subst IsStorable (sym saved) (edits_keep_storable.1 (saved_of old) change valid s.storable);
-          spelled = subst (IsSpelledState rules) (sym saved) ((edits_keep_spelled rules).1 (saved_of old) change spelled s.spelled);
-          sessions = is.sessions refl s.sessions;
-        };
+            ap (λ b. cond b (after_pieces (edited change (saved_of old)) count pieces) (Err at)) (sym is.valid)
+            ∙ ap (λ d. after_pieces d count pieces) (sym (done_saved change old new is)) ∙ ap (λ n. after_pieces (saved_of new) n pieces) (as_many count);
+        standing = λ rules spelled s. done_standing change old new rules law read spelled is s;
         one = omega arith;
       }
 

@@ -1,26 +1,27 @@
 -- What a private function does to the parts of a durable state.
-use Rattle.std.specs.Prelude.{◌≡◌, ℕ, ◌+◌, ◌≤◌, Bool, true, List, ◌∷◌, Result, Ok, Err, IfOk, OnOk}
-use Rattle.std.specs.Prelude.{IsErrOf}
-use Rattle.journal.specs.declared.replay.ReplayFault.{ReplayFault}
-use Rattle.journal.specs.declared.replay.ReplayFault.TheVariants.{Bad}
+use Rattle.std.specs.Prelude.{◌≡◌, ℕ, ◌+◌, ◌≤◌, Bool, List, ◌∷◌, Ok, Err}
 use Rattle.suffix_list.specs.Suffix.{Rule}
 use Rattle.row_changes.specs.Change.{PlainChange}
 use Rattle.row_changes.specs.Body.{PlainPiece}
 use Rattle.row_changes.specs.Laws.{IsSpelledPiece}
 use Rattle.durable_model.specs.Saved.{IsValid}
-use Rattle.durable_model.specs.RowEdits.{edited, is_valid}
+use Rattle.durable_model.specs.RowEdits.{after_change, is_valid}
 use Rattle.spelled_model.specs.Rows.{IsReadSaved}
 use Rattle.row_store.specs.Bodies.{after_pieces}
 use Rattle.row_store.specs.Laws.{IsSpelledState, IsStorable}
 use Rattle.row_store.specs.Stored.{HasNoSession, saved_of}
 use Rattle.row_store.specs.declared.parts.Parts.{Parts}
 
--- a row change is done where it is valid, which is told. Where it is not, nothing is said of the
--- parts.
+-- a row change is done where it is valid, which is told. Where it is not, the state stays.
 pub record IsEdited (change : PlainChange) (old new : Parts) (done : Bool) : Type 0 where
   pub valid : done ≡ is_valid change (saved_of old)
-  pub saved : done ≡ true → saved_of new ≡ edited change (saved_of old)
-  pub sessions : done ≡ true → HasNoSession old.storage → HasNoSession new.storage
+  pub saved : saved_of new ≡ after_change (saved_of old) change
+  pub sessions : HasNoSession old.storage → HasNoSession new.storage
+
+-- the durable state of parts stays
+pub record IsUndone (old new : Parts) : Type 0 where
+  pub saved : saved_of new ≡ saved_of old
+  pub sessions : HasNoSession old.storage → HasNoSession new.storage
 
 -- parts that an agent goes on with: each cell is as it outlives a restart, the durable state is one
 -- that was read under the rules of a list, a snapshot can be made of it, and no tab has a session

@@ -6,7 +6,8 @@ use Rattle.std.specs.Prelude.{List, [], ◌∷◌}
 use Rattle.std.specs.FinMap as finite
 use Rattle.unwinding.specs.FiniteCells.{Full, set_cell}
 use Rattle.cookie_jar.specs.Cookie.{PlainCookie}
-use Rattle.cookie_jar.specs.Persistent.{kept}
+use Rattle.cookie_jar.specs.Persistent.{kept, kept_cookie}
+use Rattle.row_changes.specs.Change.{PlainChange, CookieInsert}
 use Rattle.agent_model.specs.CookieCells.{CookieCells, Domain, domain_order, no_cookies}
 use Rattle.durable_model.specs.Keeping.{kept_cells}
 use Rattle.durable_model.specs.Saved.{Saved}
@@ -27,3 +28,8 @@ kept_of d =
       under = record (d.under) { cookies = kept_cells d.under.cookies };
       cells = kept_own_cells d.cells;
     }
+
+-- the row change of a snapshot without the last use of its cookie
+abbrev pub kept_change : PlainChange → PlainChange
+kept_change (CookieInsert cell place c) = CookieInsert cell place (kept_cookie c)
+kept_change change = change

@@ -4,6 +4,7 @@ pub mod Stored
 pub mod Listing
 pub mod Kept
 pub mod Laws
+pub mod Applying
 -- What private functions do. No public clause rests on it.
 pub mod Edits
 pub mod CellTexts

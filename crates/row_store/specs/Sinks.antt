@@ -4,6 +4,7 @@ use Rattle.std.specs.Prelude.{◌≡◌, ℕ, List, [], ◌∷◌, ◌++◌, map
 use Rattle.std.specs.List.{All}
 use Rattle.std.proofs.Common.{ap, append-nil, append_assoc, sym, ◌∙◌}
 use Rattle.std.proofs.lemmas.Grind.{flat_map-append}
+use Rattle.std.proofs.lemmas.List.{map-append}
 use Rattle.std.proofs.lemmas.List.Elements.{All-append, All-cons, All-nil}
 use Rattle.row_changes.specs.declared.change.Change.{Change}
 use Rattle.row_changes.specs.Appended.{HasTexts}
@@ -11,6 +12,7 @@ use Rattle.row_changes.specs.Body.{rows_bytes}
 use Rattle.row_changes.specs.Change.{PlainChange}
 use Rattle.row_changes.specs.Plain.{plain_change}
 use Rattle.row_changes.specs.Spelling.{change_bytes}
+use Rattle.row_store.specs.Kept.{kept_change}
 
 -- a list has these row changes behind what it had
 abbrev pub IsListed : List Change → List PlainChange → List Change → Type 0
@@ -30,6 +32,17 @@ pub listed_then : (s t u : List Change) (xs ys : List PlainChange) → IsListed 
     → IsListed t ys u → IsListed s (xs ++ ys) u
 listed_then s t u xs ys first second =
     second ∙ ap (λ l. l ++ ys) first ∙ append_assoc (map plain_change s) xs ys
+
+-- the same of row changes that outlive a restart
+pub kept_none : (s : List Change) → IsListed s (map kept_change []) s
+kept_none s = listed_none s
+
+pub kept_then : (s t u : List Change) (xs ys : List PlainChange)
+    → IsListed s (map kept_change xs) t → IsListed t (map kept_change ys) u
+    → IsListed s (map kept_change (xs ++ ys)) u
+kept_then s t u xs ys first second =
+    listed_then s t u (map kept_change xs) (map kept_change ys) first second
+    ∙ ap (λ l. map plain_change s ++ l) (sym (map-append kept_change xs ys))
 
 pub written_none : (s : List ℕ) → IsWritten s [] s
 written_none s = record { bytes = sym (append-nil s); texts = All-nil HasTexts }

@@ -12,6 +12,7 @@ ghost use Rattle.row_store.specs.Stored.{saved_in, saved_of};
 
 use crate::listing::push_all;
 use crate::parts::Parts;
+use crate::sink::KeptRows;
 use crate::which::Which;
 use access_grants::Grants;
 use agent_base::NoMemory;
@@ -19,6 +20,31 @@ use row_changes::Change;
 use std::alloc::Global;
 use web_cookies::Cookies;
 use web_storage::Storage;
+
+/// The row changes of a snapshot of what outlives a restart of these parts, in the order in which
+/// they are written. No cookie has a last use.
+pub fn snapshot_rows(
+    alloc: Global,
+    storage: &Storage,
+    cookies: &Cookies,
+    grants: &Grants,
+) -> Result<Vec<Change>, NoMemory>
+    ensures rows { let saved = saved_in storage.now cookies.now grants.now in
+        IfOk result (λ rows. map plain_change rows.items ≡ listed (kept_of saved)) }
+{
+    let mut kept = KeptRows {
+        rows: Vec::new(alloc),
+    };
+    push_all(
+        alloc,
+        storage,
+        cookies,
+        grants,
+        Which::Persistent,
+        &mut kept,
+    )?;
+    Ok(kept.rows)
+}
 
 /// The body of a snapshot of what outlives a restart of these parts.
 ///

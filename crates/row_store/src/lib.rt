@@ -1,8 +1,8 @@
 //! The durable state that the frames of a store lead to.
 //!
 //! [`Rows`] takes frames one after another: changes, or a snapshot. A row change that is not valid
-//! in the state before it is a fault, with the offset at which it begins. An agent goes on with the
-//! [`Parts`] of the last state.
+//! in the state before it is a fault, with the offset at which it begins. A row change by itself is
+//! applied where it is valid. An agent goes on with the [`Parts`] of the last state.
 #![tactic(auto)]
 
 mod body;
@@ -13,12 +13,16 @@ mod listing;
 mod lookups;
 mod parts;
 mod reading;
+mod row_fault;
 mod rows;
+mod same;
 mod sink;
+mod spelling;
 mod texted_cell;
 mod which;
 
-pub use body::snapshot;
+pub use body::{snapshot, snapshot_rows};
 pub use laws::written;
 pub use parts::Parts;
+pub use row_fault::RowFault;
 pub use rows::Rows;

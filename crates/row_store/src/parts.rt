@@ -1,14 +1,19 @@
 //! The parts of a durable state, and row changes of them.
-ghost use Rattle.std.specs.Prelude.{◌≡◌, IfOk, length, nat_lt, string_bytes};
+ghost use Rattle.std.specs.Prelude.{◌≡◌, ◌<◌, IfOk, IsOk, None, OnErr, OnOk, length, nat_lt, string_bytes, true};
 ghost use Rattle.cookie_jar.specs.Key.{plain_key as plain_cell};
 ghost use Rattle.cookie_jar.specs.Views.{plain_cookie};
 ghost use Rattle.storage_key.specs.Plain.{plain_key};
 ghost use Rattle.access_grants.specs.Plain.{plain_grant};
 ghost use Rattle.row_changes.specs.Change as plain;
 ghost use Rattle.row_changes.specs.Plain.{plain_change};
+ghost use Rattle.durable_model.specs.RowEdits.{is_valid};
 ghost use Rattle.durable_model.specs.Saved.{is_kept_cookie, nothing_saved, pairs_at};
 ghost use Rattle.row_store.specs.Stored.{HasNoSession, saved_of};
-ghost use Rattle.row_store.specs.Edits.{IsEdited};
+ghost use Rattle.local_area.specs.Area.{area_get};
+ghost use Rattle.web_storage.specs.BucketRoom.{HasBucket};
+ghost use Rattle.web_cookies.specs.Rows.{HasPlace};
+ghost use Rattle.row_store.specs.Applying.{IsReady, PutsNewName};
+ghost use Rattle.row_store.specs.Edits.{IsEdited, IsUndone};
 
 use access_grants::{GrantRow, Grants};
 use agent_base::NoMemory;
@@ -46,6 +51,11 @@ impl Parts {
     pub(crate) fn edit(&mut self, alloc: Global, change: Change) -> Result<bool, NoMemory>
         ensures edited { IfOk result
             (λ valid. IsEdited (plain_change change) self.old self.new valid) }
+        ensures undone { OnErr result (IsUndone self.old self.new) }
+        ensures fits { IsReady change self.old
+            → OnErr result (is_valid (plain_change change) (saved_of self.old) ≡ true) }
+        ensures memory { IsReady change self.old
+            → OnErr result (PutsNewName (plain_change change) (saved_of self.old)) }
     {
         match change {
             Change::AreaPut { key, name, value } => self.put(&key, name, value),
@@ -67,10 +77,33 @@ impl Parts {
         }
     }
 
+    // Makes room for a row change. The state stays.
+    pub(crate) fn reserve(&mut self, alloc: Global, change: &Change) -> Result<(), NoMemory>
+        ensures ready { OnOk result (IsReady change.now self.new) }
+        ensures undone { IsUndone self.old self.new }
+    {
+        match change {
+            Change::AreaPut { .. } => Ok(()),
+            Change::AreaRemove { .. } => Ok(()),
+            Change::AreaClear { .. } => Ok(()),
+            Change::SetMode { key } => self.storage.reserve_bucket(key),
+            Change::CookieInsert { cell, .. } => self.cookies.reserve_insert(alloc, cell),
+            Change::CookieReplace { .. } => Ok(()),
+            Change::CookieRemove { .. } => Ok(()),
+            Change::Grant { .. } => self.grants.reserve(1),
+        }
+    }
+
     fn put(&mut self, key: &StorageKey, name: String, value: String) -> Result<bool, NoMemory>
         ensures edited { let change =
             plain.AreaPut (plain_key key.now) (string_bytes name) (string_bytes value) in
             IfOk result (λ valid. IsEdited change self.old self.new valid) }
+        ensures undone { OnErr result (IsUndone self.old self.new) }
+        ensures fits { let change =
+            plain.AreaPut (plain_key key.now) (string_bytes name) (string_bytes value) in
+            OnErr result (is_valid change (saved_of self.old) ≡ true) }
+        ensures memory { let pairs = pairs_at (plain_key key.now) (saved_of self.old) in
+            OnErr result (area_get (string_bytes name) pairs ≡ None) }
     {
         match self.storage.put(AreaKind::Local, 0, key, name, value) {
             Ok(_) => Ok(true),
@@ -89,9 +122,11 @@ impl Parts {
     fn clear(&mut self, key: &StorageKey) -> bool
         ensures edited { IsEdited (plain.AreaClear (plain_key key.now)) self.old self.new result }
     {
-        let is_there = self.has_pairs(key);
+        if !self.has_pairs(key) {
+            return false;
+        }
         self.storage.clear(AreaKind::Local, 0, key);
-        is_there
+        true
     }
 
     fn has_pairs(&self, key: &StorageKey) -> bool
@@ -106,6 +141,8 @@ impl Parts {
     fn persist(&mut self, key: &StorageKey) -> Result<bool, NoMemory>
         ensures edited { IfOk result
             (λ valid. IsEdited (plain.SetMode (plain_key key.now)) self.old self.new valid) }
+        ensures undone { OnErr result (IsUndone self.old self.new) }
+        ensures ready { HasBucket key.now self.old.storage → IsOk result }
     {
         if self.storage.is_persistent(key) {
             return Ok(false);
@@ -124,6 +161,8 @@ impl Parts {
         ensures edited { let change =
             plain.CookieInsert (plain_cell cell.now) place (plain_cookie cookie) in
             IfOk result (λ valid. IsEdited change self.old self.new valid) }
+        ensures undone { OnErr result (IsUndone self.old self.new) }
+        ensures ready { HasPlace (plain_cell cell.now) self.old.cookies → IsOk result }
     {
         if !is_kept(&cookie) {
             return Ok(false);
@@ -149,6 +188,8 @@ impl Parts {
     fn keep(&mut self, row: GrantRow) -> Result<bool, NoMemory>
         ensures edited { IfOk result
             (λ valid. IsEdited (plain.Grant (plain_grant row)) self.old self.new valid) }
+        ensures undone { OnErr result (IsUndone self.old self.new) }
+        ensures ready { 0 < self.old.grants.spare → IsOk result }
     {
         self.grants.reserve(1)?;
         self.grants.keep(row);

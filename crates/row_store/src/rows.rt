@@ -1,19 +1,26 @@
 //! The durable state that frames lead to.
-ghost use Rattle.std.specs.Prelude.{◌≡◌, IfOk, map};
+ghost use Rattle.std.specs.Prelude.{◌≡◌, ◌↔◌, Err, IfOk, IsTrue, OnErr, OnOk, false, map, true};
 ghost use Rattle.row_changes.specs.Body.{rows_bytes};
 ghost use Rattle.row_changes.specs.Plain.{plain_change};
+ghost use Rattle.row_changes.specs.Spelled.{IsSpelled};
+ghost use Rattle.durable_model.specs.RowEdits.{edited, is_valid};
 ghost use Rattle.durable_model.specs.Saved.{IsValid, nothing_saved};
 ghost use Rattle.spelled_model.specs.Rows.{IsReadSaved};
+ghost use Rattle.row_store.specs.Applying.{IsReady, PutsNewName};
 ghost use Rattle.row_store.specs.Bodies.{from};
 ghost use Rattle.row_store.specs.Laws.{IsSpelledState, IsStorable};
 ghost use Rattle.row_store.specs.Listing.{listed};
 ghost use Rattle.row_store.specs.Stored.{HasNoSession, saved_of};
 
+use crate::RowFault;
 use crate::parts::Parts;
 use crate::reading::read_body;
+use crate::spelling::has_spelling;
 use agent_base::NoMemory;
+use durable_model::durable_states;
 use journal::{Replay, ReplayFault};
 use row_changes::Change;
+use spelled_model::spelled_lines;
 use std::alloc::Global;
 use std::marker::Model;
 use suffix_list::SuffixList;
@@ -50,6 +57,13 @@ impl<'l> Rows<'l> {
         }
     }
 
+    /// The parts, to be read.
+    pub fn parts(&self) -> &Parts
+        ensures parts { result.now ≡ self.now.parts }
+    {
+        &self.parts
+    }
+
     /// The parts, for an agent that goes on with them.
     pub fn into_parts(self) -> Parts
         ensures parts { result ≡ self.entry.parts }
@@ -76,6 +90,56 @@ impl<'l> Rows<'l> {
             (λ body. body.items ≡ rows_bytes (listed (saved_of self.now.parts))) }
     {
         self.parts.snapshot(alloc)
+    }
+
+    /// Whether a row change has a spelling under the list's rules: what its own fields decide, and
+    /// nothing of the state.
+    ///
+    /// It writes the row change and reads it back, in memory of its own. A text of 4 GiB or more is
+    /// answered as want of memory.
+    pub fn has_spelling(&self, change: &Change) -> Result<bool, NoMemory>
+        ensures spelled { IfOk result
+            (λ is. IsTrue is ↔ IsSpelled self.now.rules (plain_change change.now)) }
+    {
+        has_spelling(self.alloc, self.list, change)
+    }
+
+    /// Makes room for a row change, so that applying it takes no memory, but for a new name of an
+    /// area. The state stays.
+    pub fn reserve(&mut self, change: &Change) -> Result<(), NoMemory>
+        ensures ready { OnOk result (IsReady change.now self.new.parts) }
+        ensures same { saved_of self.new.parts ≡ saved_of self.old.parts }
+        ensures rules { self.new.rules ≡ self.old.rules }
+    {
+        self.parts.reserve(self.alloc, change)
+    }
+
+    /// Applies a row change that has a spelling under the list's rules, where it is valid in the
+    /// state. A refusal leaves the state.
+    ///
+    /// Without room for a row change, want of memory may come first.
+    pub fn apply(&mut self, change: Change) -> Result<(), RowFault>
+        requires spelled { IsSpelled self.old.rules (plain_change change) }
+        ensures applied { let state = edited (plain_change change) (saved_of self.old.parts) in
+            OnOk result (saved_of self.new.parts ≡ state) }
+        ensures valid { let valid = is_valid (plain_change change) (saved_of self.old.parts) in
+            OnOk result (valid ≡ true) }
+        ensures invalid { let valid = is_valid (plain_change change) (saved_of self.old.parts) in
+            result ≡ Err RowFault.Invalid → valid ≡ false }
+        ensures refused { let valid = is_valid (plain_change change) (saved_of self.old.parts) in
+            IsReady change self.old.parts → valid ≡ false → result ≡ Err RowFault.Invalid }
+        ensures unchanged { OnErr result (saved_of self.new.parts ≡ saved_of self.old.parts) }
+        ensures memory { IsReady change self.old.parts → result ≡ Err RowFault.NoMemory
+            → PutsNewName (plain_change change) (saved_of self.old.parts) }
+        ensures rules { self.new.rules ≡ self.old.rules }
+    {
+        durable_states();
+        spelled_lines();
+        match self.parts.edit(self.alloc, change) {
+            Ok(true) => Ok(()),
+            Ok(false) => Err(RowFault::Invalid),
+            Err(NoMemory) => Err(RowFault::NoMemory),
+        }
     }
 
     // Stands for the state from which a frame of this kind is read.

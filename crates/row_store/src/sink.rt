@@ -2,6 +2,7 @@
 ghost use Rattle.std.specs.Prelude.{◌≡◌, ◌∷◌, ◌++◌, [], List, OnOk, map};
 ghost use Rattle.row_changes.specs.Change.{PlainChange};
 ghost use Rattle.row_changes.specs.Plain.{plain_change, plain_ref};
+ghost use Rattle.row_store.specs.Kept.{kept_change};
 
 use agent_base::NoMemory;
 use row_changes::{Change, ChangeRef, append_row};
@@ -38,6 +39,29 @@ impl RowSink for Vec<Change> {
     }
 }
 
+/// A list of row changes as they outlive a restart, so that no cookie has a last use.
+#[derive(Debug, Drop)]
+pub struct KeptRows {
+    pub rows: Vec<Change>,
+}
+
+impl RowSink for KeptRows {
+    ghost use Rattle.row_store.specs.Kept.{kept_change};
+    ghost use Rattle.row_store.specs.Sinks.{IsListed, kept_none, kept_then};
+
+    ghost adds = { λ s rows t. IsListed s.rows.items (map kept_change rows) t.rows.items };
+
+    ghost none = { λ s. kept_none s.rows.items };
+
+    ghost then = { λ s t u xs ys first second.
+        kept_then s.rows.items t.rows.items u.rows.items xs ys first second };
+
+    fn add(&mut self, change: ChangeRef<'_>) -> Result<(), NoMemory> {
+        let row = without_use(change.copy(*self.rows.allocator())?);
+        push_row(&mut self.rows, row)
+    }
+}
+
 /// The body of a snapshot.
 impl RowSink for Vec<u8> {
     ghost use Rattle.row_store.specs.Sinks.{IsWritten, written_none, written_then};
@@ -51,6 +75,27 @@ impl RowSink for Vec<u8> {
 
     fn add(&mut self, change: ChangeRef<'_>) -> Result<(), NoMemory> {
         append_row(self, change)
+    }
+}
+
+// A row change whose cookie comes with no last use.
+fn without_use(change: Change) -> Change
+    ensures { plain_change result ≡ kept_change (plain_change change) }
+{
+    match change {
+        Change::CookieInsert {
+            cell,
+            place,
+            mut cookie,
+        } => {
+            cookie.last = 0;
+            Change::CookieInsert {
+                cell,
+                place,
+                cookie,
+            }
+        }
+        other => other,
     }
 }
 

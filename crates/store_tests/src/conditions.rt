@@ -1,9 +1,10 @@
 //! The conditions on the state, each just inside and just outside. The row change that is tested is
 //! the last of a body, so that its offset is the length of the body without it.
+use crate::applying::{applied, apply, is_as_taken};
 use crate::bodies::Edit::{Clear, Insert, Mode, Numbered, Put, Remove, Replace, TakeOut, Weigh};
-use crate::bodies::{Edit, front_of, list_of, put};
+use crate::bodies::{Edit, front_of, list_of, put, snapshot_of};
 use journal::{Replay, ReplayFault};
-use row_store::Rows;
+use row_store::{RowFault, Rows};
 use std::alloc::Global;
 use std::test::Fail;
 use suffix_list::SuffixList;
@@ -227,6 +228,35 @@ fn a_row_change_is_valid_by_the_state(rt: HostRuntime) -> Result<(), Fail> {
     }
     for case in &REPLACED {
         assert!(rt; is_answered(alloc, &list, case)?, "{}", case.name);
+    }
+    Ok(())
+}
+
+// Whether the last row change by itself is applied, or is not valid and leaves the state.
+fn is_applied(alloc: Global, list: &SuffixList, case: &Case) -> Result<bool, Fail> {
+    let mut rows = applied(alloc, list, case.done)?;
+    let answer = apply(alloc, list, &mut rows, case.last)?;
+    let mut body = snapshot_of(alloc, case.done)?;
+    if case.valid {
+        put(&mut body, case.last)?;
+    }
+    let wanted = if case.valid {
+        Ok(())
+    } else {
+        Err(RowFault::Invalid)
+    };
+    Ok(answer == wanted && is_as_taken(alloc, list, &rows, body.as_slice())?)
+}
+
+#[test]
+fn a_row_change_by_itself_is_valid_by_the_state(rt: HostRuntime) -> Result<(), Fail> {
+    let alloc = rt.alloc();
+    let list = list_of(alloc, b"")?;
+    for case in &CASES {
+        assert!(rt; is_applied(alloc, &list, case)?, "{}", case.name);
+    }
+    for case in &REPLACED {
+        assert!(rt; is_applied(alloc, &list, case)?, "{}", case.name);
     }
     Ok(())
 }

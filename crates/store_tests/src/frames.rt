@@ -1,4 +1,5 @@
 //! Frames one after another: what they lead to, and their first faults.
+use crate::applying::{applied, is_as_taken};
 use crate::bodies::Edit::{Clear, Grant, Insert, Mode, Put, Remove, Replace, TakeOut};
 use crate::bodies::{Edit, change_of, list_of, snapshot_of};
 use journal::{Replay, ReplayFault};
@@ -95,6 +96,22 @@ fn each_kind_is_taken(rt: HostRuntime) -> Result<(), Fail> {
         let mut rows = Rows::new(alloc, &list);
         let body = change_of(alloc, case.edits)?;
         assert_eq!(rt; rows.frame(false, body.as_slice()), Ok(1), "{}", case.name);
+    }
+    Ok(())
+}
+
+#[test]
+fn each_kind_is_applied_by_itself(rt: HostRuntime) -> Result<(), Fail> {
+    let alloc = rt.alloc();
+    let list = list_of(alloc, b"")?;
+    for case in &CASES {
+        let rows = applied(alloc, &list, case.edits)?;
+        let body = snapshot_of(alloc, case.edits)?;
+        assert!(rt;
+            is_as_taken(alloc, &list, &rows, body.as_slice())?,
+            "{}",
+            case.name
+        );
     }
     Ok(())
 }

@@ -5,6 +5,8 @@
 #![tactic(auto)]
 
 #[cfg(test)]
+mod applying;
+#[cfg(test)]
 mod bodies;
 #[cfg(test)]
 mod conditions;
@@ -12,3 +14,5 @@ mod conditions;
 mod dumps;
 #[cfg(test)]
 mod frames;
+#[cfg(test)]
+mod spellings;

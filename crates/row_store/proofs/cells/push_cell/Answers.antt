@@ -1,5 +1,5 @@
 -- The cookies of a cell, as all cookies have them.
-use Rattle.std.proofs.Common.{[], ◌∙◌, ap, filter, subst, sym}
+use Rattle.std.proofs.Common.{◌∙◌, filter, subst, sym}
 use Rattle.std.specs.Prelude.{OnOk}
 use Rattle.cookie_jar.specs.Key.{plain_key}
 use Rattle.row_store.specs.Listing.{cookie_rows}

@@ -1,5 +1,5 @@
 -- The cookie at an index, if it is there and is one of these.
-use Rattle.std.proofs.Common.{◌≡◌, ℕ, ◌+◌, true, false, cond, List, [], ◌∷◌, length, take, drop, refl, sym, ap, subst, ◌∙◌, rules, arith}
+use Rattle.std.proofs.Common.{◌≡◌, ℕ, ◌+◌, true, false, cond, List, [], ◌∷◌, length, take, drop, sym, ap, subst, ◌∙◌, rules, arith}
 use Rattle.std.specs.Prelude.{Bool, filter}
 use Rattle.cookie_jar.specs.Key.{plain_key}
 use Rattle.cookie_jar.specs.Cookie.{PlainCookie}

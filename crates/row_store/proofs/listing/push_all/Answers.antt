@@ -1,6 +1,5 @@
 -- What is stored at keys, cookies, and permissions, one behind the other.
 use Rattle.std.proofs.Common.{◌∙◌, ap, map, subst, sym}
-use Rattle.std.specs.Prelude.{OnOk}
 use Rattle.std.proofs.lemmas.Result.{on_ok_weaker}
 use Rattle.std.proofs.lemmas.Simd.{map-map}
 use Rattle.access_grants.specs.Plain.{plain_grant}

@@ -13,5 +13,5 @@ mod site_event;
 pub use difference::first_difference;
 pub use entry::{Entry, HeldJar};
 pub use item::{Item, Restart};
-pub use same::same_item;
+pub use same::{same_cookies, same_item};
 pub use site_event::{DocumentLine, SiteEvent, TopLoad};

@@ -46,8 +46,9 @@ fn same_jar(a: &HeldJar, b: &HeldJar) -> bool
     a.domain == b.domain && same_cookies(&a.jar, &b.jar)
 }
 
-fn same_cookies(a: &Jar, b: &Jar) -> bool
-    ensures { IsTrue result ↔ (a.now.cookies ≡ b.now.cookies) }
+/// Whether two cells have the same cookies in the same places, each in each field alike.
+pub fn same_cookies(a: &Jar, b: &Jar) -> bool
+    ensures same { IsTrue result ↔ (a.now.cookies ≡ b.now.cookies) }
 {
     if a.len() != b.len() {
         return false;

@@ -1,0 +1,6 @@
+-- What contracts cite.
+pub mod GoodHistories
+pub mod Twins
+pub mod Collected
+pub mod Courses
+pub mod Laws

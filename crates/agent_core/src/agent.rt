@@ -1,6 +1,6 @@
 //! The agent over a disk.
-ghost use Rattle.std.specs.Prelude.{◌≡◌, ◌⊎◌, ◌↔◌, ◌≤◌, ◌+◌, ℕ, List, [], Some, Ok, Err, IfOk, IfErr};
-ghost use Rattle.std.specs.Prelude.{IsErrOf, MatchResult, OnErr, OnOk, length, true};
+ghost use Rattle.std.specs.Prelude.{◌≡◌, ◌⊎◌, ◌≤◌, ◌+◌, ℕ, List, [], Some, Ok, Err, IfOk, IfErr};
+ghost use Rattle.std.specs.Prelude.{MatchResult, length, true};
 ghost use Rattle.unwinding.specs.Course.{AtBase};
 ghost use Rattle.unwinding.specs.CourseSteps.{reopened};
 ghost use Rattle.agent_base.specs.Counts.{Rose};
@@ -80,8 +80,8 @@ pub struct Agent<'l, D: Disk + Drop> {
     list: &'l SuffixList,
     now: u64,
     pub(crate) memory: Memory<'l>,
-    batch: OpenBatch,
-    opened: u64,
+    pub(crate) batch: OpenBatch,
+    pub(crate) opened: u64,
     pub(crate) checkpoint: u32,
     pub(crate) power: Power,
     pub(crate) store: Store<D>,

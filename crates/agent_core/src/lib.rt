@@ -7,6 +7,7 @@
 
 mod agent;
 mod checkpoint;
+mod looking;
 mod open_batch;
 mod opening;
 mod outcome;

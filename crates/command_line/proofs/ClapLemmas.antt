@@ -5,12 +5,12 @@ use Rattle.std.specs.Option.{option_map_or}
 use Rattle.std.specs.List.{list_all}
 use Rattle.clap.specs.Words.{App, Row, Rule, Shape, Text, subcommand_of, takes}
 use Rattle.clap.specs.Lexer.{long_of, short_of}
-use Rattle.clap.specs.Simple.{built, entered, label_of, rows_at}
+use Rattle.clap.specs.Simple.{built, entered, label_of, new_shape, rows_at}
 use Rattle.clap.specs.Takes.{bundle_passes, default_passes, entered_passes, is_valid, settle_passes, flag_word_passes, level_passes, other_passes, positional_passes, step_passes, turn_passes, walk_passes, word_passes}
 use Rattle.clap.specs.Walk.{Held, finished, Names, Step, Waiting, Walk, after_step, answers_to, arg_by_index, idle, reading_by, to_positional, positional, trailing, walk, long_or_other, nothing_held, option, plain_word, short_or_plain, subcommand_met, subcommand_or_other, walk_from, walked, word_met}
 use Rattle.clap.specs.declared.builder.ValueParser.TheVariants as parser
 use Rattle.clap.specs.declared.parser.matches.ValueSource.TheVariants.{CommandLine}
-use Rattle.command_line.specs.Program.{bare_app, dump_app, option_rule, place_rule, program_app, replay_app}
+use Rattle.command_line.specs.Program.{bare_app, option_rule, place_rule, program_app}
 
 -- ---- the program as it is built
 
@@ -26,23 +26,33 @@ replay_rules = placed 1 (codes "list") ∷ one (option_rule (codes "store")) ∷
 abbrev pub dump_rules : List Rule
 dump_rules = placed 1 (codes "list") ∷ placed 2 (codes "store") ∷ []
 
-abbrev leaf : App → List Rule → Shape
-leaf app rules = record app.top { rules = rules; no_binary_name = true; disable_help_flag = true; disable_help_subcommand = true; is_built = true }
+abbrev pub selftest_rules : List Rule
+selftest_rules = placed 1 (codes "seed") ∷ []
+
+-- a command of the program, of this name
+abbrev leaf : Text → List Rule → Shape
+leaf name rules = record (new_shape name) { rules = rules; no_binary_name = true; disable_help_flag = true; disable_help_subcommand = true; is_built = true }
 
 abbrev pub replay_leaf : Shape
-replay_leaf = leaf replay_app replay_rules
+replay_leaf = leaf (codes "replay") replay_rules
 
 abbrev pub dump_leaf : Shape
-dump_leaf = leaf dump_app dump_rules
+dump_leaf = leaf (codes "dump") dump_rules
+
+abbrev pub selftest_leaf : Shape
+selftest_leaf = leaf (codes "selftest") selftest_rules
+
+abbrev leaves : List Shape
+leaves = replay_leaf ∷ dump_leaf ∷ selftest_leaf ∷ []
 
 abbrev top : Shape
 top = record bare_app.top { is_leaf = false; is_built = true }
 
 abbrev program_built : App
-program_built = record { top = top; subs = replay_leaf ∷ dump_leaf ∷ [] }
+program_built = record { top = top; subs = leaves }
 
 abbrev commands : Names
-commands = (codes "replay", []) ∷ (codes "dump", []) ∷ []
+commands = (codes "replay", []) ∷ (codes "dump", []) ∷ (codes "selftest", []) ∷ []
 
 built_is : built program_app ≡ program_built
 built_is = refl
@@ -118,16 +128,16 @@ at_value position rows name value = record {
   stopped = None;
 }
 
--- each command begins with a list
-pub begins : (c : Shape) (list : Text) (words : List Text) (rows : List Row) → arg_by_index c.rules 1 ≡ Some (placed 1 (codes "list")) → IsPlain list
-    → Ends c (at_value 2 [] (codes "list") list) words rows → Ends c (walk_from nothing_held) (list ∷ words) rows
+-- each command begins with a word by its place
+pub begins : (c : Shape) (name value : Text) (words : List Text) (rows : List Row) → arg_by_index c.rules 1 ≡ Some (placed 1 name) → IsPlain value
+    → Ends c (at_value 2 [] name value) words rows → Ends c (walk_from nothing_held) (value ∷ words) rows
 unfolding walked
-begins c list words rows first plain =
-    ends_after c (walk_from nothing_held) (at_value 2 [] (codes "list") list) list words rows
-    (ap₂ (λ b (met : Held × Step). b && step_passes c 1 met.0 met.1) (plain_passes c idle list nothing_held plain) (met_plain c.rules idle 1 list nothing_held plain)
+begins c name value words rows first plain =
+    ends_after c (walk_from nothing_held) (at_value 2 [] name value) value words rows
+    (ap₂ (λ b (met : Held × Step). b && step_passes c 1 met.0 met.1) (plain_passes c idle value nothing_held plain) (met_plain c.rules idle 1 value nothing_held plain)
     ∙ ap (λ place. option_map_or (λ a. positional_passes c.rules c.args_override_self a nothing_held) place false) first)
-    (ap (λ (met : Held × Step). after_step c.rules list (walk_from nothing_held) met.0 met.1) (met_plain c.rules idle 1 list nothing_held plain)
-    ∙ ap (λ place. to_positional c.rules place list (walk_from nothing_held) nothing_held) first)
+    (ap (λ (met : Held × Step). after_step c.rules value (walk_from nothing_held) met.0 met.1) (met_plain c.rules idle 1 value nothing_held plain)
+    ∙ ap (λ place. to_positional c.rules place value (walk_from nothing_held) nothing_held) first)
 
 -- ---- the program's own words
 
@@ -139,7 +149,7 @@ at_command name words = record { held = nothing_held; waiting = idle; position =
 pub record IsCommand (name : Text) (c : Shape) : Type 0 where
   pub met : walked [] commands (walk_from nothing_held) name ≡ at_command name []
   pub turn : turn_passes top commands (walk_from nothing_held) name ≡ true
-  pub among : find (λ s. answers_to name (label_of s)) (replay_leaf ∷ dump_leaf ∷ []) ≡ Some c
+  pub among : find (λ s. answers_to name (label_of s)) leaves ≡ Some c
 
 command_walked : (name : Text) (before words : List Text) → fold (walked [] commands) (at_command name before) words ≡ at_command name (before ++ words)
 unfolding walked

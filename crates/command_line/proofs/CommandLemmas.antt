@@ -5,14 +5,15 @@ use Rattle.std.proofs.lemmas.Bool.{and_parts, leb-true}
 use Rattle.std.proofs.lemmas.Slice.Eq.{bytes_eq-Decides}
 use Rattle.clap.specs.Words.{Text}
 use Rattle.command_line.specs.Options.{Pair, default_batch, default_checkpoint, default_start, first_batch, first_start, is_path, last_batch, last_checkpoint, last_start, no_checkpoint, number_of, options_of, value_named}
-use Rattle.command_line.specs.Words.{Dump, Help, IsInRange, PlainCommand, command_of, dump_of, replay_of, run_of}
+use Rattle.command_line.specs.Words.{Dump, Help, IsInRange, PlainCommand, Selftest, command_of, dump_of, first_seed, last_seed, replay_of, run_of, seed_of, selftest_of}
 use Rattle.command_line.proofs.NumberLemmas.{number_in_range}
 
--- what is so of the usage line, of each run and of each dump is so of each command
+-- what is so of each form of command is so of each command
 pub record IsSoOfAll (So : List Text → PlainCommand → Type 0) : Type 0 where
   pub help : So (codes "--help" ∷ []) Help
   pub run : (list : Text) (words : List Text) (options : List Pair) → is_path list ≡ true → options_of words ≡ Some options → So (codes "replay" ∷ list ∷ words) (run_of list options)
   pub dump : (list store : Text) → is_path list ≡ true → is_path store ≡ true → So (codes "dump" ∷ list ∷ store ∷ []) (Dump list store)
+  pub selftest : (text : Text) (seed : ℕ) → seed_of text ≡ Some seed → So (codes "selftest" ∷ text ∷ []) (Selftest seed)
 
 module _ (So : List Text → PlainCommand → Type 0) (all : IsSoOfAll So) where
   replay_is : (list : Text) (words : List Text) → IfSome (replay_of list words) (So (codes "replay" ∷ list ∷ words))
@@ -35,6 +36,14 @@ module _ (So : List Text → PlainCommand → Type 0) (all : IsSoOfAll So) where
       at false paths = tt
   dump_is list (store ∷ more ∷ words) = tt
 
+  selftest_is : (text : Text) (words : List Text) → IfSome (selftest_of text words) (So (codes "selftest" ∷ text ∷ words))
+  selftest_is text [] = at (seed_of text) refl
+    where
+      at : (seed : Option ℕ) → seed_of text ≡ seed → IfSome (option_map Selftest seed) (So (codes "selftest" ∷ text ∷ []))
+      at None is = tt
+      at (Some seed) is = all.selftest text seed is
+  selftest_is text (more ∷ words) = tt
+
   pub command_is : (words : List Text) → IfSome (command_of words) (So words)
   command_is [] = tt
   command_is (word ∷ []) = at (bytes_eq word (codes "--help")) refl
@@ -42,15 +51,20 @@ module _ (So : List Text → PlainCommand → Type 0) (all : IsSoOfAll So) where
       at : (b : Bool) → bytes_eq word (codes "--help") ≡ b → IfSome (cond b (Some Help) None) (So (word ∷ []))
       at true same = subst (λ w. So (w ∷ []) Help) (sym ((bytes_eq-Decides word (codes "--help")).0 same)) all.help
       at false same = tt
-  command_is (word ∷ list ∷ words) = at (bytes_eq word (codes "replay")) (bytes_eq word (codes "dump")) refl refl
+  command_is (word ∷ next ∷ words) =
+      named (codes "replay") (replay_of next words) _ (replay_is next words)
+      (named (codes "dump") (dump_of next words) _ (dump_is next words) (named (codes "selftest") (selftest_of next words) None (selftest_is next words) tt))
     where
-      at : (replay dump : Bool) → bytes_eq word (codes "replay") ≡ replay → bytes_eq word (codes "dump") ≡ dump
-          → IfSome (cond replay (replay_of list words) (cond dump (dump_of list words) None)) (So (word ∷ list ∷ words))
-      at true dump same other = subst (λ w. IfSome (replay_of list words) (So (w ∷ list ∷ words))) (sym ((bytes_eq-Decides word (codes "replay")).0 same)) (replay_is list words)
-      at false true other same = subst (λ w. IfSome (dump_of list words) (So (w ∷ list ∷ words))) (sym ((bytes_eq-Decides word (codes "dump")).0 same)) (dump_is list words)
-      at false false other none = tt
+      -- the words of a command by its name, or of another
+      named : (name : Text) (found other : Option PlainCommand) → IfSome found (So (name ∷ next ∷ words)) → IfSome other (So (word ∷ next ∷ words))
+          → IfSome (cond (bytes_eq word name) found other) (So (word ∷ next ∷ words))
+      named name found other here there = at (bytes_eq word name) refl
+        where
+          at : (b : Bool) → bytes_eq word name ≡ b → IfSome (cond b found other) (So (word ∷ next ∷ words))
+          at true same = subst (λ w. IfSome found (So (w ∷ next ∷ words))) (sym ((bytes_eq-Decides word name).0 same)) here
+          at false differs = there
 
--- ---- the ranges of a run
+-- ---- the ranges of numbers
 
 -- a number that a value says, or the usual one, is in its range
 value_in_range : (first last usual : ℕ) (value : Option Text) → first ≤ usual → usual ≤ last
@@ -74,4 +88,5 @@ command_in_range words = command_is (λ words command. IsInRange command) (recor
   help = tt;
   run = λ list words options path are. run_in_range list options;
   dump = λ list store path other. tt;
+  selftest = λ text seed is. (subst (λ (found : Option ℕ). IfSome found (λ n. (first_seed ≤ n) × (n ≤ last_seed))) is (number_in_range first_seed last_seed text)).1;
 }) words

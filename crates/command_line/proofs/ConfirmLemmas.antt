@@ -1,18 +1,19 @@
--- `clap` takes the words of a run and of a dump, and finds that command.
-use Rattle.std.proofs.Common.{◌≡◌, ◌==◌, ◌&&◌, true, List, [], ◌∷◌, Option, Some, None, IfSome, codes, map, refl, ap, ap₂, subst, ◌∙◌}
-use Rattle.std.specs.Prelude.{bytes_eq}
+-- `clap` takes the words of each command but the usage line, and finds that command.
+use Rattle.std.proofs.Common.{◌≡◌, ℕ, ◌==◌, ◌&&◌, true, List, [], ◌∷◌, Option, Some, None, IfSome, codes, is_some, map, refl, ap, ap₂, subst, ◌∙◌}
+use Rattle.std.specs.Prelude.{bytes_eq, nat_eq}
 use Rattle.std.specs.Option.{option_eq}
 use Rattle.std.proofs.lemmas.Bool.{eq-eqb}
 use Rattle.std.proofs.lemmas.Slice.Eq.{bytes_eq-Decides}
 use Rattle.clap.specs.Words.{Row, Text, subcommand_of, takes}
 use Rattle.command_line.specs.Options.{Pair, batch_of, checkpoint_of, is_path, options_of, start_of, value_named}
 use Rattle.command_line.specs.Program.{is_found, program_app}
-use Rattle.command_line.specs.Words.{Dump, PlainCommand, ReadsList, command_of, run_of}
+use Rattle.command_line.specs.Words.{Dump, PlainCommand, Selftest, TakesMemory, command_of, first_seed, last_seed, run_of, seed_of}
 use Rattle.command_line.proofs.ClapLemmas.{IsTaken, value_row}
 use Rattle.command_line.proofs.CommandLemmas.{command_is}
 use Rattle.command_line.proofs.DumpLemmas.{dump_taken}
-use Rattle.command_line.proofs.OptionLemmas.{batch_option, checkpoint_option, path_plain, start_option, store_option}
+use Rattle.command_line.proofs.OptionLemmas.{batch_option, checkpoint_option, number_plain, path_plain, start_option, store_option}
 use Rattle.command_line.proofs.RunLemmas.{option_found, option_row, run_taken}
+use Rattle.command_line.proofs.SelftestLemmas.{selftest_taken}
 
 -- the words are taken, and what is found is this command
 pub record IsConfirmed (words : List Text) (command : PlainCommand) : Type 0 where
@@ -51,13 +52,20 @@ dump_confirmed list store path other =
     (dump_taken list store (path_plain list path) (path_plain store other))
     (ap₂ (λ x y. x && y) (same_text (Some list)) (same_text (Some store)))
 
-command_confirmed : (words : List Text) → IfSome (command_of words) (λ command. ReadsList command → IsConfirmed words command)
-command_confirmed words = command_is (λ words command. ReadsList command → IsConfirmed words command) (record {
-  help = λ reads. absurd reads;
-  run = λ list words options path are reads. run_confirmed list words options path are;
-  dump = λ list store path other reads. dump_confirmed list store path other;
+selftest_confirmed : (text : Text) (seed : ℕ) → seed_of text ≡ Some seed → IsConfirmed (codes "selftest" ∷ text ∷ []) (Selftest seed)
+selftest_confirmed text seed is =
+    confirmed (codes "selftest") (text ∷ []) (codes "selftest", value_row (codes "seed") text ∷ []) (Selftest seed)
+    (selftest_taken text (number_plain first_seed last_seed text (ap is_some is)))
+    (ap (λ found. option_eq nat_eq found (Some seed)) is ∙ eq-eqb seed seed refl)
+
+command_confirmed : (words : List Text) → IfSome (command_of words) (λ command. TakesMemory command → IsConfirmed words command)
+command_confirmed words = command_is (λ words command. TakesMemory command → IsConfirmed words command) (record {
+  help = λ takes. absurd takes;
+  run = λ list words options path are takes. run_confirmed list words options path are;
+  dump = λ list store path other takes. dump_confirmed list store path other;
+  selftest = λ text seed is takes. selftest_confirmed text seed is;
 }) words
 
-pub command_read : (words : List Text) (command : PlainCommand) → command_of words ≡ Some command → ReadsList command → IsConfirmed words command
+pub command_read : (words : List Text) (command : PlainCommand) → command_of words ≡ Some command → TakesMemory command → IsConfirmed words command
 command_read words command is =
-    subst (λ (found : Option PlainCommand). IfSome found (λ command. ReadsList command → IsConfirmed words command)) is (command_confirmed words)
+    subst (λ (found : Option PlainCommand). IfSome found (λ command. TakesMemory command → IsConfirmed words command)) is (command_confirmed words)

@@ -32,6 +32,6 @@ pub dump_taken : (list store : Text) → IsPlain list → IsPlain store
 dump_taken list store plain other =
     let rows = value_row (codes "list") list ∷ value_row (codes "store") store ∷ [] in
     taken (codes "dump") dump_leaf (list ∷ store ∷ []) rows is_command
-    (begins dump_leaf list (store ∷ []) rows refl plain
+    (begins dump_leaf (codes "list") list (store ∷ []) rows refl plain
     (ends_after dump_leaf (at_list list) (at_store list store) store [] rows (store_turn list store other) (store_walked list store other) (ended list store)))
     refl

@@ -7,4 +7,5 @@ pub mod ClapLemmas
 pub mod OptionLemmas
 pub mod RunLemmas
 pub mod DumpLemmas
+pub mod SelftestLemmas
 pub mod ConfirmLemmas

@@ -135,7 +135,7 @@ pub path_plain : (path : Text) → is_path path ≡ true → IsPlain path
 path_plain [] is = absurd (false≢true is)
 path_plain (first ∷ tail) is = starts_plain first tail (not-true (first == 45) is)
 
-number_plain : (first last : ℕ) (text : Text) → is_some (number_of first last text) ≡ true → IsPlain text
+pub number_plain : (first last : ℕ) (text : Text) → is_some (number_of first last text) ≡ true → IsPlain text
 number_plain first last [] is = absurd (false≢true is)
 number_plain first last (digit ∷ tail) is = at (is_number (digit ∷ tail)) refl is
   where

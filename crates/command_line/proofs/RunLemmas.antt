@@ -118,7 +118,7 @@ run_taken list words options plain are =
     let these : AreOptions words options = subst (λ os. IfSome os (AreOptions words)) are (options_are words) in
     let rows = value_row (codes "list") list ∷ map option_row options in
     taken (codes "replay") replay_leaf (list ∷ words) rows is_command
-    (begins replay_leaf list words rows refl plain
+    (begins replay_leaf (codes "list") list words rows refl plain
     (subst (λ ws. Ends replay_leaf (at_value 2 [] (codes "list") list) ws rows) these.spelled
     (options_end options [] (codes "list") list list_settled refl these.distinct these.all (fresh_behind_list list options these.all))))
     refl

@@ -2,7 +2,7 @@
 use Rattle.std.proofs.Common.{◌≡◌, refl, [], ◌∷◌, Some, None, arith}
 use Rattle.std.specs.Prelude.{codes}
 use Rattle.command_line.specs.Options.{have_distinct_names, number_of, pairs_of}
-use Rattle.command_line.specs.Words.{Dump, Help, IsInRange, ReadsList, Replay, command_of}
+use Rattle.command_line.specs.Words.{Dump, Help, IsInRange, Replay, Selftest, TakesMemory, command_of}
 
 alone : command_of (codes "replay" ∷ codes "l" ∷ []) ≡ Some (Replay (codes "l") None 1 1000 1767225600)
 unfolding pairs_of have_distinct_names
@@ -67,6 +67,27 @@ dumped_with_an_option = refl
 dumped_like_an_option : command_of (codes "dump" ∷ codes "l" ∷ codes "--store" ∷ []) ≡ None
 dumped_like_an_option = refl
 
+tested : command_of (codes "selftest" ∷ codes "7" ∷ []) ≡ Some (Selftest 7)
+tested = refl
+
+tested_with_the_last_seed : command_of (codes "selftest" ∷ codes "4294967295" ∷ []) ≡ Some (Selftest 4294967295)
+tested_with_the_last_seed = refl
+
+tested_past_the_last_seed : command_of (codes "selftest" ∷ codes "4294967296" ∷ []) ≡ None
+tested_past_the_last_seed = refl
+
+tested_with_no_number : command_of (codes "selftest" ∷ codes "-1" ∷ []) ≡ None
+tested_with_no_number = refl
+
+tested_with_an_option : command_of (codes "selftest" ∷ codes "7" ∷ codes "--batch" ∷ codes "1" ∷ []) ≡ None
+tested_with_an_option = refl
+
+tested_with_another_word : command_of (codes "selftest" ∷ codes "7" ∷ codes "7" ∷ []) ≡ None
+tested_with_another_word = refl
+
+tested_with_no_seed : command_of (codes "selftest" ∷ []) ≡ None
+tested_with_no_seed = refl
+
 no_other_command : command_of (codes "twin" ∷ codes "l" ∷ codes "s" ∷ []) ≡ None
 no_other_command = refl
 
@@ -109,8 +130,11 @@ batch_of_none is = omega (arith, is.0)
 batch_too_long : IsInRange (Replay (codes "l") None 257 0 0) → ⊥
 batch_too_long is = omega (arith, is.1)
 
-help_reads_no_list : ReadsList Help → ⊥
-help_reads_no_list is = is
+seed_too_late : IsInRange (Selftest 4294967296) → ⊥
+seed_too_late is = omega (arith, is)
 
-dump_reads_a_list : ReadsList (Dump (codes "l") (codes "s"))
-dump_reads_a_list = tt
+help_takes_no_memory : TakesMemory Help → ⊥
+help_takes_no_memory is = is
+
+selftest_takes_memory : TakesMemory (Selftest 7)
+selftest_takes_memory = tt

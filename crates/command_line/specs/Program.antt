@@ -1,12 +1,12 @@
 -- The command as `clap` is told it, and what it found. Only private functions see it.
 -- Source: none.
-use Rattle.std.specs.Prelude.{Bool, true, false, ◌&&◌, ◌==◌, List, Option, Some, None}
+use Rattle.std.specs.Prelude.{Bool, true, false, ◌&&◌, ◌==◌, List, Option, Some, None, nat_eq}
 use Rattle.std.specs.Prelude.{option_and_then, bytes_eq, codes, if◌then◌else◌}
 use Rattle.std.specs.Option.{option_eq}
 use Rattle.clap.specs.Words.{App, Row, Rule, Text, first_of, new_app, new_rule, with_rule}
 use Rattle.clap.specs.Words.{with_subcommand}
 use Rattle.command_line.specs.Options.{batch_of, checkpoint_of, start_of}
-use Rattle.command_line.specs.Words.{PlainCommand, Help, Replay, Dump}
+use Rattle.command_line.specs.Words.{PlainCommand, Help, Replay, Dump, Selftest, seed_of}
 use Rattle.clap.specs.declared.builder.ArgAction.TheVariants.{Set}
 use Rattle.clap.specs.declared.builder.command.Command.{Command}
 use Rattle.clap.specs.declared.builder.command.Command.TheViews.{out-Command}
@@ -36,6 +36,10 @@ abbrev pub dump_app : App
 dump_app = with_rule (with_rule (new_app (codes "dump")) (place_rule (codes "list")))
     (place_rule (codes "store"))
 
+-- a self-test
+abbrev pub selftest_app : App
+selftest_app = with_rule (new_app (codes "selftest")) (place_rule (codes "seed"))
+
 -- the program's name and its settings, before its commands
 abbrev pub bare_app : App
 bare_app =
@@ -50,7 +54,8 @@ bare_app =
 
 -- the program
 abbrev pub program_app : App
-program_app = with_subcommand (with_subcommand bare_app replay_app.top) dump_app.top
+program_app = with_subcommand
+    (with_subcommand (with_subcommand bare_app replay_app.top) dump_app.top) selftest_app.top
 
 -- the command has an option that is one of its commands' too
 abbrev pub has_globals : Command → Bool
@@ -61,7 +66,7 @@ abbrev pub found_in : (command name : Text) → Option (Text × List Row) → Op
 found_in command name met = option_and_then
     (λ matches. if bytes_eq matches.0 command then first_of name matches.1 else None) met
 
--- what was found is this run or this dump
+-- what was found is this command, which is not the usage line
 abbrev pub is_found : PlainCommand → Option (Text × List Row) → Bool
 is_found Help met = false
 is_found (Replay list store batch checkpoint start) met =
@@ -73,3 +78,5 @@ is_found (Replay list store batch checkpoint start) met =
 is_found (Dump list store) met =
     option_eq bytes_eq (found_in (codes "dump") (codes "list") met) (Some list)
     && option_eq bytes_eq (found_in (codes "dump") (codes "store") met) (Some store)
+is_found (Selftest seed) met = option_eq nat_eq
+    (option_and_then seed_of (found_in (codes "selftest") (codes "seed") met)) (Some seed)

@@ -4,28 +4,37 @@
 use Rattle.std.specs.Prelude.{ℕ, ◌≤◌, ◌&&◌, List, [], ◌∷◌, codes, bytes_eq}
 use Rattle.std.specs.Prelude.{Option, Some, None, option_map, if◌then◌else◌}
 use Rattle.command_line.specs.Options.{Pair, batch_of, checkpoint_of, first_batch, is_path}
-use Rattle.command_line.specs.Options.{last_batch, last_checkpoint, last_start, options_of}
-use Rattle.command_line.specs.Options.{start_of, value_named}
+use Rattle.command_line.specs.Options.{last_batch, last_checkpoint, last_start, number_of}
+use Rattle.command_line.specs.Options.{options_of, start_of, value_named}
 
--- a command: the usage line, a run of a script, or the rows of a store
+-- a command: the usage line, a run of a script, the rows of a store, or the self-test of a seed
 pub data PlainCommand : Type 0 where
   Help : PlainCommand
   Replay : (list : List ℕ) (store : Option (List ℕ)) (batch checkpoint start : ℕ) → PlainCommand
   Dump : (list store : List ℕ) → PlainCommand
+  Selftest : (seed : ℕ) → PlainCommand
 
--- the command reads a list: it is a run or a dump
-abbrev pub ReadsList : PlainCommand → Type 0
-ReadsList Help = ⊥
-ReadsList (Replay list store batch checkpoint start) = Unit {0}
-ReadsList (Dump list store) = Unit {0}
+-- the command takes memory: all but the usage line does
+abbrev pub TakesMemory : PlainCommand → Type 0
+TakesMemory Help = ⊥
+TakesMemory command = Unit {0}
 
--- the batch, the checkpoints and the start of a run are in their ranges
+-- the first seed
+abbrev pub first_seed : ℕ
+first_seed = 0
+
+-- the last seed
+abbrev pub last_seed : ℕ
+last_seed = 4294967295
+
+-- the numbers of a command are in their ranges
 abbrev pub IsInRange : PlainCommand → Type 0
 IsInRange Help = Unit {0}
 IsInRange (Replay list store batch checkpoint start) =
     (first_batch ≤ batch) × (batch ≤ last_batch) × (checkpoint ≤ last_checkpoint)
     × (start ≤ last_start)
 IsInRange (Dump list store) = Unit {0}
+IsInRange (Selftest seed) = seed ≤ last_seed
 
 -- the run that options give under a list
 abbrev pub run_of : List ℕ → List Pair → PlainCommand
@@ -46,10 +55,20 @@ dump_of list (store ∷ []) =
     if is_path list && is_path store then Some (Dump list store) else None
 dump_of list (store ∷ more ∷ words) = None
 
+-- the seed that a text is
+abbrev pub seed_of : List ℕ → Option ℕ
+seed_of text = number_of first_seed last_seed text
+
+-- the self-test of these words behind `selftest`
+abbrev pub selftest_of : List ℕ → List (List ℕ) → Option PlainCommand
+selftest_of seed [] = option_map Selftest (seed_of seed)
+selftest_of seed (more ∷ words) = None
+
 -- the command that words are
 abbrev pub command_of : List (List ℕ) → Option PlainCommand
 command_of [] = None
 command_of (word ∷ []) = if bytes_eq word (codes "--help") then Some Help else None
-command_of (word ∷ list ∷ words) =
-    if bytes_eq word (codes "replay") then replay_of list words
-    else (if bytes_eq word (codes "dump") then dump_of list words else None)
+command_of (word ∷ next ∷ words) =
+    if bytes_eq word (codes "replay") then replay_of next words
+    else (if bytes_eq word (codes "dump") then dump_of next words
+    else (if bytes_eq word (codes "selftest") then selftest_of next words else None))

@@ -5,6 +5,7 @@ ghost use Rattle.command_line.specs.Plain.{plain_command};
 ghost use Rattle.command_line.specs.Words as spec;
 
 use crate::matches::confirms;
+use crate::numbers::seed;
 use crate::options::{are_options, batch_of, checkpoint_of, start_of, value_named};
 use crate::paths::is_path;
 use agent_base::NoMemory;
@@ -35,18 +36,22 @@ pub enum Command<'a> {
         /// The path of the store.
         store: &'a str,
     },
+    /// The self-test of a seed.
+    Selftest {
+        seed: u32,
+    },
 }
 
 /// The command that words are, without the program's name; and `None` where they are none.
 ///
-/// Words that are a run or a dump are taken apart by the crate `clap` besides, which reads the same
-/// from them, and refuses them only for want of memory.
+/// Words of any other command than the usage line are taken apart by the crate `clap` besides,
+/// which reads the same from them, and refuses them only for want of memory.
 pub fn read_words<'a>(alloc: Global, words: &'a [String]) -> Result<Option<Command<'a>>, NoMemory>
     ensures value { IfOk result
         (λ c. option_map plain_command c ≡ spec.command_of (map string_bytes words.now)) }
     ensures range { IfOk result (λ c. IfSome (option_map plain_command c) spec.IsInRange) }
     ensures refused { OnErr result
-        (IfSome (spec.command_of (map string_bytes words.now)) spec.ReadsList) }
+        (IfSome (spec.command_of (map string_bytes words.now)) spec.TakesMemory) }
     ensures command { OnErr result (IsSome (spec.command_of (map string_bytes words.now))) }
 {
     match command_in(words) {
@@ -62,7 +67,7 @@ fn command_in(words: &[String]) -> Option<Command<'_>>
     match words {
         [] => None,
         [word] => help(word),
-        [word, list, rest @ ..] => under_list(word, list, rest),
+        [word, next, rest @ ..] => command_behind(word, next, rest),
     }
 }
 
@@ -76,15 +81,19 @@ fn help<'a>(word: &str) -> Option<Command<'a>>
     }
 }
 
-fn under_list<'a>(word: &str, list: &'a str, rest: &'a [String]) -> Option<Command<'a>>
+// The command of a word, with the words behind it.
+fn command_behind<'a>(word: &str, next: &'a str, rest: &'a [String]) -> Option<Command<'a>>
     ensures { option_map plain_command result
-        ≡ spec.command_of (word.now ∷ list.now ∷ map string_bytes rest.now) }
+        ≡ spec.command_of (word.now ∷ next.now ∷ map string_bytes rest.now) }
 {
     if word == "replay" {
-        return replay(list, rest);
+        return replay(next, rest);
     }
     if word == "dump" {
-        return dump(list, rest);
+        return dump(next, rest);
+    }
+    if word == "selftest" {
+        return selftest(next, rest);
     }
     None
 }
@@ -110,6 +119,16 @@ fn dump<'a>(list: &'a str, rest: &'a [String]) -> Option<Command<'a>>
 {
     match rest {
         [store] if is_path(list) && is_path(store) => Some(Command::Dump { list, store }),
+        _ => None,
+    }
+}
+
+fn selftest<'a>(word: &'a str, rest: &'a [String]) -> Option<Command<'a>>
+    ensures { option_map plain_command result
+        ≡ spec.selftest_of word.now (map string_bytes rest.now) }
+{
+    match (seed(word), rest) {
+        (Some(seed), []) => Some(Command::Selftest { seed }),
         _ => None,
     }
 }

@@ -1,30 +1,32 @@
-//! The words of a run or of a dump, taken apart by `clap`.
+//! The words of a command, taken apart by `clap`.
 ghost use Rattle.std.specs.Prelude.{◌≡◌, Some, IfErr, IfOk, bytes_eq, false};
-ghost use Rattle.std.specs.Prelude.{map, option_map, string_bytes, true};
+ghost use Rattle.std.specs.Prelude.{map, nat_eq, option_and_then, option_map, string_bytes, true};
 ghost use Rattle.std.specs.Option.{option_eq};
 ghost use Rattle.clap.specs.Words.{app_of, kind_of, rule_of, subcommand_of, subcommand_rows_of};
 ghost use Rattle.clap.specs.Words.{takes};
-ghost use Rattle.command_line.specs.Program.{dump_app, found_in, has_globals, option_rule};
-ghost use Rattle.command_line.specs.Program.{place_rule, program_app, replay_app, with_numbers};
+ghost use Rattle.command_line.specs.Program.{bare_app, dump_app, found_in, has_globals};
+ghost use Rattle.command_line.specs.Program.{option_rule, place_rule, program_app, replay_app};
+ghost use Rattle.command_line.specs.Program.{selftest_app, with_numbers};
 ghost use Rattle.command_line.specs.Program as spec;
 ghost use Rattle.command_line.specs.Plain.{plain_command};
-ghost use Rattle.command_line.specs.Words.{ReadsList, command_of};
+ghost use Rattle.command_line.specs.Words.{TakesMemory, command_of};
 
 use crate::commands::Command;
+use crate::numbers::seed as seed_of;
 use crate::options::{batch_of, checkpoint_of, start_of};
 use clap::error::ErrorKind;
 use clap::{Arg, ArgAction, ArgMatches, Error};
 use std::alloc::{AllocError, Global};
 
-/// Whether `clap` reads the same from the words. Want of memory alone stands against it, and only
-/// at a run or a dump: the usage line is asked for without `clap`.
+/// Whether `clap` reads the same from the words. Want of memory alone stands against it, and not
+/// at the usage line, which is asked for without `clap`.
 pub fn confirms(alloc: Global, words: &[String], command: Command<'_>) -> bool
     requires { command_of (map string_bytes words.now) ≡ Some (plain_command command) }
-    ensures { result ≡ false → ReadsList (plain_command command.entry) }
+    ensures { result ≡ false → TakesMemory (plain_command command.entry) }
 {
     match command {
         Command::Help => true,
-        Command::Replay { .. } | Command::Dump { .. } => {
+        Command::Replay { .. } | Command::Dump { .. } | Command::Selftest { .. } => {
             reads(alloc, words, command).unwrap_or(false)
         }
     }
@@ -33,7 +35,7 @@ pub fn confirms(alloc: Global, words: &[String], command: Command<'_>) -> bool
 // Whether `clap` reads this command from the words: it does, or refuses them for want of memory.
 fn reads(alloc: Global, words: &[String], command: Command<'_>) -> Result<bool, Error>
     requires value { command_of (map string_bytes words.now) ≡ Some (plain_command command) }
-    requires list { ReadsList (plain_command command) }
+    requires memory { TakesMemory (plain_command command) }
     ensures finds { spec.is_found (plain_command command.entry)
         (subcommand_of program_app (map string_bytes words.now)) ≡ true }
     ensures same { IfOk result (λ same. same ≡ true) }
@@ -67,6 +69,9 @@ fn is_found(matches: &ArgMatches<'_>, command: Command<'_>) -> bool
         Command::Dump { list, store } => {
             is_same(value_of(matches, "dump", "list"), Some(list))
                 && is_same(value_of(matches, "dump", "store"), Some(store))
+        }
+        Command::Selftest { seed } => {
+            value_of(matches, "selftest", "seed").and_then(seed_of) == Some(seed)
         }
     }
 }
@@ -106,12 +111,21 @@ fn program<'a>(alloc: Global) -> Result<clap::Command<'a>, AllocError>
 {
     let replay = replay(alloc)?;
     let dump = dump(alloc)?;
+    let selftest = selftest(alloc)?;
+    bare(alloc)
+        .subcommand(replay)?
+        .subcommand(dump)?
+        .subcommand(selftest)
+}
+
+// The program before its commands.
+fn bare<'a>(alloc: Global) -> clap::Command<'a>
+    ensures { app_of result ≡ bare_app }
+{
     clap::Command::new(alloc, "cuvandil")
         .no_binary_name(true)
         .disable_help_flag(true)
         .disable_help_subcommand(true)
-        .subcommand(replay)?
-        .subcommand(dump)
 }
 
 fn replay<'a>(alloc: Global) -> Result<clap::Command<'a>, AllocError>
@@ -145,6 +159,13 @@ fn dump<'a>(alloc: Global) -> Result<clap::Command<'a>, AllocError>
     clap::Command::new(alloc, "dump")
         .arg(place(alloc, "list"))?
         .arg(place(alloc, "store"))
+}
+
+fn selftest<'a>(alloc: Global) -> Result<clap::Command<'a>, AllocError>
+    ensures shape { IfOk result (λ command. app_of command ≡ selftest_app) }
+    ensures own { IfOk result (λ command. has_globals command ≡ false) }
+{
+    clap::Command::new(alloc, "selftest").arg(place(alloc, "seed"))
 }
 
 fn place<'a>(alloc: Global, name: &'a str) -> Arg<'a>

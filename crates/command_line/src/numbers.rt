@@ -2,6 +2,13 @@
 ghost use Rattle.std.specs.Prelude.{◌≡◌};
 ghost use Rattle.std.specs.List.{list_all};
 ghost use Rattle.command_line.specs.Options as spec;
+ghost use Rattle.command_line.specs.Words.{seed_of};
+
+/// The first seed.
+const FIRST_SEED: u64 = 0;
+
+/// The last seed.
+const LAST_SEED: u64 = 4_294_967_295;
 
 /// The number of a text of 1 to 12 digits, from the first to the last.
 pub fn number(text: &str, first: u64, last: u64) -> Option<u64>
@@ -13,6 +20,16 @@ pub fn number(text: &str, first: u64, last: u64) -> Option<u64>
     match text.parse::<u64>() {
         Ok(n) => within(first, last, n),
         Err(_) => None,
+    }
+}
+
+/// The seed that a text is.
+pub fn seed(text: &str) -> Option<u32>
+    ensures { result ≡ seed_of text.now }
+{
+    match number(text, FIRST_SEED, LAST_SEED) {
+        Some(n) => Some(n as u32),
+        None => None,
     }
 }
 

@@ -7,10 +7,10 @@ use Rattle.suffix_list.specs.declared.fault.ListFault.{ListFault}
 use Rattle.suffix_list.specs.declared.fault.ListFault.TheVariants as list
 use Rattle.script_lines.specs.Script.{PlainFault, ReadFault, NoDivider, NoMemory}
 use Rattle.script_lines.specs.Plain.{fault_of}
-use Rattle.command_line.specs.Words.{PlainCommand, Help, Replay, Dump}
+use Rattle.command_line.specs.Words.{PlainCommand, Help, Replay, Dump, Selftest}
 use Rattle.replay.specs.declared.status.Status.{Status}
 use Rattle.replay.specs.declared.status.Status.TheVariants.{Done, Usage, Script, List as ListStatus}
-use Rattle.replay.specs.declared.status.Status.TheVariants.{Store, Write}
+use Rattle.replay.specs.declared.status.Status.TheVariants.{Store, Write, Memory}
 
 -- a fault of a list's bytes
 abbrev pub IsOfList : ListFault → Type 0
@@ -46,6 +46,10 @@ DumpCanEnd status = Unit {0}
 abbrev pub CanEnd : Option PlainCommand → Status → Type 0
 CanEnd (Some (Replay list store batch checkpoint start)) status = ScriptCanEnd store status
 CanEnd (Some (Dump list store)) status = DumpCanEnd status
+CanEnd (Some (Selftest seed)) Done = Unit {0}
+CanEnd (Some (Selftest seed)) Write = Unit {0}
+CanEnd (Some (Selftest seed)) Memory = Unit {0}
+CanEnd (Some (Selftest seed)) status = ⊥
 CanEnd (Some Help) Done = Unit {0}
 CanEnd (Some Help) Write = Unit {0}
 CanEnd (Some Help) status = ⊥

@@ -8,6 +8,7 @@ use Rattle.suffix_list.specs.ListText.{RuleList, list_of}
 use Rattle.script_actions.specs.Action.{PlainStep}
 use Rattle.script_lines.specs.Script.{PlainScript}
 use Rattle.script_lines.specs.Grammar.{script_of_bytes}
+use Rattle.selftests.specs.Line.{IsLineOf}
 use Rattle.store_runs.specs.Disks.{WritesInMemory}
 use Rattle.store_runs.specs.declared.ending.Ending.{Ending}
 use Rattle.store_runs.specs.declared.ending.Ending.TheVariants as ending
@@ -78,3 +79,13 @@ abbrev pub WritesUsage : Status → (taken : BeforeAfter (Option (List ℕ))) �
 WritesUsage Done taken = Takes taken.before taken.after usage_line
 WritesUsage Write taken = TakesPrefix taken.before taken.after usage_line
 WritesUsage _ taken = Takes taken.before taken.after []
+
+-- ---- the self-test
+
+-- what the sink took of the self-test of a seed: a line of its day
+abbrev pub WritesSelftest : (seed : ℕ) → Status → (taken : BeforeAfter (Option (List ℕ))) → Type 0
+WritesSelftest seed Done taken =
+    (line : List ℕ) × IsLineOf seed line × Takes taken.before taken.after line
+WritesSelftest seed Write taken =
+    (line : List ℕ) × IsLineOf seed line × TakesPrefix taken.before taken.after line
+WritesSelftest seed _ taken = Takes taken.before taken.after []

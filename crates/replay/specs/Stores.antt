@@ -19,10 +19,11 @@ use Rattle.store_runs.specs.Tidy.{LeavesTidy}
 use Rattle.store_runs.specs.declared.ending.Ending.{Ending}
 use Rattle.store_runs.specs.declared.ending.Ending.TheVariants as ending
 use Rattle.hosts.specs.Hosts.{LeavesOtherStores, LeavesStores}
-use Rattle.command_line.specs.Words.{PlainCommand, Help, Replay, Dump}
+use Rattle.command_line.specs.Words.{PlainCommand, Help, Replay, Dump, Selftest}
 use Rattle.replay.specs.BeforeAfter.{BeforeAfter}
 use Rattle.replay.specs.Openings.{Images, IsExcusedEnding, IsRefused, LeavesOpening, Unopened}
-use Rattle.replay.specs.Runs.{ListRead, RanInMemory, WritesScript, WritesUsage, Written, steps_in}
+use Rattle.replay.specs.Runs.{ListRead, RanInMemory, WritesScript, WritesSelftest, WritesUsage}
+use Rattle.replay.specs.Runs.{Written, steps_in}
 use Rattle.replay.specs.declared.status.Status.{Status}
 
 -- ---- a run
@@ -134,5 +135,7 @@ Writes (Some
 Writes (Some (Dump list store)) status lists tells before after counts left taken =
     Written status taken (λ ended. (read : ListRead (lists list))
     × DumpedRows taken tells (before store) (after store) ended read.list)
+Writes (Some (Selftest seed)) status lists tells before after counts left taken =
+    WritesSelftest seed status taken
 Writes (Some Help) status lists tells before after counts left taken = WritesUsage status taken
 Writes None status lists tells before after counts left taken = Takes taken.before taken.after []

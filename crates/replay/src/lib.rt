@@ -10,6 +10,7 @@ mod dumps;
 mod lists;
 mod runs;
 mod scripts;
+mod seeds;
 mod status;
 mod system;
 mod told;

@@ -14,6 +14,7 @@ ghost use Rattle.replay.specs.Words.{list_told, store_named};
 
 use crate::dumps::dump_store;
 use crate::scripts::replay;
+use crate::seeds::write_selftest;
 use crate::told::USAGE;
 use crate::{Status, tell};
 use agent_base::{NoMemory, Sink, Source, write_all};
@@ -26,7 +27,7 @@ use std::alloc::Global;
 /// Runs the command that the words are. For a run of a script it reads the list that the words
 /// name, reads the whole script, opens the store that they name or makes a new one in memory, and
 /// then runs the lines and writes their replies to `out`. For a dump it writes the rows of the
-/// store, and for `--help` the usage line.
+/// store, for a self-test the line of its seed, and for `--help` the usage line.
 ///
 /// Nothing is written before list, script and store are read. What is opened is closed. A status
 /// other than [`Status::Done`] writes one line to `err`; where that fails, the status stands.
@@ -134,6 +135,7 @@ fn command<H: Host, I: Source, O: Sink>(
         Ok(Some(Command::Dump { list, store })) => dump_store(
             alloc, list, store, host, script, out,
         ),
+        Ok(Some(Command::Selftest { seed })) => write_selftest(alloc, seed, out),
         Ok(None) => Status::Usage,
         Err(NoMemory) => Status::Memory,
     }

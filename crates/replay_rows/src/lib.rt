@@ -36,6 +36,8 @@ mod row;
 #[cfg(test)]
 mod script_faults;
 #[cfg(test)]
+mod seeds;
+#[cfg(test)]
 mod sessions;
 #[cfg(test)]
 mod sizes;

@@ -25,6 +25,12 @@ pub const WORDS: &[(&str, &[&str])] = &[
         "an option before the list",
         &["replay", "--start", "5", "LIST"],
     ),
+    ("a self-test without its seed", &["selftest"]),
+    ("a seed past the last", &["selftest", "4294967296"]),
+    (
+        "a self-test with an option",
+        &["selftest", "7", "--batch", "16"],
+    ),
 ];
 
 pub const LISTS: &[Row] = &[

@@ -81,10 +81,11 @@ pub fn run_of(
 ) -> Result<Ended, Fail>
     requires { list.faults ≡ 0 }
 {
-    make_ended(alloc, REPLAY, list, script, out, err)
+    run_words(alloc, REPLAY, list, script, out, err)
 }
 
-fn make_ended(
+/// Runs the command of some words.
+pub fn run_words(
     alloc: Global,
     line: &[&str],
     list: MemSource,
@@ -141,7 +142,7 @@ impl Lines {
 pub fn check(rt: &impl Abort, alloc: Global, row: &Row) -> Result<(), Fail> {
     let list = source(alloc, row.list, &[])?;
     let script = source(alloc, row.script, &[])?;
-    let ended = make_ended(
+    let ended = run_words(
         alloc,
         row.words,
         list,

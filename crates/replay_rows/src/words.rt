@@ -31,7 +31,7 @@ fn dump<'a>(list: &'a str, store: &'a str) -> Command<'a> {
     Command::Dump { list, store }
 }
 
-fn commands() -> [(&'static str, Command<'static>); 20] {
+fn commands() -> [(&'static str, Command<'static>); 21] {
     [
         ("--help", Command::Help),
         ("replay l", run("l", None, 1, USUAL)),
@@ -68,10 +68,22 @@ fn commands() -> [(&'static str, Command<'static>); 20] {
         ("dump l s", dump("l", "s")),
         ("dump help dump", dump("help", "dump")),
         ("dump s l", dump("s", "l")),
+        ("replay selftest", run("selftest", None, 1, USUAL)),
     ]
 }
 
-const NO_COMMANDS: [&str; 31] = [
+fn selftests() -> [(&'static str, Command<'static>); 3] {
+    [
+        ("selftest 7", Command::Selftest { seed: 7 }),
+        ("selftest 0", Command::Selftest { seed: 0 }),
+        (
+            "selftest 004294967295",
+            Command::Selftest { seed: u32::MAX },
+        ),
+    ]
+}
+
+const NO_COMMANDS: [&str; 37] = [
     "replay l --batch 0",
     "replay l --batch 257",
     "replay l --batch 65537",
@@ -101,6 +113,12 @@ const NO_COMMANDS: [&str; 31] = [
     "dump l -s",
     "dump -l s",
     "dump l s --start 5",
+    "selftest",
+    "selftest 4294967296",
+    "selftest -1",
+    "selftest 7 --batch 1",
+    "selftest seven",
+    "selftest 0000000000007",
     "--help replay l",
     "twin https://a.test l",
 ];
@@ -117,6 +135,10 @@ fn words(alloc: Global, line: &str) -> Result<Vec<String>, Fail> {
 fn words_of_the_command_line(rt: HostRuntime) -> Result<(), Fail> {
     let alloc = rt.alloc();
     for (line, want) in commands() {
+        let words = words(alloc, line)?;
+        assert!(rt; read_words(alloc, &words)? == Some(want), "{line}");
+    }
+    for (line, want) in selftests() {
         let words = words(alloc, line)?;
         assert!(rt; read_words(alloc, &words)? == Some(want), "{line}");
     }

@@ -1,6 +1,7 @@
-//! Tests of runs over stores on disks in memory, by the public calls of `store_runs`.
+//! Tests of runs over stores on disks in memory, by the public calls of `store_runs` and
+//! `selftests`.
 //!
-//! They stand apart from that library, so that it is proved once.
+//! They stand apart from these libraries, so that each is proved once.
 #![tactic(auto)]
 
 #[cfg(test)]
@@ -8,6 +9,10 @@ mod checkpoints;
 #[cfg(test)]
 mod disks;
 #[cfg(test)]
+mod listing;
+#[cfg(test)]
 mod runs;
+#[cfg(test)]
+mod seeds;
 #[cfg(test)]
 mod shared;

@@ -1,0 +1,4 @@
+mod StandardFacts
+pub mod DayLemmas
+pub mod BatchLemmas
+pub mod RunLemmas

@@ -1,5 +1,5 @@
 //! Tests of runs over stores on disks in memory, by the public calls of `store_runs` and
-//! `selftests`.
+//! `selftests`, and of two scripts, by that of `twins`.
 //!
 //! They stand apart from these libraries, so that each is proved once.
 #![tactic(auto)]
@@ -10,6 +10,8 @@ mod checkpoints;
 mod disks;
 #[cfg(test)]
 mod listing;
+#[cfg(test)]
+mod pairs;
 #[cfg(test)]
 mod runs;
 #[cfg(test)]

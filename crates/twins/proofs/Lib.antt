@@ -1,0 +1,4 @@
+pub mod CountLemmas
+pub mod LeadLemmas
+pub mod LineLemmas
+pub mod RunLemmas

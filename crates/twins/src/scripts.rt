@@ -1,0 +1,10 @@
+//! A local script, as it was collected.
+
+use local_items::{Item, Restart};
+
+/// A local script: its entries, and its end, which closes the last epoch.
+#[derive(Debug, Drop)]
+pub struct Script {
+    pub entries: Vec<Item>,
+    pub end: Restart,
+}

@@ -7,7 +7,7 @@ use Rattle.clap.specs.Words.{App, Row, Rule, Shape, Text, subcommand_of, takes}
 use Rattle.clap.specs.Lexer.{long_of, short_of}
 use Rattle.clap.specs.Simple.{built, entered, label_of, new_shape, rows_at}
 use Rattle.clap.specs.Takes.{bundle_passes, default_passes, entered_passes, is_valid, settle_passes, flag_word_passes, level_passes, other_passes, positional_passes, step_passes, turn_passes, walk_passes, word_passes}
-use Rattle.clap.specs.Walk.{Held, finished, Names, Step, Waiting, Walk, after_step, answers_to, arg_by_index, idle, reading_by, to_positional, positional, trailing, walk, long_or_other, nothing_held, option, plain_word, short_or_plain, subcommand_met, subcommand_or_other, walk_from, walked, word_met}
+use Rattle.clap.specs.Walk.{Held, finished, Names, Step, Waiting, Walk, after_step, answers_to, arg_by_index, idle, reading_by, settled, settled_rows, to_positional, positional, pushed, trailing, walk, long_or_other, nothing_held, option, plain_word, short_or_plain, subcommand_met, subcommand_or_other, walk_from, walked, word_met}
 use Rattle.clap.specs.declared.builder.ValueParser.TheVariants as parser
 use Rattle.clap.specs.declared.parser.matches.ValueSource.TheVariants.{CommandLine}
 use Rattle.command_line.specs.Program.{bare_app, option_rule, place_rule, program_app}
@@ -20,8 +20,14 @@ one rule = record rule { range = Some (record { start_inclusive = 1; end_inclusi
 abbrev pub placed : ℕ → Text → Rule
 placed index name = record (one (place_rule name)) { index = Some index }
 
+abbrev number_rules : List Rule
+number_rules = one (option_rule (codes "batch")) ∷ one (option_rule (codes "checkpoint")) ∷ one (option_rule (codes "start")) ∷ []
+
 abbrev pub replay_rules : List Rule
-replay_rules = placed 1 (codes "list") ∷ one (option_rule (codes "store")) ∷ one (option_rule (codes "batch")) ∷ one (option_rule (codes "checkpoint")) ∷ one (option_rule (codes "start")) ∷ []
+replay_rules = placed 1 (codes "list") ∷ one (option_rule (codes "store")) ∷ number_rules
+
+abbrev pub twin_rules : List Rule
+twin_rules = placed 1 (codes "site") ∷ placed 2 (codes "list") ∷ number_rules
 
 abbrev pub dump_rules : List Rule
 dump_rules = placed 1 (codes "list") ∷ placed 2 (codes "store") ∷ []
@@ -30,11 +36,14 @@ abbrev pub selftest_rules : List Rule
 selftest_rules = placed 1 (codes "seed") ∷ []
 
 -- a command of the program, of this name
-abbrev leaf : Text → List Rule → Shape
+abbrev pub leaf : Text → List Rule → Shape
 leaf name rules = record (new_shape name) { rules = rules; no_binary_name = true; disable_help_flag = true; disable_help_subcommand = true; is_built = true }
 
 abbrev pub replay_leaf : Shape
 replay_leaf = leaf (codes "replay") replay_rules
+
+abbrev pub twin_leaf : Shape
+twin_leaf = leaf (codes "twin") twin_rules
 
 abbrev pub dump_leaf : Shape
 dump_leaf = leaf (codes "dump") dump_rules
@@ -43,7 +52,7 @@ abbrev pub selftest_leaf : Shape
 selftest_leaf = leaf (codes "selftest") selftest_rules
 
 abbrev leaves : List Shape
-leaves = replay_leaf ∷ dump_leaf ∷ selftest_leaf ∷ []
+leaves = replay_leaf ∷ twin_leaf ∷ dump_leaf ∷ selftest_leaf ∷ []
 
 abbrev top : Shape
 top = record bare_app.top { is_leaf = false; is_built = true }
@@ -52,7 +61,7 @@ abbrev program_built : App
 program_built = record { top = top; subs = leaves }
 
 abbrev commands : Names
-commands = (codes "replay", []) ∷ (codes "dump", []) ∷ (codes "selftest", []) ∷ []
+commands = (codes "replay", []) ∷ (codes "twin", []) ∷ (codes "dump", []) ∷ (codes "selftest", []) ∷ []
 
 built_is : built program_app ≡ program_built
 built_is = refl
@@ -138,6 +147,27 @@ begins c name value words rows first plain =
     ∙ ap (λ place. option_map_or (λ a. positional_passes c.rules c.args_override_self a nothing_held) place false) first)
     (ap (λ (met : Held × Step). after_step c.rules value (walk_from nothing_held) met.0 met.1) (met_plain c.rules idle 1 value nothing_held plain)
     ∙ ap (λ place. to_positional c.rules place value (walk_from nothing_held) nothing_held) first)
+
+-- the walk behind the second word by its place
+abbrev second_walk : (name value : Text) → Held → Walk
+second_walk name value h = record { held = pushed name value h; waiting = idle; position = 3; is_trailing = false; stopped = None }
+
+-- two commands have a second word by its place
+pub goes_on : (c : Shape) (before first name value : Text) (words : List Text) (rows : List Row) → arg_by_index c.rules 2 ≡ Some (placed 2 name) → bytes_eq before name ≡ false
+    → settled_rows c.rules (Some (before, first ∷ [])) [] ≡ value_row before first ∷ [] → settle_passes c.rules c.args_override_self (at_value 2 [] before first).held ≡ true → IsPlain value
+    → Ends c (at_value 3 (value_row before first ∷ []) name value) words rows → Ends c (at_value 2 [] before first) (value ∷ words) rows
+unfolding walked
+goes_on c before first name value words rows second other settles passes plain =
+    let from = at_value 2 [] before first in
+    ends_after c from (at_value 3 (value_row before first ∷ []) name value) value words rows
+    (ap₂ (λ b (met : Held × Step). b && step_passes c 2 met.0 met.1) (plain_passes c idle value from.held plain) (met_plain c.rules idle 2 value from.held plain)
+    ∙ ap (λ place. option_map_or (λ a. positional_passes c.rules c.args_override_self a from.held) place false) second
+    ∙ ap (λ b. (b && false) || settle_passes c.rules c.args_override_self from.held) other
+    ∙ passes)
+    (ap (λ (met : Held × Step). after_step c.rules value from met.0 met.1) (met_plain c.rules idle 2 value from.held plain)
+    ∙ ap (λ place. to_positional c.rules place value from from.held) second
+    ∙ ap (λ b. second_walk name value (cond (b && false) from.held (settled c.rules from.held))) other
+    ∙ ap (λ rs. second_walk name value (record { rows = rs; pending = None; skip = 0 })) settles)
 
 -- ---- the program's own words
 

@@ -4,14 +4,15 @@ use Rattle.std.specs.Prelude.{bytes_eq, codes}
 use Rattle.std.proofs.lemmas.Bool.{and_parts, leb-true}
 use Rattle.std.proofs.lemmas.Slice.Eq.{bytes_eq-Decides}
 use Rattle.clap.specs.Words.{Text}
-use Rattle.command_line.specs.Options.{Pair, default_batch, default_checkpoint, default_start, first_batch, first_start, is_path, last_batch, last_checkpoint, last_start, no_checkpoint, number_of, options_of, value_named}
-use Rattle.command_line.specs.Words.{Dump, Help, IsInRange, PlainCommand, Selftest, command_of, dump_of, first_seed, last_seed, replay_of, run_of, seed_of, selftest_of}
+use Rattle.command_line.specs.Options.{Pair, batch_of, checkpoint_of, default_batch, default_checkpoint, default_start, first_batch, first_start, is_path, last_batch, last_checkpoint, last_start, no_checkpoint, number_of, options_of, start_of, storeless_of, value_named}
+use Rattle.command_line.specs.Words.{AreInRange, Dump, Help, IsInRange, PlainCommand, Selftest, command_of, comparison_of, dump_of, first_seed, last_seed, replay_of, run_of, seed_of, selftest_of, twin_of}
 use Rattle.command_line.proofs.NumberLemmas.{number_in_range}
 
 -- what is so of each form of command is so of each command
 pub record IsSoOfAll (So : List Text → PlainCommand → Type 0) : Type 0 where
   pub help : So (codes "--help" ∷ []) Help
   pub run : (list : Text) (words : List Text) (options : List Pair) → is_path list ≡ true → options_of words ≡ Some options → So (codes "replay" ∷ list ∷ words) (run_of list options)
+  pub comparison : (site list : Text) (words : List Text) (options : List Pair) → is_path site ≡ true → is_path list ≡ true → storeless_of words ≡ Some options → So (codes "twin" ∷ site ∷ list ∷ words) (comparison_of site list options)
   pub dump : (list store : Text) → is_path list ≡ true → is_path store ≡ true → So (codes "dump" ∷ list ∷ store ∷ []) (Dump list store)
   pub selftest : (text : Text) (seed : ℕ) → seed_of text ≡ Some seed → So (codes "selftest" ∷ text ∷ []) (Selftest seed)
 
@@ -24,6 +25,18 @@ module _ (So : List Text → PlainCommand → Type 0) (all : IsSoOfAll So) where
       at true (Some options) path are = all.run list words options path are
       at true None path are = tt
       at false options path are = tt
+
+  twin_is : (site : Text) (words : List Text) → IfSome (twin_of site words) (So (codes "twin" ∷ site ∷ words))
+  twin_is site [] = tt
+  twin_is site (list ∷ words) = at (is_path site && is_path list) (storeless_of words) refl refl
+    where
+      at : (paths : Bool) (options : Option (List Pair)) → (is_path site && is_path list) ≡ paths → storeless_of words ≡ options
+          → IfSome (cond paths (option_map (comparison_of site list) options) None) (So (codes "twin" ∷ site ∷ list ∷ words))
+      at true (Some options) paths are =
+          let parts = and_parts (is_path site) (is_path list) paths in
+          all.comparison site list words options parts.0 parts.1 are
+      at true None paths are = tt
+      at false options paths are = tt
 
   dump_is : (list : Text) (words : List Text) → IfSome (dump_of list words) (So (codes "dump" ∷ list ∷ words))
   dump_is list [] = tt
@@ -53,7 +66,8 @@ module _ (So : List Text → PlainCommand → Type 0) (all : IsSoOfAll So) where
       at false same = tt
   command_is (word ∷ next ∷ words) =
       named (codes "replay") (replay_of next words) _ (replay_is next words)
-      (named (codes "dump") (dump_of next words) _ (dump_is next words) (named (codes "selftest") (selftest_of next words) None (selftest_is next words) tt))
+      (named (codes "twin") (twin_of next words) _ (twin_is next words)
+      (named (codes "dump") (dump_of next words) _ (dump_is next words) (named (codes "selftest") (selftest_of next words) None (selftest_is next words) tt)))
     where
       -- the words of a command by its name, or of another
       named : (name : Text) (found other : Option PlainCommand) → IfSome found (So (name ∷ next ∷ words)) → IfSome other (So (word ∷ next ∷ words))
@@ -76,8 +90,8 @@ value_in_range first last usual (Some text) low high = at (number_of first last 
     at None is = (low, high)
     at (Some n) is = is
 
-run_in_range : (list : Text) (options : List Pair) → IsInRange (run_of list options)
-run_in_range list options =
+numbers_in_range : (options : List Pair) → AreInRange (batch_of (value_named (codes "--batch") options)) (checkpoint_of (value_named (codes "--checkpoint") options)) (start_of (value_named (codes "--start") options))
+numbers_in_range options =
     let batch = value_in_range first_batch last_batch default_batch (value_named (codes "--batch") options) (leb-true first_batch default_batch refl) (leb-true default_batch last_batch refl) in
     let checkpoint = value_in_range no_checkpoint last_checkpoint default_checkpoint (value_named (codes "--checkpoint") options) (leb-true no_checkpoint default_checkpoint refl) (leb-true default_checkpoint last_checkpoint refl) in
     let start = value_in_range first_start last_start default_start (value_named (codes "--start") options) (leb-true first_start default_start refl) (leb-true default_start last_start refl) in
@@ -86,7 +100,8 @@ run_in_range list options =
 pub command_in_range : (words : List Text) → IfSome (command_of words) IsInRange
 command_in_range words = command_is (λ words command. IsInRange command) (record {
   help = tt;
-  run = λ list words options path are. run_in_range list options;
+  run = λ list words options path are. numbers_in_range options;
+  comparison = λ site list words options path other are. numbers_in_range options;
   dump = λ list store path other. tt;
   selftest = λ text seed is. (subst (λ (found : Option ℕ). IfSome found (λ n. (first_seed ≤ n) × (n ≤ last_seed))) is (number_in_range first_seed last_seed text)).1;
 }) words

@@ -6,6 +6,7 @@ pub mod FoundLemmas
 pub mod ClapLemmas
 pub mod OptionLemmas
 pub mod RunLemmas
+pub mod TwinLemmas
 pub mod DumpLemmas
 pub mod SelftestLemmas
 pub mod ConfirmLemmas

@@ -1,14 +1,14 @@
 -- Names and values by turns, read two by two.
 use Rattle.std.proofs.Common.{◌≡◌, ◌<◌, ◌≤◌, ◌-◌, Bool, true, false, cond, ◌&&◌, ◌||◌, List, [], ◌∷◌, length, take, drop, map, get_or, String, string_bytes}
 use Rattle.std.proofs.Common.{Option, Some, None, IfSome, option_and_then, option_map, refl, ap, ap₂, sym, ◌∙◌, arith, take_all}
-use Rattle.std.specs.Prelude.{bytes_eq, codes, find, is_some, not}
+use Rattle.std.specs.Prelude.{bytes_eq, codes, find, is_none, is_some, not}
 use Rattle.std.specs.List.{list_all, list_any}
 use Rattle.std.specs.declared.alloc.Global.{Global}
 use Rattle.std.proofs.lemmas.Bool.{false≢true}
 use Rattle.clap.specs.Words.{Text}
-use Rattle.command_line.specs.Options.{Pair, batch_of, checkpoint_of, have_distinct_names, is_named, is_option, options_of, pairs_of, start_of, value_named}
+use Rattle.command_line.specs.Options.{Pair, batch_of, checkpoint_of, have_distinct_names, is_named, is_option, options_of, pairs_of, start_of, storeless_of, value_named}
 use Rattle.command_line.specs.Walk.{value_in}
-use Rattle.command_line.specs.Words.{Replay, run_of}
+use Rattle.command_line.specs.Words.{Replay, Twin, comparison_of, run_of}
 
 -- ---- words of a slice
 
@@ -63,7 +63,7 @@ value_of_pairs name (other ∷ value ∷ words) = at (pairs_of words) (value_of_
     at (Some pairs) later = chosen pairs (bytes_eq other name) later
 
 -- a name has a value where it stands
-value_stands : (name : Text) (pairs : List Pair) → is_some (value_named name pairs) ≡ list_any (is_named name) pairs
+pub value_stands : (name : Text) (pairs : List Pair) → is_some (value_named name pairs) ≡ list_any (is_named name) pairs
 value_stands name [] = refl
 value_stands name (pair ∷ pairs) = at (is_named name pair) (value_stands name pairs)
   where
@@ -119,16 +119,60 @@ values_of_options words = at (pairs_of words) (λ name. value_of_pairs name word
     at None found = tt
     at (Some pairs) found = chosen pairs (stand pairs) found
 
+-- what is made of the values that are found among options is made of the options' values
+values_found : {X : Type 0} (make : (store batch checkpoint start : Option Text) → X) (words : List Text) → is_some (options_of words) ≡ true
+    → Some (make (value_in (codes "--store") words) (value_in (codes "--batch") words) (value_in (codes "--checkpoint") words) (value_in (codes "--start") words))
+    ≡ option_map (λ options. make (value_named (codes "--store") options) (value_named (codes "--batch") options) (value_named (codes "--checkpoint") options) (value_named (codes "--start") options)) (options_of words)
+values_found make words = at (options_of words) (values_of_options words)
+  where
+    at : (options : Option (List Pair)) → IfSome options (λ os. (name : Text) → value_in name words ≡ value_named name os) → is_some options ≡ true
+        → Some (make (value_in (codes "--store") words) (value_in (codes "--batch") words) (value_in (codes "--checkpoint") words) (value_in (codes "--start") words))
+        ≡ option_map (λ os. make (value_named (codes "--store") os) (value_named (codes "--batch") os) (value_named (codes "--checkpoint") os) (value_named (codes "--start") os)) options
+    at None found is = absurd (false≢true is)
+    at (Some options) found is =
+        ap₂ (λ store batch. Some (make store batch (value_in (codes "--checkpoint") words) (value_in (codes "--start") words))) (found (codes "--store")) (found (codes "--batch"))
+        ∙ ap₂ (λ checkpoint start. Some (make (value_named (codes "--store") options) (value_named (codes "--batch") options) checkpoint start)) (found (codes "--checkpoint")) (found (codes "--start"))
+
 -- the run of the values that are found among options is the run of the options
 pub run_found : (list : Text) (words : List Text) → is_some (options_of words) ≡ true
     → Some (Replay list (value_in (codes "--store") words) (batch_of (value_in (codes "--batch") words)) (checkpoint_of (value_in (codes "--checkpoint") words)) (start_of (value_in (codes "--start") words)))
     ≡ option_map (run_of list) (options_of words)
-run_found list words = at (options_of words) (values_of_options words)
+run_found list words are = values_found (λ store batch checkpoint start. Replay list store (batch_of batch) (checkpoint_of checkpoint) (start_of start)) words are
+
+-- words are options without the store where they are options and it does not stand
+pub storeless : (words : List Text) → storeless_of words ≡ cond (is_some (value_in (codes "--store") words)) None (options_of words)
+storeless words = at (options_of words) (values_of_options words)
   where
-    at : (options : Option (List Pair)) → IfSome options (λ os. (name : Text) → value_in name words ≡ value_named name os) → is_some options ≡ true
-        → Some (Replay list (value_in (codes "--store") words) (batch_of (value_in (codes "--batch") words)) (checkpoint_of (value_in (codes "--checkpoint") words)) (start_of (value_in (codes "--start") words)))
-        ≡ option_map (run_of list) options
-    at None found is = absurd (false≢true is)
-    at (Some options) found is =
-        ap₂ (λ store batch. Some (Replay list store (batch_of batch) (checkpoint_of (value_in (codes "--checkpoint") words)) (start_of (value_in (codes "--start") words)))) (found (codes "--store")) (found (codes "--batch"))
-        ∙ ap₂ (λ checkpoint start. Some (Replay list (value_named (codes "--store") options) (batch_of (value_named (codes "--batch") options)) (checkpoint_of checkpoint) (start_of start))) (found (codes "--checkpoint")) (found (codes "--start"))
+    none_left : (b : Bool) → ◌≡◌ {A = Option (List Pair)} None (cond b None None)
+    none_left true = refl
+    none_left false = refl
+
+    chosen : (options : List Pair) (store : Option Text) → cond (is_none store) (Some options) None ≡ cond (is_some store) None (Some options)
+    chosen options None = refl
+    chosen options (Some store) = refl
+
+    at : (options : Option (List Pair)) → IfSome options (λ os. (name : Text) → value_in name words ≡ value_named name os)
+        → option_and_then (λ os. cond (is_none (value_named (codes "--store") os)) (Some os) None) options ≡ cond (is_some (value_in (codes "--store") words)) None options
+    at None found = none_left (is_some (value_in (codes "--store") words))
+    at (Some options) found =
+        chosen options (value_named (codes "--store") options)
+        ∙ ap (λ store. cond (is_some store) None (Some options)) (sym (found (codes "--store")))
+
+-- of words that are no options, or have a store, nothing is made
+pub no_options : {X : Type 0} (make : List Pair → X) (words : List Text) → is_some (options_of words) ≡ false → None ≡ option_map make (storeless_of words)
+no_options make words none = at (options_of words) none
+  where
+    at : (options : Option (List Pair)) → is_some options ≡ false → None ≡ option_map make (option_and_then (λ os. cond (is_none (value_named (codes "--store") os)) (Some os) None) options)
+    at None none = refl
+    at (Some options) none = absurd (false≢true (sym none))
+
+pub store_stands : {X : Type 0} (make : List Pair → X) (words : List Text) → is_some (value_in (codes "--store") words) ≡ true → None ≡ option_map make (storeless_of words)
+store_stands make words stands = ap (option_map make) (sym (storeless words ∙ ap (λ b. cond b None (options_of words)) stands))
+
+-- the same of a comparison
+pub comparison_found : (site list : Text) (words : List Text) → is_some (options_of words) ≡ true → is_some (value_in (codes "--store") words) ≡ false
+    → Some (Twin site list (batch_of (value_in (codes "--batch") words)) (checkpoint_of (value_in (codes "--checkpoint") words)) (start_of (value_in (codes "--start") words)))
+    ≡ option_map (comparison_of site list) (storeless_of words)
+comparison_found site list words are none =
+    values_found (λ store batch checkpoint start. Twin site list (batch_of batch) (checkpoint_of checkpoint) (start_of start)) words are
+    ∙ ap (option_map (comparison_of site list)) (sym (storeless words ∙ ap (λ b. cond b None (options_of words)) none))

@@ -2,7 +2,7 @@
 use Rattle.std.proofs.Common.{◌≡◌, refl, [], ◌∷◌, Some, None, arith}
 use Rattle.std.specs.Prelude.{codes}
 use Rattle.command_line.specs.Options.{have_distinct_names, number_of, pairs_of}
-use Rattle.command_line.specs.Words.{Dump, Help, IsInRange, Replay, Selftest, TakesMemory, command_of}
+use Rattle.command_line.specs.Words.{Dump, Help, IsInRange, Replay, Selftest, TakesMemory, Twin, command_of}
 
 alone : command_of (codes "replay" ∷ codes "l" ∷ []) ≡ Some (Replay (codes "l") None 1 1000 1767225600)
 unfolding pairs_of have_distinct_names
@@ -79,16 +79,38 @@ tested_past_the_last_seed = refl
 tested_with_no_number : command_of (codes "selftest" ∷ codes "-1" ∷ []) ≡ None
 tested_with_no_number = refl
 
-tested_with_an_option : command_of (codes "selftest" ∷ codes "7" ∷ codes "--batch" ∷ codes "1" ∷ []) ≡ None
-tested_with_an_option = refl
-
 tested_with_another_word : command_of (codes "selftest" ∷ codes "7" ∷ codes "7" ∷ []) ≡ None
 tested_with_another_word = refl
 
 tested_with_no_seed : command_of (codes "selftest" ∷ []) ≡ None
 tested_with_no_seed = refl
 
-no_other_command : command_of (codes "twin" ∷ codes "l" ∷ codes "s" ∷ []) ≡ None
+tested_with_an_option : command_of (codes "selftest" ∷ codes "7" ∷ codes "--batch" ∷ codes "1" ∷ []) ≡ None
+tested_with_an_option = refl
+
+compared : command_of (codes "twin" ∷ codes "https://a.test" ∷ codes "l" ∷ []) ≡ Some (Twin (codes "https://a.test") (codes "l") 1 1000 1767225600)
+unfolding pairs_of have_distinct_names
+compared = refl
+
+compared_with_all_options : command_of (codes "twin" ∷ codes "s" ∷ codes "l" ∷ codes "--start" ∷ codes "5" ∷ codes "--checkpoint" ∷ codes "0" ∷ codes "--batch" ∷ codes "256" ∷ []) ≡ Some (Twin (codes "s") (codes "l") 256 0 5)
+unfolding pairs_of have_distinct_names
+compared_with_all_options = refl
+
+compared_over_a_store : command_of (codes "twin" ∷ codes "s" ∷ codes "l" ∷ codes "--store" ∷ codes "p" ∷ []) ≡ None
+unfolding pairs_of have_distinct_names
+compared_over_a_store = refl
+
+compared_by_an_option_twice : command_of (codes "twin" ∷ codes "s" ∷ codes "l" ∷ codes "--batch" ∷ codes "2" ∷ codes "--batch" ∷ codes "2" ∷ []) ≡ None
+unfolding pairs_of have_distinct_names
+compared_by_an_option_twice = refl
+
+compared_under_no_list : command_of (codes "twin" ∷ codes "https://a.test" ∷ []) ≡ None
+compared_under_no_list = refl
+
+compared_for_an_option : command_of (codes "twin" ∷ codes "--batch" ∷ codes "l" ∷ []) ≡ None
+compared_for_an_option = refl
+
+no_other_command : command_of (codes "twins" ∷ codes "s" ∷ codes "l" ∷ []) ≡ None
 no_other_command = refl
 
 help_and_more : command_of (codes "--help" ∷ codes "replay" ∷ codes "l" ∷ []) ≡ None
@@ -129,6 +151,9 @@ batch_of_none is = omega (arith, is.0)
 
 batch_too_long : IsInRange (Replay (codes "l") None 257 0 0) → ⊥
 batch_too_long is = omega (arith, is.1)
+
+compared_too_late : IsInRange (Twin (codes "s") (codes "l") 1 0 253402300800) → ⊥
+compared_too_late is = omega (arith, is.3)
 
 seed_too_late : IsInRange (Selftest 4294967296) → ⊥
 seed_too_late is = omega (arith, is)

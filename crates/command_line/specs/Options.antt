@@ -5,7 +5,7 @@
 use Rattle.std.specs.Prelude.{ℕ, Bool, true, false, not, ◌&&◌, ◌||◌, ◌==◌, nat_le}
 use Rattle.std.specs.Prelude.{List, [], ◌∷◌, length, codes}
 use Rattle.std.specs.Prelude.{bytes_eq, Option, Some, None, option_and_then, option_map, unwrap_or}
-use Rattle.std.specs.Prelude.{find, is_some, if◌then◌else◌}
+use Rattle.std.specs.Prelude.{find, is_none, is_some, if◌then◌else◌}
 use Rattle.std.specs.List.{list_all, list_any}
 use Rattle.std.specs.Str.Parse.{digits_value}
 
@@ -102,19 +102,30 @@ last_start = 253402300799
 abbrev pub default_start : ℕ
 default_start = 1767225600
 
--- the pair is an option of a run, and its value is one that it may have
-abbrev pub is_option : Pair → Bool
-is_option pair = (is_named (codes "--store") pair && is_path pair.1)
-    || ((is_named (codes "--batch") pair && is_some (number_of first_batch last_batch pair.1))
+-- the pair is an option that is a number, and its value is one that it may have
+abbrev pub is_number_option : Pair → Bool
+is_number_option pair =
+    (is_named (codes "--batch") pair && is_some (number_of first_batch last_batch pair.1))
     || ((is_named (codes "--checkpoint") pair
     && is_some (number_of no_checkpoint last_checkpoint pair.1))
-    || (is_named (codes "--start") pair && is_some (number_of first_start last_start pair.1))))
+    || (is_named (codes "--start") pair && is_some (number_of first_start last_start pair.1)))
+
+-- the pair is an option of a run, and its value is one that it may have
+abbrev pub is_option : Pair → Bool
+is_option pair =
+    (is_named (codes "--store") pair && is_path pair.1) || is_number_option pair
 
 -- the options that the words are, each at most once
 abbrev pub options_of : List (List ℕ) → Option (List Pair)
 options_of words = option_and_then (λ pairs.
     if have_distinct_names pairs && list_all is_option pairs then Some pairs else None)
     (pairs_of words)
+
+-- the options that the words are, where the store is none of them
+abbrev pub storeless_of : List (List ℕ) → Option (List Pair)
+storeless_of words = option_and_then (λ options.
+    if is_none (value_named (codes "--store") options) then Some options else None)
+    (options_of words)
 
 -- the lines of a batch that a value says
 abbrev pub batch_of : Option (List ℕ) → ℕ

@@ -5,12 +5,14 @@ use Rattle.std.specs.Prelude.{ℕ, ◌≤◌, ◌&&◌, List, [], ◌∷◌, cod
 use Rattle.std.specs.Prelude.{Option, Some, None, option_map, if◌then◌else◌}
 use Rattle.command_line.specs.Options.{Pair, batch_of, checkpoint_of, first_batch, is_path}
 use Rattle.command_line.specs.Options.{last_batch, last_checkpoint, last_start, number_of}
-use Rattle.command_line.specs.Options.{options_of, start_of, value_named}
+use Rattle.command_line.specs.Options.{options_of, start_of, storeless_of, value_named}
 
--- a command: the usage line, a run of a script, the rows of a store, or the self-test of a seed
+-- a command: the usage line, a run of a script, what two scripts give a site, the rows of a store,
+-- or the self-test of a seed
 pub data PlainCommand : Type 0 where
   Help : PlainCommand
   Replay : (list : List ℕ) (store : Option (List ℕ)) (batch checkpoint start : ℕ) → PlainCommand
+  Twin : (site list : List ℕ) (batch checkpoint start : ℕ) → PlainCommand
   Dump : (list store : List ℕ) → PlainCommand
   Selftest : (seed : ℕ) → PlainCommand
 
@@ -27,12 +29,17 @@ first_seed = 0
 abbrev pub last_seed : ℕ
 last_seed = 4294967295
 
+-- the numbers of a run are in their ranges
+abbrev pub AreInRange : (batch checkpoint start : ℕ) → Type 0
+AreInRange batch checkpoint start =
+    (first_batch ≤ batch) × (batch ≤ last_batch) × (checkpoint ≤ last_checkpoint)
+    × (start ≤ last_start)
+
 -- the numbers of a command are in their ranges
 abbrev pub IsInRange : PlainCommand → Type 0
 IsInRange Help = Unit {0}
-IsInRange (Replay list store batch checkpoint start) =
-    (first_batch ≤ batch) × (batch ≤ last_batch) × (checkpoint ≤ last_checkpoint)
-    × (start ≤ last_start)
+IsInRange (Replay list store batch checkpoint start) = AreInRange batch checkpoint start
+IsInRange (Twin site list batch checkpoint start) = AreInRange batch checkpoint start
 IsInRange (Dump list store) = Unit {0}
 IsInRange (Selftest seed) = seed ≤ last_seed
 
@@ -47,6 +54,20 @@ run_of list options = Replay list (value_named (codes "--store") options)
 abbrev pub replay_of : List ℕ → List (List ℕ) → Option PlainCommand
 replay_of list words =
     if is_path list then option_map (run_of list) (options_of words) else None
+
+-- the comparison that options give of a site, under a list
+abbrev pub comparison_of : (site list : List ℕ) → List Pair → PlainCommand
+comparison_of site list options = Twin site list
+    (batch_of (value_named (codes "--batch") options))
+    (checkpoint_of (value_named (codes "--checkpoint") options))
+    (start_of (value_named (codes "--start") options))
+
+-- The comparison of these words behind `twin`. No text of a site is empty or begins with `-`, so
+-- that a word that cannot be a path is none.
+abbrev pub twin_of : List ℕ → List (List ℕ) → Option PlainCommand
+twin_of site [] = None
+twin_of site (list ∷ words) = if is_path site && is_path list
+    then option_map (comparison_of site list) (storeless_of words) else None
 
 -- the dump of these words behind `dump`
 abbrev pub dump_of : List ℕ → List (List ℕ) → Option PlainCommand
@@ -70,5 +91,6 @@ command_of [] = None
 command_of (word ∷ []) = if bytes_eq word (codes "--help") then Some Help else None
 command_of (word ∷ next ∷ words) =
     if bytes_eq word (codes "replay") then replay_of next words
+    else (if bytes_eq word (codes "twin") then twin_of next words
     else (if bytes_eq word (codes "dump") then dump_of next words
-    else (if bytes_eq word (codes "selftest") then selftest_of next words else None))
+    else (if bytes_eq word (codes "selftest") then selftest_of next words else None)))

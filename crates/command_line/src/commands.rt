@@ -1,12 +1,13 @@
 //! Commands.
 ghost use Rattle.std.specs.Prelude.{◌≡◌, ◌∷◌, [], IfOk, IfSome, IsSome, OnErr};
 ghost use Rattle.std.specs.Prelude.{map, option_map, string_bytes};
+ghost use Rattle.command_line.specs.Options.{storeless_of};
 ghost use Rattle.command_line.specs.Plain.{plain_command};
 ghost use Rattle.command_line.specs.Words as spec;
 
 use crate::matches::confirms;
 use crate::numbers::seed;
-use crate::options::{are_options, batch_of, checkpoint_of, start_of, value_named};
+use crate::options::{Numbers, are_options, numbers_of, value_named};
 use crate::paths::is_path;
 use agent_base::NoMemory;
 use std::alloc::Global;
@@ -23,6 +24,19 @@ pub enum Command<'a> {
         /// The path of the store, where the run is not over an empty one in memory.
         store: Option<&'a str>,
         /// How many lines make a batch, whose replies wait until its changes are in the store.
+        batch: u16,
+        /// After how many durable changes a checkpoint is made; 0 is never.
+        checkpoint: u32,
+        /// Where the clock begins, in seconds since 1970.
+        start: u64,
+    },
+    /// Whether two scripts give a site the same.
+    Twin {
+        /// The text of the site. Whether it is one is not looked at here.
+        site: &'a str,
+        /// The path of the suffix list.
+        list: &'a str,
+        /// How many lines make a batch.
         batch: u16,
         /// After how many durable changes a checkpoint is made; 0 is never.
         checkpoint: u32,
@@ -89,6 +103,9 @@ fn command_behind<'a>(word: &str, next: &'a str, rest: &'a [String]) -> Option<C
     if word == "replay" {
         return replay(next, rest);
     }
+    if word == "twin" {
+        return twin(next, rest);
+    }
     if word == "dump" {
         return dump(next, rest);
     }
@@ -105,12 +122,47 @@ fn replay<'a>(list: &'a str, rest: &'a [String]) -> Option<Command<'a>>
     if !is_path(list) || !are_options(rest) {
         return None;
     }
+    let Numbers {
+        batch,
+        checkpoint,
+        start,
+    } = numbers_of(rest);
     Some(Command::Replay {
         list,
         store: value_named(rest, "--store"),
-        batch: batch_of(value_named(rest, "--batch")),
-        checkpoint: checkpoint_of(value_named(rest, "--checkpoint")),
-        start: start_of(value_named(rest, "--start")),
+        batch,
+        checkpoint,
+        start,
+    })
+}
+
+fn twin<'a>(site: &'a str, rest: &'a [String]) -> Option<Command<'a>>
+    ensures { option_map plain_command result ≡ spec.twin_of site.now (map string_bytes rest.now) }
+{
+    match rest {
+        [list, rest @ ..] if is_path(site) && is_path(list) => comparison(site, list, rest),
+        _ => None,
+    }
+}
+
+fn comparison<'a>(site: &'a str, list: &'a str, rest: &'a [String]) -> Option<Command<'a>>
+    ensures { option_map plain_command result ≡ option_map (spec.comparison_of site.now list.now)
+        (storeless_of (map string_bytes rest.now)) }
+{
+    if !are_options(rest) || value_named(rest, "--store").is_some() {
+        return None;
+    }
+    let Numbers {
+        batch,
+        checkpoint,
+        start,
+    } = numbers_of(rest);
+    Some(Command::Twin {
+        site,
+        list,
+        batch,
+        checkpoint,
+        start,
     })
 }
 

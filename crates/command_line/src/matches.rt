@@ -6,7 +6,7 @@ ghost use Rattle.clap.specs.Words.{app_of, kind_of, rule_of, subcommand_of, subc
 ghost use Rattle.clap.specs.Words.{takes};
 ghost use Rattle.command_line.specs.Program.{bare_app, dump_app, found_in, has_globals};
 ghost use Rattle.command_line.specs.Program.{option_rule, place_rule, program_app, replay_app};
-ghost use Rattle.command_line.specs.Program.{selftest_app, with_numbers};
+ghost use Rattle.command_line.specs.Program.{selftest_app, twin_app, with_numbers};
 ghost use Rattle.command_line.specs.Program as spec;
 ghost use Rattle.command_line.specs.Plain.{plain_command};
 ghost use Rattle.command_line.specs.Words.{TakesMemory, command_of};
@@ -26,9 +26,10 @@ pub fn confirms(alloc: Global, words: &[String], command: Command<'_>) -> bool
 {
     match command {
         Command::Help => true,
-        Command::Replay { .. } | Command::Dump { .. } | Command::Selftest { .. } => {
-            reads(alloc, words, command).unwrap_or(false)
-        }
+        Command::Replay { .. }
+        | Command::Twin { .. }
+        | Command::Dump { .. }
+        | Command::Selftest { .. } => reads(alloc, words, command).unwrap_or(false),
     }
 }
 
@@ -62,9 +63,18 @@ fn is_found(matches: &ArgMatches<'_>, command: Command<'_>) -> bool
         } => {
             is_same(value_of(matches, "replay", "list"), Some(list))
                 && is_same(value_of(matches, "replay", "store"), store)
-                && batch_of(value_of(matches, "replay", "batch")) == batch
-                && checkpoint_of(value_of(matches, "replay", "checkpoint")) == checkpoint
-                && start_of(value_of(matches, "replay", "start")) == start
+                && has_numbers(matches, "replay", batch, checkpoint, start)
+        }
+        Command::Twin {
+            site,
+            list,
+            batch,
+            checkpoint,
+            start,
+        } => {
+            is_same(value_of(matches, "twin", "site"), Some(site))
+                && is_same(value_of(matches, "twin", "list"), Some(list))
+                && has_numbers(matches, "twin", batch, checkpoint, start)
         }
         Command::Dump { list, store } => {
             is_same(value_of(matches, "dump", "list"), Some(list))
@@ -74,6 +84,21 @@ fn is_found(matches: &ArgMatches<'_>, command: Command<'_>) -> bool
             value_of(matches, "selftest", "seed").and_then(seed_of) == Some(seed)
         }
     }
+}
+
+fn has_numbers(
+    matches: &ArgMatches<'_>,
+    command: &str,
+    batch: u16,
+    checkpoint: u32,
+    start: u64,
+) -> bool
+    ensures { result ≡ spec.has_numbers command.now batch checkpoint start
+        (subcommand_rows_of matches.now) }
+{
+    batch_of(value_of(matches, command, "batch")) == batch
+        && checkpoint_of(value_of(matches, command, "checkpoint")) == checkpoint
+        && start_of(value_of(matches, command, "start")) == start
 }
 
 fn is_same(found: Option<&str>, text: Option<&str>) -> bool
@@ -110,10 +135,12 @@ fn program<'a>(alloc: Global) -> Result<clap::Command<'a>, AllocError>
     ensures { IfOk result (λ program. app_of program ≡ program_app) }
 {
     let replay = replay(alloc)?;
+    let twin = twin(alloc)?;
     let dump = dump(alloc)?;
     let selftest = selftest(alloc)?;
     bare(alloc)
         .subcommand(replay)?
+        .subcommand(twin)?
         .subcommand(dump)?
         .subcommand(selftest)
 }
@@ -150,6 +177,16 @@ fn with_numbers<'a>(
         .arg(option(alloc, "batch"))?
         .arg(option(alloc, "checkpoint"))?
         .arg(option(alloc, "start"))
+}
+
+fn twin<'a>(alloc: Global) -> Result<clap::Command<'a>, AllocError>
+    ensures shape { IfOk result (λ command. app_of command ≡ twin_app) }
+    ensures own { IfOk result (λ command. has_globals command ≡ false) }
+{
+    let command = clap::Command::new(alloc, "twin")
+        .arg(place(alloc, "site"))?
+        .arg(place(alloc, "list"))?;
+    with_numbers(alloc, command)
 }
 
 fn dump<'a>(alloc: Global) -> Result<clap::Command<'a>, AllocError>

@@ -1,5 +1,5 @@
 //! The options behind the other words: names and values by turns.
-ghost use Rattle.std.specs.Prelude.{◌≡◌, ◌&&◌, is_some, map, not, option_map, string_bytes};
+ghost use Rattle.std.specs.Prelude.{◌≡◌, ◌&&◌, codes, is_some, map, not, option_map, string_bytes};
 ghost use Rattle.command_line.specs.Options as spec;
 ghost use Rattle.command_line.specs.Walk as walk;
 
@@ -32,6 +32,14 @@ const LAST_START: u64 = 253_402_300_799;
 
 /// The moment at which a clock begins where no option says so: 2026-01-01 00:00:00 UTC.
 const DEFAULT_START: u64 = 1_767_225_600;
+
+/// The options of a run that are numbers.
+#[derive(Debug, Clone, Copy)]
+pub struct Numbers {
+    pub batch: u16,
+    pub checkpoint: u32,
+    pub start: u64,
+}
 
 /// Whether the words are options of a run, each at most once.
 pub fn are_options(words: &[String]) -> bool
@@ -81,10 +89,31 @@ pub fn value_named<'a>(words: &'a [String], name: &str) -> Option<&'a str>
 fn is_option(name: &str, value: &str) -> bool
     ensures { result ≡ spec.is_option (name.now, value.now) }
 {
-    (name == "--store" && is_path(value))
-        || (name == "--batch" && batch(value).is_some())
+    (name == "--store" && is_path(value)) || is_number_option(name, value)
+}
+
+fn is_number_option(name: &str, value: &str) -> bool
+    ensures { result ≡ spec.is_number_option (name.now, value.now) }
+{
+    (name == "--batch" && batch(value).is_some())
         || (name == "--checkpoint" && checkpoint(value).is_some())
         || (name == "--start" && start(value).is_some())
+}
+
+/// The numbers of the words, each the usual one where no option says it.
+pub fn numbers_of(words: &[String]) -> Numbers
+    ensures batch { result.batch
+        ≡ spec.batch_of (walk.value_in (codes "--batch") (map string_bytes words.now)) }
+    ensures checkpoint { result.checkpoint
+        ≡ spec.checkpoint_of (walk.value_in (codes "--checkpoint") (map string_bytes words.now)) }
+    ensures start { result.start
+        ≡ spec.start_of (walk.value_in (codes "--start") (map string_bytes words.now)) }
+{
+    Numbers {
+        batch: batch_of(value_named(words, "--batch")),
+        checkpoint: checkpoint_of(value_named(words, "--checkpoint")),
+        start: start_of(value_named(words, "--start")),
+    }
 }
 
 /// The lines of a batch that a value says.

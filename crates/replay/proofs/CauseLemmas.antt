@@ -9,7 +9,8 @@ use Rattle.command_line.specs.Words.{Dump, Replay}
 use Rattle.hosts.specs.Hosts.{LeavesOtherStores, LeavesStores, SameImages, raised}
 use Rattle.replay.specs.BeforeAfter.{BeforeAfter}
 use Rattle.replay.specs.Causes.{DeviceCounts, ListCause, ReadCause, ReadCounts, RoseByStore}
-use Rattle.replay.specs.Loop.{IsAfterList, IsListOf, ScriptCounts, StoreCounts}
+use Rattle.replay.specs.Commands.{IsAfterList, StoreCounts}
+use Rattle.replay.specs.Readings.{IsListOf, ScriptCounts}
 use Rattle.replay.specs.Runs.{ListRead, ReadAndRan, ScriptRead, WritesScript, Written}
 use Rattle.replay.specs.Openings.{Images}
 use Rattle.replay.specs.Stores.{RanOverStore, RanStored}

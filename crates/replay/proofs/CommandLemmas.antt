@@ -1,13 +1,13 @@
 -- What a command leaves and answers that memory does not suffice for, and what a self-test does.
-use Rattle.std.proofs.Common.{◌≡◌, ℕ, Bool, List, Option, Some, None, IfSome, IsSome, refl, inl, subst}
+use Rattle.std.proofs.Common.{◌≡◌, ℕ, Bool, List, Option, Some, None, IfSome, IsSome, refl, inl, inr, subst}
 use Rattle.std.proofs.lemmas.Bool.{false≢true}
 use Rattle.agent_base.proofs.Pieces.{takes_none}
-use Rattle.command_line.specs.Words.{PlainCommand, Help, Replay, Dump, Selftest, TakesMemory}
+use Rattle.command_line.specs.Words.{PlainCommand, Help, Replay, Twin, Dump, Selftest, TakesMemory}
 use Rattle.hosts.specs.Hosts.{LeavesStores}
 use Rattle.replay.specs.BeforeAfter.{BeforeAfter, from_to}
 use Rattle.replay.specs.Causes.{DeviceCounts, ListCause, ReadCause, ReadCounts, ScriptCause, WriteCounts}
 use Rattle.replay.specs.Endings.{CanEnd}
-use Rattle.replay.specs.Loop.{Obeys}
+use Rattle.replay.specs.Commands.{Obeys}
 use Rattle.replay.specs.Openings.{Images}
 use Rattle.replay.specs.Runs.{WritesSelftest}
 use Rattle.replay.specs.declared.status.Status.{Status}
@@ -19,9 +19,9 @@ abbrev pub IsNotUsage : Status → Type 0
 IsNotUsage Usage = ⊥
 IsNotUsage status = Unit {0}
 
--- a command is there, and the status is not `Usage`
-pub no_usage : (status : Status) (command : PlainCommand) → IsNotUsage status → ((status ≡ Usage) → Some command ≡ None) × (Some command ≡ None → status ≡ Usage)
-no_usage status command not = (λ is. absurd (subst IsNotUsage is not), λ is. absurd (false≢true (subst IsSome is refl)))
+-- the status is not `Usage`, whatever would follow of it
+pub no_usage : {T : Type 0} (status : Status) → IsNotUsage status → status ≡ Usage → T
+no_usage status not is = absurd (subst IsNotUsage is not)
 
 pub same_stores : (stores : List ℕ → Images) → LeavesStores stores stores
 same_stores stores path = record { no_more = λ file is. is; no_fewer = λ file is. is }
@@ -35,7 +35,8 @@ module _ {HostStays ScriptStays : Type 0} (lists : List ℕ → Option (List ℕ
   obeys_memory (Some Help) taken out some is = absurd is
   obeys_memory (Some (Replay list None batch checkpoint start)) taken out some is = record {
     text = inl (takes_none taken);
-    usage = no_usage Memory (Replay list None batch checkpoint start) tt;
+    usage = no_usage Memory tt;
+    no_command = λ none. absurd none;
     ends = tt;
     refused = tt;
     list = tt;
@@ -51,7 +52,8 @@ module _ {HostStays ScriptStays : Type 0} (lists : List ℕ → Option (List ℕ
   }
   obeys_memory (Some (Replay list (Some path) batch checkpoint start)) taken out some is = record {
     text = inl (takes_none taken);
-    usage = no_usage Memory (Replay list (Some path) batch checkpoint start) tt;
+    usage = no_usage Memory tt;
+    no_command = λ none. absurd none;
     ends = tt;
     refused = tt;
     list = tt;
@@ -65,9 +67,27 @@ module _ {HostStays ScriptStays : Type 0} (lists : List ℕ → Option (List ℕ
     store_closed = refl;
     others = others_left path stores stores (same_stores stores);
   }
+  obeys_memory (Some (Twin site list batch checkpoint start)) taken out some is = record {
+    text = takes_none taken;
+    usage = no_usage Memory tt;
+    no_command = λ none. inr (tt, refl);
+    ends = tt;
+    refused = tt;
+    list = tt;
+    read = (rose_by_none (from_to host host) (from_to counts counts) refl refl, refl);
+    read_told = tt;
+    device = tt;
+    write = refl;
+    untouched = λ none. host_stays;
+    unread = λ none. script_stays;
+    closed = refl;
+    store_closed = refl;
+    others = same_stores stores;
+  }
   obeys_memory (Some (Dump list path)) taken out some is = record {
     text = inl (takes_none taken);
-    usage = no_usage Memory (Dump list path) tt;
+    usage = no_usage Memory tt;
+    no_command = λ none. absurd none;
     ends = tt;
     refused = tt;
     list = tt;
@@ -83,7 +103,8 @@ module _ {HostStays ScriptStays : Type 0} (lists : List ℕ → Option (List ℕ
   }
   obeys_memory (Some (Selftest seed)) taken out some is = record {
     text = takes_none taken;
-    usage = no_usage Memory (Selftest seed) tt;
+    usage = no_usage Memory tt;
+    no_command = λ none. absurd none;
     ends = tt;
     refused = tt;
     list = tt;
@@ -104,7 +125,8 @@ module _ {HostStays ScriptStays : Type 0} (lists : List ℕ → Option (List ℕ
       → Obeys (Some (Selftest seed)) status lists tells stores stores (from_to left left) taken (from_to host host) (from_to counts counts) (from_to reads reads) (from_to script script) out (from_to lists_out lists_out) None HostStays ScriptStays
   selftest_ended seed status taken out not refused list read read_told device text ends write = record {
     text = text;
-    usage = no_usage status (Selftest seed) not;
+    usage = no_usage status not;
+    no_command = λ none. absurd none;
     ends = ends;
     refused = refused;
     list = list;

@@ -23,7 +23,8 @@ use Rattle.store_runs.specs.declared.ending.Ending.TheVariants as ending
 use Rattle.replay.specs.BeforeAfter.{BeforeAfter, from_to}
 use Rattle.replay.specs.Causes.{ReadCounts, WriteCounts}
 use Rattle.replay.specs.Endings.{DumpCanEnd}
-use Rattle.replay.specs.Loop.{HasRun, HostCounts, IsAfterList, IsListOf, Obeys, StoreCounts, dump_ending}
+use Rattle.replay.specs.Commands.{HasRun, HostCounts, IsAfterList, Obeys, StoreCounts, dump_ending}
+use Rattle.replay.specs.Readings.{IsListOf}
 use Rattle.replay.specs.Runs.{ListRead, Written}
 use Rattle.replay.specs.Openings.{Images, IsExcusedEnding, LeavesOpening, Unopened}
 use Rattle.replay.specs.Stores.{DumpedRows, DumpedStore, WritesRows}
@@ -116,7 +117,8 @@ module _ {HostStays ScriptStays : Type 0} (lists : List ℕ → Option (List ℕ
       record {
         text = written_weaker status taken (λ e. DumpedRows taken told (mid store) (new store) e list) (λ e. (read : ListRead (lists path)) × DumpedRows taken tells (old store) (new store) e read.list)
             (λ e dump. (list_read list (lists path) read, λ tell. dumped_before e (dump (is ∙ tell)))) text;
-        usage = no_usage status (Dump path store) (by_run IsNotUsage tt tt tt tt tt (λ why of. tt) status ran);
+        usage = no_usage status (by_run IsNotUsage tt tt tt tt tt (λ why of. tt) status ran);
+        no_command = λ never. absurd never;
         ends = by_run DumpCanEnd tt tt tt tt tt (λ why of. of) status ran;
         refused = tt;
         list = later_list status (lists path) (by_run IsAfterList tt tt tt tt tt (λ why of. tt) status ran) fine;

@@ -4,4 +4,6 @@ pub mod ScriptLemmas
 pub mod CauseLemmas
 pub mod CommandLemmas
 pub mod ReplayLemmas
+pub mod TwinLemmas
+pub mod TwinFacts
 pub mod DumpLemmas

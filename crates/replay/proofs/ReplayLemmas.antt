@@ -2,11 +2,13 @@
 use Rattle.std.proofs.Common.{◌≡◌, ℕ, Bool, true, false, List, Option, Some, None, ◌∙◌}
 use Rattle.suffix_list.specs.ListText.{RuleList}
 use Rattle.command_line.specs.Words.{Replay}
+use Rattle.script_lines.specs.Grammar.{script_of_bytes}
 use Rattle.hosts.specs.Hosts.{LeavesOtherStores, LeavesStores}
 use Rattle.replay.specs.BeforeAfter.{BeforeAfter}
 use Rattle.replay.specs.Causes.{ReadCounts, ReadsNoScript, ScriptCauseOf, WriteCounts}
 use Rattle.replay.specs.Endings.{ScriptCanEnd}
-use Rattle.replay.specs.Loop.{IsAfterList, IsListOf, Obeys, ScriptCounts, StoreCounts}
+use Rattle.replay.specs.Commands.{IsAfterList, Obeys, StoreCounts}
+use Rattle.replay.specs.Readings.{IsListOf, ScriptCounts}
 use Rattle.replay.specs.Runs.{RanInMemory, ScriptRead, Written}
 use Rattle.replay.specs.Openings.{Images}
 use Rattle.replay.specs.Stores.{RanStored}
@@ -45,13 +47,14 @@ module _ {HostStays ScriptStays : Type 0} (lists : List ℕ → Option (List ℕ
   -- the script ran over a new store in memory, and the host was left as it was when the list was read
   pub obeys_new : (list : RuleList) → IsListOf (lists path) list → LeavesStores old mid → host.after ≡ host.before → counts.after ≡ counts.before → lists_out.after ≡ lists_out.before → (store_out : Option (List ℕ)) → store_out ≡ None
       → Written status taken (λ e. (read : ScriptRead true left) × RanInMemory start batch checkpoint taken e list read.script)
-      → ScriptCanEnd None status → IsAfterList status → ScriptCauseOf true status left.before → ScriptCounts status script → WriteCounts status out
+      → ScriptCanEnd None status → IsAfterList status → ScriptCauseOf (script_of_bytes true) status left.before → ScriptCounts status script → WriteCounts status out
       → Obeys (Some (Replay path None batch checkpoint start)) status lists tells old mid left taken host counts reads script out lists_out store_out HostStays ScriptStays
   obeys_new list read stores still none closed store_out store_closed text ends later cause script_counts write =
       let fine = list_fine (lists path) list read in
       record {
         text = writes_under status true (lists path) left taken list (RanInMemory start batch checkpoint taken) read text;
-        usage = no_usage status (Replay path None batch checkpoint start) (later_usage status later);
+        usage = no_usage status (later_usage status later);
+        no_command = λ never. absurd never;
         ends = ends;
         refused = cause;
         list = later_list status (lists path) later fine;
@@ -69,7 +72,7 @@ module _ {HostStays ScriptStays : Type 0} (lists : List ℕ → Option (List ℕ
   -- the script ran over the store of a path
   pub obeys_stored : (store : List ℕ) (list : RuleList) (told : Bool) → IsListOf (lists path) list → LeavesStores old mid → told ≡ tells → lists_out.after ≡ lists_out.before → (store_out : Option (List ℕ)) → store_out ≡ None
       → Written status taken (λ e. (read : ScriptRead false left) × RanStored start batch checkpoint taken counts told (mid store) (new store) e list read.script)
-      → ScriptCanEnd (Some store) status → IsAfterList status → ScriptCauseOf false status left.before → ReadCounts status host counts script → (told ≡ true → StoreCounts status counts) → WriteCounts status out → LeavesOtherStores store mid new
+      → ScriptCanEnd (Some store) status → IsAfterList status → ScriptCauseOf (script_of_bytes false) status left.before → ReadCounts status host counts script → (told ≡ true → StoreCounts status counts) → WriteCounts status out → LeavesOtherStores store mid new
       → Obeys (Some (Replay path (Some store) batch checkpoint start)) status lists tells old new left taken host counts reads script out lists_out store_out HostStays ScriptStays
   obeys_stored store list told read stores is closed store_out store_closed text ends later cause read_counts device write others =
       let fine = list_fine (lists path) list read in
@@ -79,7 +82,8 @@ module _ {HostStays ScriptStays : Type 0} (lists : List ℕ → Option (List ℕ
             (written_weaker status taken (λ e. (read : ScriptRead false left) × RanStored start batch checkpoint taken counts told (mid store) (new store) e list read.script)
             (λ e. (read : ScriptRead false left) × RanStored start batch checkpoint taken counts tells (old store) (new store) e list read.script)
             (λ e ran. (ran.0, stored_before start batch checkpoint taken counts (old store) (mid store) (new store) same tells told is e list ran.0.script ran.1)) text);
-        usage = no_usage status (Replay path (Some store) batch checkpoint start) (later_usage status later);
+        usage = no_usage status (later_usage status later);
+        no_command = λ never. absurd never;
         ends = ends;
         refused = cause;
         list = later_list status (lists path) later fine;

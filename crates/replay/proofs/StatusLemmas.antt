@@ -4,7 +4,7 @@ use Rattle.store_runs.specs.declared.ending.Ending.{Ending}
 use Rattle.store_runs.specs.declared.ending.Ending.TheVariants as ending
 use Rattle.replay.specs.BeforeAfter.{BeforeAfter}
 use Rattle.replay.specs.Runs.{Written}
-use Rattle.replay.specs.Loop.{status_of}
+use Rattle.replay.specs.Commands.{status_of}
 use Rattle.replay.specs.declared.status.Status.{Status}
 use Rattle.replay.specs.declared.status.Status.TheVariants.{Done, Usage, Script, List as ListStatus, Store, Read, Write, Device, Memory}
 

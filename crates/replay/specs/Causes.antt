@@ -2,17 +2,19 @@
 -- Source: none.
 -- Our own choice: the statuses, and the order in which words, list, script and store are read.
 use Rattle.std.specs.Prelude.{◌≡◌, ◌⊎◌, ℕ, Bool, true, false, List, Option, Some, None, IfSome, Err}
-use Rattle.std.specs.Prelude.{IsOk}
+use Rattle.std.specs.Prelude.{IsOk, Result}
 use Rattle.agent_base.specs.Counts.{Rose}
 use Rattle.agent_base.specs.Streams.{Takes, TakesPrefix}
 use Rattle.suffix_list.specs.ListText.{list_of}
 use Rattle.script_lines.specs.Script.{PlainFault}
 use Rattle.script_lines.specs.Grammar.{script_of_bytes}
+use Rattle.script_lines.specs.TwoScripts.{two_of_bytes}
 use Rattle.script_lines.specs.Plain.{fault_of}
 use Rattle.hosts.specs.Hosts.{raised}
-use Rattle.command_line.specs.Words.{PlainCommand, Replay, Dump}
+use Rattle.command_line.specs.Words.{PlainCommand, Replay, Twin, Dump}
 use Rattle.replay.specs.BeforeAfter.{BeforeAfter}
 use Rattle.replay.specs.FaultLines.{fault_line}
+use Rattle.replay.specs.Words.{IsNoSite}
 use Rattle.replay.specs.declared.status.Status.{Status}
 use Rattle.replay.specs.declared.status.Status.TheVariants.{Done, Script, List as ListStatus}
 use Rattle.replay.specs.declared.status.Status.TheVariants.{Store, Read, Write, Device}
@@ -24,28 +26,35 @@ abbrev pub allows_cuts : (store : Option (List ℕ)) → Bool
 allows_cuts None = true
 allows_cuts (Some path) = false
 
--- the bytes of a script, where they are told, have this fault first, or none
-abbrev pub ScriptFaulty : (cuts_allowed : Bool) → Option (List ℕ) → PlainFault → Type 0
-ScriptFaulty cuts_allowed told why =
-    IfSome told (λ bytes. script_of_bytes cuts_allowed bytes ≡ Err why)
+-- what bytes are as one script, or as two
+abbrev pub GrammarOf : Type 0 → Type 0
+GrammarOf Scripts = List ℕ → Result Scripts PlainFault
 
-abbrev pub ScriptFine : (cuts_allowed : Bool) → Option (List ℕ) → Type 0
-ScriptFine cuts_allowed told = IfSome told (λ bytes. IsOk (script_of_bytes cuts_allowed bytes))
+-- bytes, where they are told, have this fault first in a grammar, or none
+abbrev pub ScriptFaulty : {Scripts : Type 0}
+    → GrammarOf Scripts → Option (List ℕ) → PlainFault → Type 0
+ScriptFaulty grammar told why = IfSome told (λ bytes. grammar bytes ≡ Err why)
 
--- why a script is refused: this is its first fault. Every status after that step shows that it has
--- none.
-abbrev pub ScriptCauseOf : (cuts_allowed : Bool) → Status → Option (List ℕ) → Type 0
-ScriptCauseOf cuts_allowed (Script why) told = ScriptFaulty cuts_allowed told (fault_of why)
-ScriptCauseOf cuts_allowed Done told = ScriptFine cuts_allowed told
-ScriptCauseOf cuts_allowed Write told = ScriptFine cuts_allowed told
-ScriptCauseOf cuts_allowed Device told = ScriptFine cuts_allowed told
-ScriptCauseOf cuts_allowed (Store why) told = ScriptFine cuts_allowed told
-ScriptCauseOf cuts_allowed status told = Unit {0}
+abbrev pub ScriptFine : {Scripts : Type 0} → GrammarOf Scripts → Option (List ℕ) → Type 0
+ScriptFine grammar told = IfSome told (λ bytes. IsOk (grammar bytes))
 
--- the same of a command; others than runs of scripts read none
+-- why one script is refused, or two: this is the first fault. Every status after that step shows
+-- that there is none.
+abbrev pub ScriptCauseOf : {Scripts : Type 0}
+    → GrammarOf Scripts → Status → Option (List ℕ) → Type 0
+ScriptCauseOf grammar (Script why) told = ScriptFaulty grammar told (fault_of why)
+ScriptCauseOf grammar Done told = ScriptFine grammar told
+ScriptCauseOf grammar Write told = ScriptFine grammar told
+ScriptCauseOf grammar Device told = ScriptFine grammar told
+ScriptCauseOf grammar (Store why) told = ScriptFine grammar told
+ScriptCauseOf grammar status told = Unit {0}
+
+-- the same of a command; others than runs and comparisons of scripts read none
 abbrev pub ScriptCause : Option PlainCommand → Status → Option (List ℕ) → Type 0
 ScriptCause (Some (Replay list store batch checkpoint start)) status told =
-    ScriptCauseOf (allows_cuts store) status told
+    ScriptCauseOf (script_of_bytes (allows_cuts store)) status told
+ScriptCause (Some (Twin site list batch checkpoint start)) status told =
+    ScriptCauseOf two_of_bytes status told
 ScriptCause command status told = Unit {0}
 
 -- why the list is refused: this is its first fault. Every status after that step shows that it has
@@ -103,16 +112,20 @@ ReadCause store status told host reads script = Unit {0}
 
 -- ---- what is left alone
 
--- the words name no list
+-- the words name no list, or their word for a site is none
 abbrev pub OpensNoList : Option PlainCommand → Type 0
 OpensNoList (Some (Replay list store batch checkpoint start)) = ⊥
+OpensNoList (Some (Twin site list batch checkpoint start)) = IsNoSite site
 OpensNoList (Some (Dump list store)) = ⊥
 OpensNoList command = Unit {0}
 
--- the words name no script, or the list is refused: the script is not read
+-- the words name no script, or their word for a site is none, or the list is refused: the script
+-- is not read
 abbrev pub ReadsNoScript : Option PlainCommand → Status → Type 0
 ReadsNoScript (Some (Replay list store batch checkpoint start)) (ListStatus why) = Unit {0}
 ReadsNoScript (Some (Replay list store batch checkpoint start)) status = ⊥
+ReadsNoScript (Some (Twin site list batch checkpoint start)) (ListStatus why) = Unit {0}
+ReadsNoScript (Some (Twin site list batch checkpoint start)) status = IsNoSite site
 ReadsNoScript command status = Unit {0}
 
 -- ---- standard error

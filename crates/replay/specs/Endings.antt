@@ -7,10 +7,11 @@ use Rattle.suffix_list.specs.declared.fault.ListFault.{ListFault}
 use Rattle.suffix_list.specs.declared.fault.ListFault.TheVariants as list
 use Rattle.script_lines.specs.Script.{PlainFault, ReadFault, NoDivider, NoMemory}
 use Rattle.script_lines.specs.Plain.{fault_of}
-use Rattle.command_line.specs.Words.{PlainCommand, Help, Replay, Dump, Selftest}
+use Rattle.command_line.specs.Words.{PlainCommand, Help, Replay, Twin, Dump, Selftest}
+use Rattle.replay.specs.Words.{IsNoSite, IsSite}
 use Rattle.replay.specs.declared.status.Status.{Status}
 use Rattle.replay.specs.declared.status.Status.TheVariants.{Done, Usage, Script, List as ListStatus}
-use Rattle.replay.specs.declared.status.Status.TheVariants.{Store, Write, Memory}
+use Rattle.replay.specs.declared.status.Status.TheVariants.{Store, Write, Device, Memory}
 
 -- a fault of a list's bytes
 abbrev pub IsOfList : ListFault → Type 0
@@ -25,6 +26,12 @@ IsOfScript NoDivider = ⊥
 IsOfScript NoMemory = ⊥
 IsOfScript why = Unit {0}
 
+-- a fault of the bytes of two scripts
+abbrev pub IsOfTwoScripts : PlainFault → Type 0
+IsOfTwoScripts ReadFault = ⊥
+IsOfTwoScripts NoMemory = ⊥
+IsOfTwoScripts why = Unit {0}
+
 -- the statuses with which a run of a script can end; over a store in memory no file is refused
 abbrev pub ScriptCanEnd : (store : Option (List ℕ)) → Status → Type 0
 ScriptCanEnd store Usage = ⊥
@@ -33,6 +40,17 @@ ScriptCanEnd store (ListStatus why) = IsOfList why
 ScriptCanEnd None (Store why) = ⊥
 ScriptCanEnd (Some path) (Store why) = IsOfFile why
 ScriptCanEnd store status = Unit {0}
+
+-- the statuses with which a comparison of two scripts can end, whose word for a site is this. All
+-- but `Usage` and `Memory` come of a site alone.
+abbrev pub TwinCanEnd : (site : List ℕ) → Status → Type 0
+TwinCanEnd site Usage = IsNoSite site
+TwinCanEnd site (Script why) = IsSite site × IsOfTwoScripts (fault_of why)
+TwinCanEnd site (ListStatus why) = IsSite site × IsOfList why
+TwinCanEnd site (Store why) = ⊥
+TwinCanEnd site Device = ⊥
+TwinCanEnd site Memory = Unit {0}
+TwinCanEnd site status = IsSite site
 
 -- the statuses with which a dump can end
 abbrev pub DumpCanEnd : Status → Type 0
@@ -45,6 +63,7 @@ DumpCanEnd status = Unit {0}
 -- the statuses with which a command can end
 abbrev pub CanEnd : Option PlainCommand → Status → Type 0
 CanEnd (Some (Replay list store batch checkpoint start)) status = ScriptCanEnd store status
+CanEnd (Some (Twin site list batch checkpoint start)) status = TwinCanEnd site status
 CanEnd (Some (Dump list store)) status = DumpCanEnd status
 CanEnd (Some (Selftest seed)) Done = Unit {0}
 CanEnd (Some (Selftest seed)) Write = Unit {0}

@@ -3,10 +3,12 @@ pub mod BeforeAfter
 pub mod FaultLines
 pub mod Words
 pub mod Runs
+pub mod Twins
 pub mod Openings
 pub mod Stores
 pub mod Endings
 pub mod Causes
 -- What private functions compute. No public clause rests on it.
 pub mod LineParts
-pub mod Loop
+pub mod Readings
+pub mod Commands

@@ -80,12 +80,17 @@ WritesUsage Done taken = Takes taken.before taken.after usage_line
 WritesUsage Write taken = TakesPrefix taken.before taken.after usage_line
 WritesUsage _ taken = Takes taken.before taken.after []
 
+-- ---- a line
+
+-- what the sink took of a command that prints one line, of which this holds
+abbrev pub WritesLine : Status → (taken : BeforeAfter (Option (List ℕ)))
+    → (Is : List ℕ → Type 0) → Type 0
+WritesLine Done taken Is = (line : List ℕ) × Is line × Takes taken.before taken.after line
+WritesLine Write taken Is = (line : List ℕ) × Is line × TakesPrefix taken.before taken.after line
+WritesLine _ taken Is = Takes taken.before taken.after []
+
 -- ---- the self-test
 
 -- what the sink took of the self-test of a seed: a line of its day
 abbrev pub WritesSelftest : (seed : ℕ) → Status → (taken : BeforeAfter (Option (List ℕ))) → Type 0
-WritesSelftest seed Done taken =
-    (line : List ℕ) × IsLineOf seed line × Takes taken.before taken.after line
-WritesSelftest seed Write taken =
-    (line : List ℕ) × IsLineOf seed line × TakesPrefix taken.before taken.after line
-WritesSelftest seed _ taken = Takes taken.before taken.after []
+WritesSelftest seed status taken = WritesLine status taken (IsLineOf seed)

@@ -19,11 +19,12 @@ use Rattle.store_runs.specs.Tidy.{LeavesTidy}
 use Rattle.store_runs.specs.declared.ending.Ending.{Ending}
 use Rattle.store_runs.specs.declared.ending.Ending.TheVariants as ending
 use Rattle.hosts.specs.Hosts.{LeavesOtherStores, LeavesStores}
-use Rattle.command_line.specs.Words.{PlainCommand, Help, Replay, Dump, Selftest}
+use Rattle.command_line.specs.Words.{PlainCommand, Help, Replay, Twin, Dump, Selftest}
 use Rattle.replay.specs.BeforeAfter.{BeforeAfter}
 use Rattle.replay.specs.Openings.{Images, IsExcusedEnding, IsRefused, LeavesOpening, Unopened}
 use Rattle.replay.specs.Runs.{ListRead, RanInMemory, WritesScript, WritesSelftest, WritesUsage}
 use Rattle.replay.specs.Runs.{Written, steps_in}
+use Rattle.replay.specs.Twins.{WritesTwin}
 use Rattle.replay.specs.declared.status.Status.{Status}
 
 -- ---- a run
@@ -132,6 +133,10 @@ Writes (Some
     (Some store) batch checkpoint start)) status lists tells before after counts left taken =
     WritesScript status false (lists list) left taken
     (RanStored start batch checkpoint taken counts tells (before store) (after store))
+Writes (Some
+    (Twin site list batch checkpoint
+    start)) status lists tells before after counts left taken =
+    WritesTwin site start batch status (lists list) left taken
 Writes (Some (Dump list store)) status lists tells before after counts left taken =
     Written status taken (λ ended. (read : ListRead (lists list))
     × DumpedRows taken tells (before store) (after store) ended read.list)

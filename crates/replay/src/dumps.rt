@@ -4,8 +4,8 @@ ghost use Rattle.command_line.specs.Words.{Dump};
 ghost use Rattle.hosts.specs.Hosts.{LeavesOtherStores};
 ghost use Rattle.replay.specs.BeforeAfter.{from_to};
 ghost use Rattle.replay.specs.Causes.{WriteCounts};
-ghost use Rattle.replay.specs.Loop.{HasRun, HostCounts, Obeys, StoreCounts, dump_ending};
-ghost use Rattle.replay.specs.Loop.{status_of};
+ghost use Rattle.replay.specs.Commands.{HasRun, HostCounts, Obeys, StoreCounts, dump_ending};
+ghost use Rattle.replay.specs.Commands.{status_of};
 ghost use Rattle.replay.specs.Runs.{Written};
 ghost use Rattle.replay.specs.Stores.{DumpedRows};
 

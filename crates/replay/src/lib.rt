@@ -8,6 +8,7 @@
 
 mod dumps;
 mod lists;
+mod pairs;
 mod runs;
 mod scripts;
 mod seeds;

@@ -2,7 +2,7 @@
 ghost use Rattle.std.specs.Prelude.{◌≡◌, IfErr, IfOk, OnOk};
 ghost use Rattle.hosts.specs.Hosts.{LeavesStores};
 ghost use Rattle.replay.specs.BeforeAfter.{from_to};
-ghost use Rattle.replay.specs.Loop.{IsListOf, ListRefusal, ListUnread};
+ghost use Rattle.replay.specs.Readings.{IsListOf, ListRefusal, ListUnread};
 
 use crate::Status;
 use agent_base::Fault;

@@ -1,5 +1,5 @@
 //! The run of a command.
-ghost use Rattle.std.specs.Prelude.{◌≡◌, ◌≤◌, ◌⊎◌, ◌↔◌, map, Some, None, string_bytes};
+ghost use Rattle.std.specs.Prelude.{◌≡◌, ◌≤◌, ◌⊎◌, map, Some, None, string_bytes};
 ghost use Rattle.command_line.specs.Words.{Help, command_of};
 ghost use Rattle.printed_model.specs.Histories.{HasOneText, HasSameLines, HasSiteLines};
 ghost use Rattle.replay.specs.BeforeAfter.{from_to};
@@ -7,12 +7,13 @@ ghost use Rattle.replay.specs.Causes.{DeviceCounts, ListCause, OpensNoList, Read
 ghost use Rattle.replay.specs.Endings.{CanEnd};
 ghost use Rattle.replay.specs.Causes.{ReadCounts, ReadsNoScript, ScriptCause, TellsFault};
 ghost use Rattle.replay.specs.Causes.{WriteCounts};
-ghost use Rattle.replay.specs.Loop.{Obeys};
+ghost use Rattle.replay.specs.Commands.{Obeys};
 ghost use Rattle.replay.specs.Runs.{WritesUsage};
 ghost use Rattle.replay.specs.Stores.{LeavesAllBut, Writes};
-ghost use Rattle.replay.specs.Words.{list_told, store_named};
+ghost use Rattle.replay.specs.Words.{IsNoCommand, NamesSite, list_told, store_named};
 
 use crate::dumps::dump_store;
+use crate::pairs::write_twin;
 use crate::scripts::replay;
 use crate::seeds::write_selftest;
 use crate::told::USAGE;
@@ -26,8 +27,9 @@ use std::alloc::Global;
 
 /// Runs the command that the words are. For a run of a script it reads the list that the words
 /// name, reads the whole script, opens the store that they name or makes a new one in memory, and
-/// then runs the lines and writes their replies to `out`. For a dump it writes the rows of the
-/// store, for a self-test the line of its seed, and for `--help` the usage line.
+/// then runs the lines and writes their replies to `out`. For a comparison it reads site, list and
+/// two scripts, and writes the line of the answer. For a dump it writes the rows of the store, for
+/// a self-test the line of its seed, and for `--help` the usage line.
 ///
 /// Nothing is written before list, script and store are read. What is opened is closed. A status
 /// other than [`Status::Done`] writes one line to `err`; where that fails, the status stands.
@@ -55,7 +57,10 @@ pub fn run<H: Host, I: Source, O: Sink, E: Sink>(
 
     // How it ended.
     ensures status { CanEnd (command_of (map string_bytes words.now)) result }
-    ensures usage { (result ≡ Status.Usage) ↔ (command_of (map string_bytes words.now) ≡ None) }
+    ensures usage { result ≡ Status.Usage → IsNoCommand (command_of (map string_bytes words.now)) }
+    ensures no_command { let command = command_of (map string_bytes words.now) in
+        IsNoCommand command
+        → (result ≡ Status.Usage) ⊎ (NamesSite command × (result ≡ Status.Memory)) }
     ensures script { ScriptCause (command_of (map string_bytes words.now)) result
         (I.left script.old) }
     ensures list { ListCause result
@@ -112,19 +117,20 @@ fn command<H: Host, I: Source, O: Sink>(
         (from_to (H.lists_out host.old) (H.lists_out host.new)) (H.store_out host.new)
         (host.new ≡ host.old) (script.new ≡ script.old) }
 {
-    match read_words(alloc, words) {
-        Ok(Some(Command::Help)) => help(out),
-        Ok(
-            Some(
-                Command::Replay {
-                    list,
-                    store,
-                    batch,
-                    checkpoint,
-                    start,
-                },
-            ),
-        ) => {
+    let command = match read_words(alloc, words) {
+        Ok(Some(command)) => command,
+        Ok(None) => return Status::Usage,
+        Err(NoMemory) => return Status::Memory,
+    };
+    match command {
+        Command::Help => help(out),
+        Command::Replay {
+            list,
+            store,
+            batch,
+            checkpoint,
+            start,
+        } => {
             let options = Options {
                 start,
                 batch,
@@ -132,12 +138,22 @@ fn command<H: Host, I: Source, O: Sink>(
             };
             replay(alloc, list, store, options, host, script, out)
         }
-        Ok(Some(Command::Dump { list, store })) => dump_store(
-            alloc, list, store, host, script, out,
-        ),
-        Ok(Some(Command::Selftest { seed })) => write_selftest(alloc, seed, out),
-        Ok(None) => Status::Usage,
-        Err(NoMemory) => Status::Memory,
+        Command::Twin {
+            site,
+            list,
+            batch,
+            checkpoint,
+            start,
+        } => {
+            let options = Options {
+                start,
+                batch,
+                checkpoint,
+            };
+            write_twin(alloc, site, list, options, host, script, out)
+        }
+        Command::Dump { list, store } => dump_store(alloc, list, store, host, script, out),
+        Command::Selftest { seed } => write_selftest(alloc, seed, out),
     }
 }
 

@@ -7,11 +7,13 @@ ghost use Rattle.disk_model.specs.Schedule.{AreFrom};
 ghost use Rattle.hosts.specs.Hosts.{LeavesOtherStores};
 ghost use Rattle.replay.specs.BeforeAfter.{from_to};
 ghost use Rattle.replay.specs.Causes.{ReadCounts, ScriptCauseOf, WriteCounts};
-ghost use Rattle.replay.specs.Endings.{ScriptCanEnd};
-ghost use Rattle.replay.specs.Loop.{HasRun, HostCounts, IsAfterList, Obeys, ScriptCounts};
-ghost use Rattle.replay.specs.Loop.{ScriptRefusal, StoreCounts, status_of};
+ghost use Rattle.replay.specs.Endings.{IsOfScript, ScriptCanEnd};
+ghost use Rattle.replay.specs.Commands.{HasRun, HostCounts, IsAfterList, Obeys, StoreCounts};
+ghost use Rattle.replay.specs.Commands.{status_of};
+ghost use Rattle.replay.specs.Readings.{ScriptCounts, ScriptRefusal};
 ghost use Rattle.replay.specs.Runs.{RanInMemory, ScriptRead, Written};
 ghost use Rattle.replay.specs.Stores.{RanLines, RanStored};
+ghost use Rattle.script_lines.specs.Grammar.{script_of_bytes};
 ghost use Rattle.script_lines.specs.Plain.{script_of};
 ghost use Rattle.store_runs.specs.Steps.{steps_of};
 
@@ -78,7 +80,7 @@ fn run_in_new<I: Source, O: Sink>(
         (from_to (O.taken out.old) (O.taken out.new)) ended list.now read.script) }
     ensures ends { ScriptCanEnd None result }
     ensures later { IsAfterList result }
-    ensures script { ScriptCauseOf true result (I.left script.old) }
+    ensures script { ScriptCauseOf (script_of_bytes true) result (I.left script.old) }
     ensures read { ScriptCounts result (from_to (I.faults script.old) (I.faults script.new)) }
     ensures write { WriteCounts result (from_to (O.faults out.old) (O.faults out.new)) }
 {
@@ -112,7 +114,7 @@ fn run_stored<H: Host, I: Source, O: Sink>(
         (H.stores host.old path.now) (H.stores host.new path.now) ended list.now read.script) }
     ensures ends { ScriptCanEnd (Some path.now) result }
     ensures later { IsAfterList result }
-    ensures script { ScriptCauseOf false result (I.left script.old) }
+    ensures script { ScriptCauseOf (script_of_bytes false) result (I.left script.old) }
     ensures read { ReadCounts result (from_to (H.faults host.old) (H.faults host.new))
         (from_to (H.store_faults host.old) (H.store_faults host.new))
         (from_to (I.faults script.old) (I.faults script.new)) }
@@ -184,7 +186,8 @@ fn read_script<I: Source>(
     ensures fits { IfOk result (λ s. length s.lines.items + 2 < 2 ^ 64) }
     ensures cuts { IfOk result (λ s. AreFrom 1 s.cuts.items) }
     ensures still { OnOk result (I.faults script.new ≡ I.faults script.old) }
-    ensures refused { IfErr result (λ why. ScriptRefusal cuts_allowed why (I.left script.old)
+    ensures refused { IfErr result (λ why.
+        ScriptRefusal (script_of_bytes cuts_allowed) IsOfScript why (I.left script.old)
         (from_to (I.faults script.old) (I.faults script.new))) }
 {
     match Script::read(alloc, script, cuts_allowed) {

@@ -43,6 +43,22 @@ pub fn tell<E: Sink>(err: &mut E, status: &Status)
     let _ = write_pieces(err, &fault_line(status).pieces);
 }
 
+/// Writes a line with a number in it. Takes no memory.
+pub fn write_numbered<O: Sink>(
+    out: &mut O,
+    front: &str,
+    number: u64,
+    back: &str,
+) -> Result<(), Failed>
+    ensures all { let line = front.now ++ (decimal number ++ back.now) in
+        OnOk result (Takes (O.taken out.old) (O.taken out.new) line) }
+    ensures prefix { let line = front.now ++ (decimal number ++ back.now) in
+        OnErr result (TakesPrefix (O.taken out.old) (O.taken out.new) line) }
+    ensures cause { HasCause (O.faults out.old) (O.faults out.new) result }
+{
+    write_pieces(out, &numbered(front, number, back).pieces)
+}
+
 fn fault_line(status: &Status) -> FaultLine<'_>
     ensures { line_text result ≡ spec.fault_line status.now }
 {

@@ -26,6 +26,8 @@ mod frames;
 #[cfg(test)]
 mod lists;
 #[cfg(test)]
+mod pairs;
+#[cfg(test)]
 mod quota;
 #[cfg(test)]
 mod real_host;

@@ -30,6 +30,6 @@ fn a_line_that_is_not_written(rt: HostRuntime) -> Result<(), Fail> {
     )?;
     assert_eq!(rt; ended.status, 7);
     assert!(rt; ended.out.bytes().is_empty());
-    assert!(rt; ended.err.bytes() == "write fault\n".as_bytes());
+    assert!(rt; ended.err.bytes() == b"write fault\n".as_slice());
     Ok(())
 }

@@ -72,6 +72,31 @@ fn commands() -> [(&'static str, Command<'static>); 21] {
     ]
 }
 
+fn twin<'a>(site: &'a str, batch: u16, checkpoint: u32, start: u64) -> Command<'a> {
+    Command::Twin {
+        site,
+        list: "l",
+        batch,
+        checkpoint,
+        start,
+    }
+}
+
+fn twins() -> [(&'static str, Command<'static>); 4] {
+    [
+        (
+            "twin https://a.test l",
+            twin("https://a.test", 1, 1_000, USUAL),
+        ),
+        ("twin dump l", twin("dump", 1, 1_000, USUAL)),
+        (
+            "twin s l --start 5 --batch 256 --checkpoint 0",
+            twin("s", 256, 0, 5),
+        ),
+        ("twin s l --checkpoint 7", twin("s", 1, 7, USUAL)),
+    ]
+}
+
 fn selftests() -> [(&'static str, Command<'static>); 3] {
     [
         ("selftest 7", Command::Selftest { seed: 7 }),
@@ -83,7 +108,7 @@ fn selftests() -> [(&'static str, Command<'static>); 3] {
     ]
 }
 
-const NO_COMMANDS: [&str; 37] = [
+const NO_COMMANDS: [&str; 45] = [
     "replay l --batch 0",
     "replay l --batch 257",
     "replay l --batch 65537",
@@ -120,7 +145,15 @@ const NO_COMMANDS: [&str; 37] = [
     "selftest seven",
     "selftest 0000000000007",
     "--help replay l",
-    "twin https://a.test l",
+    "twin",
+    "twin https://a.test",
+    "twin --batch l",
+    "twin  l",
+    "twin s -l",
+    "twin s l --store p",
+    "twin s l --batch 2 --store p",
+    "twin s l --batch 2 --batch 2",
+    "twin s l 7",
 ];
 
 fn words(alloc: Global, line: &str) -> Result<Vec<String>, Fail> {
@@ -135,6 +168,10 @@ fn words(alloc: Global, line: &str) -> Result<Vec<String>, Fail> {
 fn words_of_the_command_line(rt: HostRuntime) -> Result<(), Fail> {
     let alloc = rt.alloc();
     for (line, want) in commands() {
+        let words = words(alloc, line)?;
+        assert!(rt; read_words(alloc, &words)? == Some(want), "{line}");
+    }
+    for (line, want) in twins() {
         let words = words(alloc, line)?;
         assert!(rt; read_words(alloc, &words)? == Some(want), "{line}");
     }

@@ -1,6 +1,6 @@
 use Rattle.std.proofs.Common.{◌≡◌, cond, codes, None, Some, ap, ap₂, map, string_bytes, sym, true, ◌∙◌, rules}
 use Rattle.std.specs.Prelude.{is_some, option_map}
-use Rattle.command_line.specs.Options.{batch_of, checkpoint_of, is_path, options_of, start_of}
+use Rattle.command_line.specs.Options.{batch_of, is_path, options_of, start_of}
 use Rattle.command_line.specs.Walk.{value_in}
 use Rattle.command_line.specs.Words.{Replay, run_of}
 use Rattle.command_line.proofs.PairLemmas.{run_found}
@@ -11,10 +11,8 @@ returns c =
     let words = map string_bytes c.args.rest.now in
     let path : is_path c.args.list.now ≡ true = search rules in
     let stand : is_some (options_of words) ≡ true = search rules in
-    let batch = c.batch_of.ensures ∙ ap batch_of c.value_named-2.ensures in
-    let checkpoint = c.checkpoint_of.ensures ∙ ap checkpoint_of c.value_named-3.ensures in
-    let start = c.start_of.ensures ∙ ap start_of c.value_named-4.ensures in
-    ap₂ (λ b s. Some (Replay c.args.list.now (option_map (λ path. path.now) c.value_named.result) b c.checkpoint_of.result s)) batch start
-    ∙ ap₂ (λ store e. Some (Replay c.args.list.now store (batch_of (value_in (codes "--batch") words)) e (start_of (value_in (codes "--start") words)))) c.value_named.ensures checkpoint
+    let numbers = c.numbers_of-batch.ensures in
+    ap₂ (λ b s. Some (Replay c.args.list.now (option_map (λ path. path.now) c.value_named.result) b c.numbers_of-batch.result.checkpoint s)) numbers.batch numbers.start
+    ∙ ap₂ (λ store e. Some (Replay c.args.list.now store (batch_of (value_in (codes "--batch") words)) e (start_of (value_in (codes "--start") words)))) c.value_named.ensures numbers.checkpoint
     ∙ run_found c.args.list.now words stand
     ∙ ap (λ b. cond b (option_map (run_of c.args.list.now) (options_of words)) None) (sym path)

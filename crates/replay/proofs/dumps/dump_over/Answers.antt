@@ -1,6 +1,6 @@
 use Rattle.std.proofs.Common.{◌∙◌, subst, sym}
 use Rattle.replay.specs.BeforeAfter.{from_to}
-use Rattle.replay.specs.Loop.{dump_ending}
+use Rattle.replay.specs.Commands.{dump_ending}
 use Rattle.replay.specs.Runs.{Written}
 use Rattle.replay.specs.Stores.{DumpedRows}
 use Rattle.replay.proofs.DumpLemmas.{dumped}

@@ -1,6 +1,6 @@
 use Rattle.std.proofs.Common.{◌∙◌, refl, subst}
 use Rattle.replay.specs.BeforeAfter.{from_to}
-use Rattle.replay.specs.Loop.{HostCounts, StoreCounts}
+use Rattle.replay.specs.Commands.{HostCounts, StoreCounts}
 use Rattle.replay.proofs.DumpLemmas.{obeys_dump}
 use Rattle.replay.proofs.dumps.dump_store.Goals as goal
 

@@ -1,7 +1,7 @@
 use Rattle.std.proofs.Common.{◌≡◌, Some, map, refl, rules, string_bytes, subst, sym}
 use Rattle.command_line.specs.Words.{Selftest, command_of}
 use Rattle.replay.specs.BeforeAfter.{from_to}
-use Rattle.replay.specs.Loop.{Obeys}
+use Rattle.replay.specs.Commands.{Obeys}
 use Rattle.replay.specs.declared.status.Status.TheVariants.{Memory}
 use Rattle.replay.proofs.CommandLemmas.{obeys_memory, obeys_selftest}
 use Rattle.replay.proofs.runs.command.Goals as goal
@@ -24,8 +24,8 @@ returns-in-Err g c =
     (sym c.requires)
     (obeys_memory (H.lists host) (H.tells_stores host) (H.stores host) left faults counts reads script lists_out refl refl command taken out c.in-Err.ensures.command c.in-Err.ensures.refused)
 
-pub returns-in-Ok-Some-Selftest : goal.returns-in-Ok-Some-Selftest
-returns-in-Ok-Some-Selftest g c =
+pub returns-in-Selftest : goal.returns-in-Selftest
+returns-in-Selftest g c =
     let H = g.H.Host in
     let host = c.args.host.now in
     let faults = H.faults host in
@@ -36,7 +36,7 @@ returns-in-Ok-Some-Selftest g c =
     let script = g.I.Source.faults c.args.script.now in
     let out = from_to (g.O.Sink.faults c.args.out.now) (g.O.Sink.faults c.write_selftest.new.out) in
     let lists_out = H.lists_out host in
-    let seed = c.in-Ok-Some-Selftest.seed in
+    let seed = c.in-Selftest.seed in
     let status = c.write_selftest.result in
     let command : Some (Selftest seed) ≡ command_of (map string_bytes c.args.words.now) = search rules in
     subst (λ named. Obeys named status (H.lists host) (H.tells_stores host) (H.stores host) (H.stores host) (from_to left left) taken (from_to faults faults) (from_to counts counts) (from_to reads reads) (from_to script script)

@@ -2,7 +2,7 @@ use Rattle.std.proofs.Common.{◌≡◌, ◌∙◌, Some, false, option_map, sub
 use Rattle.command_line.specs.Words.{Replay}
 use Rattle.replay.specs.BeforeAfter.{from_to}
 use Rattle.replay.specs.Causes.{ReadCounts}
-use Rattle.replay.specs.Loop.{Obeys, StoreCounts}
+use Rattle.replay.specs.Commands.{Obeys, StoreCounts}
 use Rattle.replay.specs.Runs.{ScriptRead, Written}
 use Rattle.replay.specs.Stores.{RanStored}
 use Rattle.replay.proofs.ReplayLemmas.{obeys_new, obeys_stored}

@@ -1,10 +1,12 @@
--- What the parts of a run answer. Only private functions see it.
+-- What the parts of a command answer. Only private functions see it.
 -- Source: none.
-use Rattle.std.specs.Prelude.{◌≡◌, ◌↔◌, ℕ, Bool, None, option_and_then, List, Option, Some, IfSome, Ok}
-use Rattle.std.specs.Prelude.{Err, Result}
+use Rattle.std.specs.Prelude.{◌≡◌, ℕ, Bool, option_and_then, List, Option, None, Ok}
+use Rattle.std.specs.Prelude.{◌⊎◌, Err, Result}
 use Rattle.agent_base.specs.Counts.{Rose}
-use Rattle.suffix_list.specs.ListText.{RuleList, list_of}
+use Rattle.suffix_list.specs.ListText.{RuleList}
+use Rattle.origin_site.specs.Site.{PlainSite}
 use Rattle.script_lines.specs.Plain.{fault_of}
+use Rattle.script_courses.specs.Twins.{IsTwin, Twin}
 use Rattle.store_dumps.specs.declared.fault.DumpFault.{DumpFault}
 use Rattle.store_dumps.specs.declared.fault.DumpFault.TheVariants.{Open}
 use Rattle.store_dumps.specs.declared.fault.DumpFault.TheVariants as dump
@@ -12,16 +14,17 @@ use Rattle.store_runs.specs.Endings.{ending_of}
 use Rattle.store_runs.specs.declared.ending.Ending.{Ending}
 use Rattle.store_runs.specs.declared.ending.Ending.TheVariants as ending
 use Rattle.journal.specs.Opening.{IsOfFile}
-use Rattle.hosts.specs.Hosts.{HasLeft}
 use Rattle.command_line.specs.Words.{PlainCommand}
 use Rattle.replay.specs.BeforeAfter.{BeforeAfter}
-use Rattle.replay.specs.Words.{list_named, store_named}
+use Rattle.replay.specs.Runs.{steps_in}
+use Rattle.replay.specs.Twins.{ScriptsRead, setting_of, twin_line}
+use Rattle.replay.specs.Words.{IsNoCommand, NamesSite, list_named, store_named}
 use Rattle.replay.specs.Openings.{Images}
 use Rattle.replay.specs.Stores.{LeavesAllBut, Writes}
 use Rattle.replay.specs.Causes.{DeviceCounts, ListCause, ReadCause, ReadCounts, ScriptCause}
 use Rattle.replay.specs.Endings.{CanEnd}
-use Rattle.replay.specs.Causes.{OpensNoList, ReadsNoScript, ScriptFaulty}
-use Rattle.replay.specs.Endings.{IsOfList, IsOfScript}
+use Rattle.replay.specs.Causes.{OpensNoList, ReadsNoScript}
+use Rattle.replay.specs.Endings.{IsOfTwoScripts}
 use Rattle.replay.specs.Causes.{RoseByStore, WriteCounts}
 use Rattle.replay.specs.declared.status.Status.{Status}
 use Rattle.replay.specs.declared.status.Status.TheVariants.{Done, Usage, Script, List as ListStatus}
@@ -29,45 +32,11 @@ use Rattle.replay.specs.declared.status.Status.TheVariants.{Store, Read, Write, 
 
 -- ---- the list
 
--- the list that was read is the one that the host told, where it told one
-abbrev pub IsListOf : (told : Option (List ℕ)) → RuleList → Type 0
-IsListOf told list = (bytes : List ℕ) × (HasLeft told (Some bytes) × (list_of bytes ≡ Ok list))
-
--- where the host tells the list, reading it failed only at an opened list
-abbrev pub ListUnread : Status → (told : Option (List ℕ)) → (reads : BeforeAfter ℕ) → Type 0
-ListUnread Read told reads = IfSome told (λ bytes. Rose reads.before reads.after)
-ListUnread _ told reads = Unit {0}
-
--- why the list could not be read, or was refused; only these statuses are answered
-abbrev pub ListRefusal : Status → (told : Option (List ℕ)) → (faults : BeforeAfter ℕ) → Type 0
-ListRefusal (ListStatus why) told faults =
-    IfSome told (λ bytes. list_of bytes ≡ Err why) × IsOfList why × (faults.after ≡ faults.before)
-ListRefusal Read told faults = Rose faults.before faults.after
-ListRefusal Memory told faults = faults.after ≡ faults.before
-ListRefusal _ told faults = ⊥
-
 -- a status that comes after the list was read
 abbrev pub IsAfterList : Status → Type 0
 IsAfterList Usage = ⊥
 IsAfterList (ListStatus why) = ⊥
 IsAfterList status = Unit {0}
-
--- ---- the script
-
--- why the script could not be read, or was refused; only these statuses are answered
-abbrev pub ScriptRefusal : (cuts_allowed : Bool) → Status → (told : Option (List ℕ))
-    → (faults : BeforeAfter ℕ) → Type 0
-ScriptRefusal cuts_allowed (Script why) told faults =
-    ScriptFaulty cuts_allowed told (fault_of why) × IsOfScript (fault_of why)
-    × (faults.after ≡ faults.before)
-ScriptRefusal cuts_allowed Read told faults = Rose faults.before faults.after
-ScriptRefusal cuts_allowed Memory told faults = faults.after ≡ faults.before
-ScriptRefusal cuts_allowed _ told faults = ⊥
-
--- the count of faults of a script's source rose where reading it failed, and stays else
-abbrev pub ScriptCounts : Status → (script : BeforeAfter ℕ) → Type 0
-ScriptCounts Read script = Rose script.before script.after
-ScriptCounts _ script = script.after ≡ script.before
 
 -- ---- the store
 
@@ -89,6 +58,25 @@ HostCounts _ host stores = RoseByStore host stores
 abbrev pub StoreCounts : Status → (stores : BeforeAfter ℕ) → Type 0
 StoreCounts Device stores = Rose stores.before stores.after
 StoreCounts _ stores = Unit {0}
+
+-- ---- two scripts
+
+-- the line of the answer to two scripts that a source gave
+abbrev pub IsAnswer : RuleList → PlainSite → (start batch : ℕ)
+    → (left : BeforeAfter (Option (List ℕ))) → (line : List ℕ) → Type 0
+IsAnswer list site start batch left line =
+    (scripts : ScriptsRead left) × (answer : Twin)
+    × IsTwin (setting_of list site start batch) (steps_in scripts.first) (steps_in scripts.second)
+    answer × (line ≡ twin_line answer)
+
+-- a status that comes after a site and a list were read
+abbrev pub HasCompared : Status → Type 0
+HasCompared Done = Unit {0}
+HasCompared (Script why) = IsOfTwoScripts (fault_of why)
+HasCompared Read = Unit {0}
+HasCompared Write = Unit {0}
+HasCompared Memory = Unit {0}
+HasCompared status = ⊥
 
 -- ---- lines
 
@@ -116,7 +104,9 @@ pub record Obeys (command : Option PlainCommand) (status : Status)
     (host stores reads script out lists_out : BeforeAfter ℕ) (store_out : Option (List ℕ))
     (HostStays ScriptStays : Type 0) : Type 0 where
   pub text : Writes command status lists tells before after stores left taken
-  pub usage : (status ≡ Usage) ↔ (command ≡ None)
+  pub usage : status ≡ Usage → IsNoCommand command
+  pub no_command :
+      IsNoCommand command → (status ≡ Usage) ⊎ (NamesSite command × (status ≡ Memory))
   pub ends : CanEnd command status
   pub refused : ScriptCause command status left.before
   pub list : ListCause status (option_and_then lists (list_named command))

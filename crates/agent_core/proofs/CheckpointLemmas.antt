@@ -220,6 +220,20 @@ module _ {D : Type 0} (m : AgentState) (now : ℕ) (b : PlainBatch) (j j' : Jour
         moments_after x v a (held_of x v a up) w (kept_in m) j.changes state
         (leaves m.rules up.base (kept_in m) 0 up.store takes tells)
 
+-- each moment of a checkpoint that an agent makes of its own memory
+pub put_stands : {D : Type 0} (m : AgentState) (now : ℕ) (b : PlainBatch) (j : JournalView)
+    (opened checkpoint : ℕ) (power : Power) (disk : D) (y : AgentView D) (v w : View)
+    (a : AgentSeen) → from_parts m now b j opened checkpoint power disk ≡ y → HasNone y
+    → SnapshotsMean → SnapshotsAreSpelled → (body : List ℕ)
+    → body ≡ rows_bytes (listed (kept_in y.memory)) → HasDistinctPairs y.memory.grants
+    → IsUp (from_parts m now b j opened checkpoint power disk) v a → LeavesSnapshot j v w body
+    → v.tells ≡ true → LeavesOnly v w (IsBeforeOrAfter m.rules j.digest a a)
+put_stands m now b j opened checkpoint power disk y v w a same holds means spells body is distinct up leaves tells =
+    let x = from_parts m now b j opened checkpoint power disk in
+    let none = none_is x y same holds in
+    put_moments m now b j j opened checkpoint power disk disk v w a none.held none.changes up means
+    spells body (snapshot_is x y body same is) (distinct_is x y same distinct) leaves tells
+
 -- with no checkpoint due nothing is done
 pub nothing_flushed : {D : Type 0} (m : AgentState) (now : ℕ) (b : PlainBatch) (j : JournalView)
     (opened checkpoint : ℕ) (power : Power) (disk : D) (v : View) (a : AgentSeen)

@@ -16,6 +16,7 @@ mod ResumeLemmas
 mod RestartLemmas
 mod FinishLemmas
 mod LineLemmas
+mod FlushLemmas
 -- Checkpoints.
 mod SnapshotLemmas
 mod CheckpointLemmas

@@ -25,13 +25,14 @@ use Rattle.agent_memory.specs.Written.{body_of}
 use Rattle.agent_core.specs.AgentView.{AgentView, may_find, may_of}
 use Rattle.agent_core.specs.Batch.{HasNotRun, HasRun, PlainBatch}
 use Rattle.agent_core.specs.Means.{AgentMay, Fits, FlushMeans, IsBeforeOrAfter, LineMeans, Same, after_line}
+use Rattle.agent_core.specs.Running.{RunsLine}
 use Rattle.agent_core.specs.Seen.{AgentSeen, IsSeen, IsUp}
 use Rattle.agent_core.specs.Standing.{Finishes, IsHeld, IsStanding}
 use Rattle.agent_core.specs.declared.agent.Power.{Power}
 use Rattle.agent_core.specs.declared.agent.Power.TheVariants.{Down, Spoilt, Up}
 use Rattle.agent_core.specs.declared.outcome.Outcome.{Outcome}
 use Rattle.agent_core.specs.declared.outcome.Outcome.TheVariants as outcome
-use Rattle.agent_core.proofs.OutcomeLemmas.{down_up, flush_finished, kept_up, line_finished, line_waits, not_run, not_run_may, roomier_may, seen_down}
+use Rattle.agent_core.proofs.OutcomeLemmas.{device_none, down_up, flush_finished, kept_up, line_finished, line_waits, not_run, not_run_may, roomier_may, seen_down}
 use Rattle.agent_core.proofs.RoomLemmas.{roomier_same}
 use Rattle.agent_core.proofs.SeenLemmas.{from_parts, ran_bytes, ran_holds, ran_up}
 use Rattle.agent_core.proofs.StoreLemmas.{images_stand, nothing_left}
@@ -127,9 +128,6 @@ not_power power is up =
 
 pub memory_down : outcome.NoMemory ≡ outcome.Down → ⊥
 memory_down e = cc
-
-pub memory_held : outcome.NoMemory ≡ outcome.Held → ⊥
-memory_held e = cc
 
 pub held_down : outcome.Held ≡ outcome.Down → ⊥
 held_down e = cc
@@ -257,6 +255,29 @@ wanting m m' b b' j j' now opened checkpoint power disk disk' v w a kept roomier
   not_run m m' b b' j j' now opened checkpoint power disk disk' v w a kept roomier seen,
   (refl, not_run_may m m' b b' j j' opened v w kept roomier),
 )
+
+-- a line for which no call was made
+pub line_stays : {D : Type 0} (m m' : AgentState) (b b' : PlainBatch) (j j' : JournalView)
+    (now later opened checkpoint : ℕ) (power : Power) (disk disk' : D) (v w : View)
+    (line : PlainAction) (result : Outcome) → IsLawful v → IsRoomier j j' v w
+    → m'.rules ≡ m.rules → b'.size ≡ b.size → (result ≡ outcome.Down → ⊥)
+    → ((a : AgentSeen) → IsSeen (from_parts m now b j opened checkpoint power disk) v a → Fits a
+    → (s : AgentSeen) × IsSeen (from_parts m' later b' j' opened checkpoint power disk') w s
+    × LineMeans m.rules b.size line a (may_of (from_parts m now b j opened checkpoint power disk) v)
+    s (may_of (from_parts m' later b' j' opened checkpoint power disk') w) result)
+    → RunsLine line (from_parts m now b j opened checkpoint power disk) v
+    (from_parts m' later b' j' opened checkpoint power disk') w result
+line_stays m m' b b' j j' now later opened checkpoint power disk disk' v w line result laws roomier rules size other means =
+    record {
+      means = means;
+      any_moment = λ a seen is_up tells.
+          up_moments (from_parts m now b j opened checkpoint power disk) v w a
+          (after_line m.rules a line) laws roomier.stays (seen.standing is_up);
+      rules = (rules, ap (λ (i : JournalView). i.digest) roomier.journal, size, refl);
+      device = device_none j j' v w w roomier 4 result other;
+      idle = λ a seen none. roomier.stays.changing;
+      waits = λ is. roomier.stays.changing;
+    }
 
 -- ---- a flush
 

@@ -119,7 +119,8 @@ pub resumed_seen : {D : Type 0} (list : RuleList) (m : AgentState) (b : PlainBat
     (durable_of (saved_of parts)) in
     IsSeen (from_parts m now b j opened checkpoint power disk) w s
     × AtBase s.base (may_of (from_parts m now b j opened checkpoint power disk) w))
-resumed_seen {D} list m b j now opened checkpoint power disk w parts kept read is in_time small count at body changes held size up =
+resumed_seen {D} list m b j now opened checkpoint power disk w parts kept read is in_time small count at body
+    changes held size up =
     let d = saved_of parts in
     let again = resumed list.rules now parts.storage parts.cookies parts.grants in
     let s =

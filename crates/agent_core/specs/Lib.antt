@@ -4,6 +4,7 @@ pub mod Seen
 pub mod Means
 pub mod Flushing
 -- What private functions compute.
+pub mod Running
 pub mod Batch
 pub mod Openings
 pub mod Standing

@@ -1,10 +1,10 @@
 //! The agent over a disk.
-ghost use Rattle.std.specs.Prelude.{◌≡◌, ◌⊎◌, ◌≤◌, ◌+◌, ℕ, List, [], Some, Ok, Err, IfOk, IfErr};
+ghost use Rattle.std.specs.Prelude.{◌≡◌, ◌⊎◌, ◌≤◌, ℕ, List, [], Some, IfOk, IfErr};
 ghost use Rattle.std.specs.Prelude.{MatchResult, length, true};
 ghost use Rattle.unwinding.specs.Course.{AtBase};
 ghost use Rattle.unwinding.specs.CourseSteps.{reopened};
 ghost use Rattle.agent_base.specs.Counts.{Rose};
-ghost use Rattle.disk_model.specs.Disk.{HasFailed, IsPowered, IsSettled, LeavesOnly, Makes, View};
+ghost use Rattle.disk_model.specs.Disk.{HasFailed, IsPowered, IsSettled, LeavesOnly, Makes};
 ghost use Rattle.journal.specs.Opening.{FileMeans, HasNoFault, IsExcused, IsOfFile, IsOpening};
 ghost use Rattle.journal.specs.Opening.{IsRefusal, opening_calls};
 ghost use Rattle.journal.specs.declared.open_fault.OpenFault.{OpenFault};
@@ -26,6 +26,7 @@ ghost use Rattle.agent_core.specs.Means.{LineMeans, OutcomeDevice, RestartDevice
 ghost use Rattle.agent_core.specs.Means.{after_line, flush_calls};
 ghost use Rattle.agent_core.specs.Seen.{AgentSeen, IsSeen, IsUp};
 ghost use Rattle.agent_core.specs.Openings.{IsOpened, resumed};
+ghost use Rattle.agent_core.specs.Running.{RunsLine};
 ghost use Rattle.agent_core.specs.Standing.{Finishes, IsHeld, power_of};
 
 use crate::open_batch::OpenBatch;
@@ -367,23 +368,8 @@ impl<'l, D: Disk + Drop> Agent<'l, D> {
     // Runs one line of an agent that is up.
     fn run(&mut self, action: &Action) -> Outcome
         requires up { self.old.power ≡ Power.Up }
-        ensures means { (a : AgentSeen) → IsSeen self.old (D.view self.old.disk) a → Fits a
-            → (b : AgentSeen) × IsSeen self.new (D.view self.new.disk) b
-            × LineMeans self.old.memory.rules self.old.batch (action_of action.now)
-            a (may_of self.old (D.view self.old.disk)) b (may_of self.new (D.view self.new.disk))
-            result }
-        ensures any_moment { (a : AgentSeen) → IsSeen self.old (D.view self.old.disk) a
-            → a.up ≡ true → (D.view self.old.disk).tells ≡ true
-            → LeavesOnly (D.view self.old.disk) (D.view self.new.disk)
-            (IsBeforeOrAfter self.old.memory.rules self.old.journal.digest a
-            (after_line self.old.memory.rules a (action_of action.now))) }
-        ensures rules { KeepsOptions self.old self.new }
-        ensures device { OutcomeDevice 4 result (D.view self.old.disk) (D.view self.new.disk) }
-        ensures idle { (a : AgentSeen) → IsSeen self.old (D.view self.old.disk) a
-            → (after_line self.old.memory.rules a (action_of action.now)).pending ≡ []
-            → (D.view self.new.disk).changing ≡ (D.view self.old.disk).changing }
-        ensures waits { result ≡ Outcome.Held
-            → (D.view self.new.disk).changing ≡ (D.view self.old.disk).changing }
+        ensures runs { RunsLine (action_of action.now) self.old (D.view self.old.disk)
+            self.new (D.view self.new.disk) result }
     {
         durable_states();
         spelled_lines();

@@ -22,7 +22,8 @@ use Rattle.agent_memory.specs.HoldingsView.{HoldingsView, cells_of, held_of}
 use Rattle.agent_memory.proofs.DoneLemmas.{frames_done, grants_held, held_grants, no_change}
 
 -- what the document of a frame does
-pub found_done : (at : Label) (tab : PlainTab) (document : PlainDocument) (action : PlainDocument → Effect) (old new : HoldingsView) (body : PlainBody)
+pub found_done : (at : Label) (tab : PlainTab) (document : PlainDocument) (action : PlainDocument → Effect)
+    (old new : HoldingsView) (body : PlainBody)
     → document_of at.frame tab.frames ≡ Some document → IsDone (action document (cells_of old) (held_of old)) old new body
     → IsDone (with_document at tab action (cells_of old) (held_of old)) old new body
 found_done at tab document action old new body is done =
@@ -35,12 +36,14 @@ rows_are None top site grants = refl
 rows_are (Some permission) top site grants = refl
 
 -- and its row change
-pub change_is : (permission : Option Permission) (top site : PlainSite) → change_kept (option_map (row_of top site) permission) ≡ change_requested permission top site
+pub change_is : (permission : Option Permission) (top site : PlainSite)
+    → change_kept (option_map (row_of top site) permission) ≡ change_requested permission top site
 change_is None top site = refl
 change_is (Some permission) top site = refl
 
 -- what is kept is held
-kept_done : (permission : Option Permission) (top site : PlainSite) (told body : PlainBody) (mid : HoldingsView) (grants : List PlainGrant)
+kept_done : (permission : Option Permission) (top site : PlainSite) (told body : PlainBody)
+    (mid : HoldingsView) (grants : List PlainGrant)
     → grants ≡ grants_requested permission top site mid.grants → body ≡ told
     → IsDone (keeps_grant permission top site told (cells_of mid) (held_of mid)) mid (record mid { grants = grants }) body
 kept_done permission top site told body mid grants is says = record {
@@ -57,17 +60,22 @@ kept_done permission top site told body mid grants is says = record {
 abbrev pub asks : List Rule → ℕ → PlainSite → Label → Prompt → PlainTab → PlainDocument → Effect
 asks rules now top at answer tab document cells held =
     let own = embedded_site rules document in
-    done_by (outcome_of top own (access_facts rules now at.frame tab.frames document) (answer_of answer) now held.grants) at tab top own cells held
+    done_by (outcome_of top own (access_facts rules now at.frame tab.frames document) (answer_of answer)
+    now held.grants) at tab top own cells held
 
 -- a request came to its outcome
-pub asked_done : (rules : List Rule) (now : ℕ) (top : PlainSite) (at : Label) (answer : Prompt) (tab : PlainTab) (document : PlainDocument) (outcome : Outcome)
+pub asked_done : (rules : List Rule) (now : ℕ) (top : PlainSite) (at : Label) (answer : Prompt)
+    (tab : PlainTab) (document : PlainDocument) (outcome : Outcome)
     (old : HoldingsView) (live : PlainLive) (grants : List PlainGrant) (body : PlainBody)
     → tab_at at.tab old.live.tabs ≡ Some tab → document_of at.frame tab.frames ≡ Some document
-    → outcome_of top (embedded_site rules document) (access_facts rules now at.frame tab.frames document) (answer_of answer) now old.grants ≡ Some outcome
+    → outcome_of top (embedded_site rules document) (access_facts rules now at.frame tab.frames document)
+    (answer_of answer) now old.grants ≡ Some outcome
     → frames_at at.tab live.tabs ≡ requested outcome.sets_flag outcome.consumes at.frame tab.frames
     → IsPutIn at.tab None old.live.tabs live.tabs → top_site (frames_at at.tab live.tabs) ≡ top_site tab.frames
-    → grants ≡ grants_requested outcome.kept top (embedded_site rules document) old.grants → body ≡ Plain (decision_word outcome.decision)
-    → IsDone (request_access rules now top at answer tab (cells_of old) (held_of old)) old (record old { live = live; grants = grants }) body
+    → grants ≡ grants_requested outcome.kept top (embedded_site rules document) old.grants
+    → body ≡ Plain (decision_word outcome.decision)
+    → IsDone (request_access rules now top at answer tab (cells_of old) (held_of old)) old
+    (record old { live = live; grants = grants }) body
 asked_done rules now top at answer tab document outcome old live grants body found there comes frames put site rows says =
     let mid : HoldingsView = record old { live = live } in
     let new : HoldingsView = record old { live = live; grants = grants } in
@@ -75,16 +83,21 @@ asked_done rules now top at answer tab document outcome old live grants body fou
     let facts = access_facts rules now at.frame tab.frames document in
     found_done at tab document (asks rules now top at answer tab) old new body there
     (subst (λ outcome. IsDone (done_by outcome at tab top own (cells_of old) (held_of old)) old new body)
-    (sym (ap (outcome_of top own facts (answer_of answer) now) (grants_held old.live.tabs old.cookies old.grants old.storage) ∙ comes))
+    (sym (ap (outcome_of top own facts (answer_of answer) now)
+    (grants_held old.live.tabs old.cookies old.grants old.storage) ∙ comes))
     (frames_done at.tab tab None (λ frames. keeps_grant outcome.kept top own (Plain (decision_word outcome.decision)))
-    (Ok (requested outcome.sets_flag outcome.consumes at.frame tab.frames)) (frames_at at.tab live.tabs) body old mid new found (ap Ok (sym frames)) site put refl refl (no_change old.cookies)
+    (Ok (requested outcome.sets_flag outcome.consumes at.frame tab.frames)) (frames_at at.tab live.tabs)
+    body old mid new found (ap Ok (sym frames)) site put refl refl (no_change old.cookies)
     (kept_done outcome.kept top own (Plain (decision_word outcome.decision)) body mid grants rows says)))
 
 -- its row change is that of what is kept
-pub asked_changes : (rules : List Rule) (now : ℕ) (top : PlainSite) (at : Label) (answer : Prompt) (tab : PlainTab) (document : PlainDocument) (outcome : Outcome) (old : HoldingsView)
+pub asked_changes : (rules : List Rule) (now : ℕ) (top : PlainSite) (at : Label) (answer : Prompt)
+    (tab : PlainTab) (document : PlainDocument) (outcome : Outcome) (old : HoldingsView)
     → document_of at.frame tab.frames ≡ Some document
-    → outcome_of top (embedded_site rules document) (access_facts rules now at.frame tab.frames document) (answer_of answer) now old.grants ≡ Some outcome
-    → (request_access rules now top at answer tab (cells_of old) (held_of old)).changes ≡ change_requested outcome.kept top (embedded_site rules document)
+    → outcome_of top (embedded_site rules document) (access_facts rules now at.frame tab.frames document)
+    (answer_of answer) now old.grants ≡ Some outcome
+    → (request_access rules now top at answer tab (cells_of old) (held_of old)).changes
+    ≡ change_requested outcome.kept top (embedded_site rules document)
 asked_changes rules now top at answer tab document outcome old there comes =
     let own = embedded_site rules document in
     let facts = access_facts rules now at.frame tab.frames document in

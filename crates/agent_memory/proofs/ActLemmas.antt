@@ -1,5 +1,5 @@
 -- An action of a document that is done with its storage key.
-use Rattle.std.proofs.Common.{◌≡◌, ℕ, true, List, Some, ap}
+use Rattle.std.proofs.Common.{◌≡◌, ℕ, true, List}
 use Rattle.std.specs.Prelude.{IfSome, is_some}
 use Rattle.suffix_list.specs.Suffix.{Rule}
 use Rattle.origin_site.specs.Site.{PlainSite}
@@ -10,22 +10,7 @@ use Rattle.script_actions.specs.Action.{PlainAction, Tick, Open, Close, Go, Evic
 use Rattle.agent_model.specs.Done.{Effect}
 use Rattle.agent_model.specs.Documents.{Keyed, with_key}
 use Rattle.agent_model.specs.SiteStep.{act_in}
-use Rattle.agent_memory.specs.ActionKinds.{by_keyed, document_action, is_keyed, key_action, label_of}
-
--- ---- what a line is that names a document
-
--- an action of this document
-pub record IsActOf (action : PlainAction) (at : Label) : Type 0 where
-  pub does : DocumentAction
-  pub is : action ≡ Act at does
-
-pub act_of : (action : PlainAction) (at : Label) → label_of action ≡ Some at → IsActOf action at
-act_of (Tick s) at is = absurd (cc is)
-act_of (Open tab url opener noopener method head) at is = absurd (cc is)
-act_of (Close tab) at is = absurd (cc is)
-act_of (Go tab url by_page method head) at is = absurd (cc is)
-act_of (Evict site) at is = absurd (cc is)
-act_of (Act own does) at is = let same : own ≡ at = cc is in record { does = does; is = ap (λ l. Act l does) same }
+use Rattle.agent_memory.specs.ActionKinds.{by_keyed, document_action, is_keyed, key_action}
 
 -- ---- by its storage key
 
@@ -34,7 +19,8 @@ module _ (rules : List Rule) (now : ℕ) (at : Label) (P : (PlainSite → PlainT
   abbrev shows_keyed : (PlainSite → PlainTab → Keyed → Effect) → Type 0
   shows_keyed keyed = P (λ site tab. with_key at tab (keyed site tab))
 
-  keyed_does : (action : DocumentAction) → is_some (key_action rules now action) ≡ true → IfSome (key_action rules now action) shows_keyed → P (λ site. act_in rules now site at action)
+  keyed_does : (action : DocumentAction) → is_some (key_action rules now action) ≡ true
+      → IfSome (key_action rules now action) shows_keyed → P (λ site. act_in rules now site at action)
   keyed_does (Frame parent url sandbox deny head) is done = absurd (cc is)
   keyed_does (Nav url by_self method head) is done = absurd (cc is)
   keyed_does Drop is done = absurd (cc is)

@@ -24,15 +24,18 @@ use Rattle.agent_memory.proofs.MemberLemmas.{any_flat, any_kept, any_one, few_fl
 -- ---- a frame that is there
 
 -- a frame whose document has a key is there
-pub keyed_there : (frame : ℕ) (frames : List PlainFrame) → is_some (key_of_frame frame frames) ≡ true → has_frame frame frames ≡ true
+pub keyed_there : (frame : ℕ) (frames : List PlainFrame) → is_some (key_of_frame frame frames) ≡ true
+    → has_frame frame frames ≡ true
 keyed_there frame frames is = sym (is_some-find (λ f. f.frame == frame) frames) ∙ at (find (λ f. f.frame == frame) frames) is
   where
-    at : (found : Option PlainFrame) → is_some (option_and_then (key_of_document frame frames) (option_map (λ f. f.document) found)) ≡ true → is_some found ≡ true
+    at : (found : Option PlainFrame) → is_some (option_and_then (key_of_document frame frames)
+        (option_map (λ f. f.document) found)) ≡ true → is_some found ≡ true
     at None is = is
     at (Some f) is = refl
 
 -- a frame that hears is there
-pub heard_there : (kind : AreaKind) (writer : Keyed) (number : ℕ) (tab : PlainTab) (frame : ℕ) → hears_at kind writer number tab frame ≡ true → has_frame frame tab.frames ≡ true
+pub heard_there : (kind : AreaKind) (writer : Keyed) (number : ℕ) (tab : PlainTab) (frame : ℕ)
+    → hears_at kind writer number tab frame ≡ true → has_frame frame tab.frames ≡ true
 heard_there kind writer number tab frame is = keyed_there frame tab.frames (at (key_of_frame frame tab.frames) is)
   where
     at : (key : Option PlainKey) → hears_by kind writer (record { tab = number; frame = frame }) key ≡ true → is_some key ≡ true
@@ -46,7 +49,8 @@ numbered_there frame (f ∷ frames) all there =
     let parts = and_parts (nat_lt f.frame 256) (are_numbered frames) all in
     at (f.frame == frame) refl parts.0 (numbered_there frame frames parts.1) there
   where
-    at : (b : Bool) → (f.frame == frame) ≡ b → nat_lt f.frame 256 ≡ true → (has_frame frame frames ≡ true → frame < 256) → (b || has_frame frame frames) ≡ true → frame < 256
+    at : (b : Bool) → (f.frame == frame) ≡ b → nat_lt f.frame 256 ≡ true
+        → (has_frame frame frames ≡ true → frame < 256) → (b || has_frame frame frames) ≡ true → frame < 256
     at true is low later there = grind (arith, nat_tests)
     at false is low later there = later there
 
@@ -73,7 +77,8 @@ module _ (kind : AreaKind) (writer : Keyed) (label : Label) where
       one key = cons_option (option_map (λ key. (record { tab = tab.number; frame = m }, key)) key) []
 
       at : (key : Option PlainKey) → list_any is_heard (one key)
-          ≡ ((hears_by kind writer (record { tab = tab.number; frame = m }) key && (tab.number == label.tab)) && (m == label.frame))
+          ≡ ((hears_by kind writer (record { tab = tab.number; frame = m }) key && (tab.number == label.tab))
+          && (m == label.frame))
       at None = refl
       at (Some key) =
           turned (hears (eq_by_cmp key_order) kind writer.at writer.key (record { tab = tab.number; frame = m }, key))
@@ -84,7 +89,8 @@ module _ (kind : AreaKind) (writer : Keyed) (label : Label) where
       ap (list_any is_heard) (few_flat (keyed tab.number tab.frames) frame_numbers)
       ∙ any_flat is_heard (λ m. cons_option (keyed tab.number tab.frames m) []) frame_numbers
       ∙ (λ i. list_any (λ m. in_frame tab m i) frame_numbers)
-      ∙ any_one (λ m. m) (λ m. hears_at kind writer tab.number tab m && (tab.number == label.tab)) label.frame frame_numbers numbers_rise
+      ∙ any_one (λ m. m) (λ m. hears_at kind writer tab.number tab m && (tab.number == label.tab))
+      label.frame frame_numbers numbers_rise
       ∙ at (find (λ m. m == label.frame) frame_numbers)
     where
       at : (found : Option ℕ) → passes (λ m. hears_at kind writer tab.number tab m && (tab.number == label.tab)) found
@@ -103,7 +109,8 @@ module _ (kind : AreaKind) (writer : Keyed) (label : Label) where
 
   module _ (tabs : List PlainTab) (rising : is_rising tabs ≡ true) (trees : AreTrees tabs) where
     -- a document is of the audience that the list gives, where the map has it hear
-    pub in_audience : list_any (λ l. same_label l label) (audience (eq_by_cmp key_order) kind writer.at writer.key (documents tabs))
+    pub in_audience : list_any (λ l. same_label l label)
+        (audience (eq_by_cmp key_order) kind writer.at writer.key (documents tabs))
         ≡ passes (λ tab. hears_at kind writer label.tab tab label.frame) (tab_at label.tab tabs)
     in_audience =
         any_kept (λ l. same_label l label) (λ d. d.0) (hears (eq_by_cmp key_order) kind writer.at writer.key) (documents tabs)
@@ -114,4 +121,5 @@ module _ (kind : AreaKind) (writer : Keyed) (label : Label) where
         at : (found : Option PlainTab) → tab_at label.tab tabs ≡ found → IsFrameTreeAt found
             → passes heard_in found ≡ passes (λ tab. hears_at kind writer label.tab tab label.frame) found
         at None is tree = refl
-        at (Some tab) is tree = by_number tab tree.numbered ∙ ap (λ n. hears_at kind writer n tab label.frame) (number_found label.tab tabs tab is)
+        at (Some tab) is tree = by_number tab tree.numbered
+            ∙ ap (λ n. hears_at kind writer n tab label.frame) (number_found label.tab tabs tab is)

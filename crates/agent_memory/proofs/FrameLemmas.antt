@@ -39,14 +39,16 @@ numbered_kept : (p : PlainFrame → Bool) (frames : List PlainFrame) → IsNumbe
 numbered_kept p frames numbered = all_kept p (λ f. nat_lt f.frame 256) frames numbered
 
 module _ (frames : List PlainFrame) (numbered : IsNumbered frames) where
-  numbered_added : (rules : List Rule) (parent frame : ℕ) (url : PlainAddress) (sandbox : PlainSandbox) (deny : Bool) → nat_lt frame 256 ≡ true
+  numbered_added : (rules : List Rule) (parent frame : ℕ) (url : PlainAddress) (sandbox : PlainSandbox)
+      (deny : Bool) → nat_lt frame 256 ≡ true
       → IfOk (calls.added rules parent frame url sandbox deny frames) IsNumbered
   numbered_added rules parent frame url sandbox deny low = at (document_of parent frames)
     where
       fresh : PlainDocument → PlainFrame
       fresh above = record { frame = frame; parent = parent; document = loaded_below rules above sandbox deny url }
 
-      by_number : (above : PlainDocument) (b : Bool) → IfOk (cond b (Err FrameExists) (Ok (frames ++ fresh above ∷ []))) IsNumbered
+      by_number : (above : PlainDocument) (b : Bool)
+          → IfOk (cond b (Err FrameExists) (Ok (frames ++ fresh above ∷ []))) IsNumbered
       by_number above true = tt
       by_number above false =
           list_all-append (λ f. nat_lt f.frame 256) frames (fresh above ∷ [])
@@ -56,13 +58,15 @@ module _ (frames : List PlainFrame) (numbered : IsNumbered frames) where
       at None = tt
       at (Some above) = by_number above (has_frame frame frames)
 
-  numbered_navigated : (rules : List Rule) (frame : ℕ) (url : PlainAddress) (keep_flag : Bool) → IfOk (calls.navigated rules frame url keep_flag frames) IsNumbered
+  numbered_navigated : (rules : List Rule) (frame : ℕ) (url : PlainAddress) (keep_flag : Bool)
+      → IfOk (calls.navigated rules frame url keep_flag frames) IsNumbered
   numbered_navigated rules frame url keep_flag = at (document_of frame frames)
     where
       at : (before : Option PlainDocument) → IfOk (calls.navigated_from before rules frame url keep_flag frames) IsNumbered
       at None = tt
       at (Some before) =
-          numbered_marked (λ f. f.frame == frame) (λ d. loaded_instead rules keep_flag before url) (calls.without_below frame frames)
+          numbered_marked (λ f. f.frame == frame) (λ d. loaded_instead rules keep_flag before url)
+          (calls.without_below frame frames)
           ∙ numbered_kept (λ f. (f.frame == frame) || not (is_on_chain frame f.frame frames)) frames numbered
 
   numbered_there : (frame : ℕ) (after : List PlainFrame) → IsNumbered after → IfOk (where_there frame frames after) IsNumbered
@@ -72,7 +76,8 @@ module _ (frames : List PlainFrame) (numbered : IsNumbered frames) where
       at true = is
       at false = tt
 
-numbered_below : (frame : ℕ) (after : Result (List PlainFrame) TreeFault) → IfOk after IsNumbered → IfOk (where_below frame after) IsNumbered
+numbered_below : (frame : ℕ) (after : Result (List PlainFrame) TreeFault) → IfOk after IsNumbered
+    → IfOk (where_below frame after) IsNumbered
 numbered_below frame after is = at (frame == 0)
   where
     at : (b : Bool) → IfOk (cond b (Err NoFrame) after) IsNumbered
@@ -85,36 +90,45 @@ numbered_below frame after is = at (frame == 0)
 abbrev pub Leaves : List PlainFrame → Result (List PlainFrame) TreeFault → Type 0
 Leaves frames result = IfOk result (λ after. IsFrameTree after × (top_site after ≡ top_site frames))
 
-both : (frames : List PlainFrame) (result : Result (List PlainFrame) TreeFault) → IfOk result (KeepsTop frames) → IfOk result IsNumbered → Leaves frames result
+both : (frames : List PlainFrame) (result : Result (List PlainFrame) TreeFault)
+    → IfOk result (KeepsTop frames) → IfOk result IsNumbered → Leaves frames result
 both frames (Ok after) top numbered = (record { tree = top.0; numbered = numbered }, top.1)
 both frames (Err why) top numbered = tt
 
 module _ (frames : List PlainFrame) (tree : IsFrameTree frames) where
-  pub tree_added : (rules : List Rule) (at : Label) (parent : ℕ) (url : PlainAddress) (sandbox : Option (List ℕ)) (deny : Bool) → nat_lt at.frame 256 ≡ true → Leaves frames (frames_added rules at parent url sandbox deny frames)
+  pub tree_added : (rules : List Rule) (at : Label) (parent : ℕ) (url : PlainAddress)
+      (sandbox : Option (List ℕ)) (deny : Bool) → nat_lt at.frame 256 ≡ true
+      → Leaves frames (frames_added rules at parent url sandbox deny frames)
   tree_added rules at parent url sandbox deny low =
-      both frames (frames_added rules at parent url sandbox deny frames) (added_top frames tree.tree rules at parent url sandbox deny)
+      both frames (frames_added rules at parent url sandbox deny frames)
+      (added_top frames tree.tree rules at parent url sandbox deny)
       (numbered_added frames tree.numbered rules parent at.frame url (sandbox_of sandbox) deny low)
 
-  pub tree_navigated : (rules : List Rule) (at : Label) (url : PlainAddress) (by_self : Bool) → Leaves frames (frames_navigated rules at url by_self frames)
+  pub tree_navigated : (rules : List Rule) (at : Label) (url : PlainAddress) (by_self : Bool)
+      → Leaves frames (frames_navigated rules at url by_self frames)
   tree_navigated rules at url by_self =
       let keep_flag = is_granted_nav by_self at.frame frames url in
       both frames (frames_navigated rules at url by_self frames) (navigated_top frames tree.tree rules at url by_self)
-      (numbered_below at.frame (calls.navigated rules at.frame url keep_flag frames) (numbered_navigated frames tree.numbered rules at.frame url keep_flag))
+      (numbered_below at.frame (calls.navigated rules at.frame url keep_flag frames)
+      (numbered_navigated frames tree.numbered rules at.frame url keep_flag))
 
   pub tree_removed : (at : Label) → Leaves frames (frames_removed at frames)
   tree_removed at =
       both frames (frames_removed at frames) (removed_top frames tree.tree at)
       (numbered_below at.frame (where_there at.frame frames (calls.without at.frame frames))
-      (numbered_there frames tree.numbered at.frame (calls.without at.frame frames) (numbered_kept (λ f. not (is_on_chain at.frame f.frame frames)) frames tree.numbered)))
+      (numbered_there frames tree.numbered at.frame (calls.without at.frame frames)
+      (numbered_kept (λ f. not (is_on_chain at.frame f.frame frames)) frames tree.numbered)))
 
   pub tree_clicked : (now : ℕ) (at : Label) → Leaves frames (frames_clicked now at frames)
   tree_clicked now at =
       both frames (frames_clicked now at frames) (clicked_top frames tree.tree now at)
       (numbered_there frames tree.numbered at.frame (calls.activated at.frame (pos now) frames)
-      (numbered_marked (λ f. calls.is_activated at.frame (calls.origin_of at.frame frames) frames f) (calls.with_mark (Some (pos now))) frames ∙ tree.numbered))
+      (numbered_marked (λ f. calls.is_activated at.frame (calls.origin_of at.frame frames) frames f)
+      (calls.with_mark (Some (pos now))) frames ∙ tree.numbered))
 
 -- what the end of a request for storage access leaves is a tree too
-pub tree_requested : (frames : List PlainFrame) → IsFrameTree frames → (gives consumes : Bool) (frame : ℕ) → IsFrameTree (requested gives consumes frame frames)
+pub tree_requested : (frames : List PlainFrame) → IsFrameTree frames → (gives consumes : Bool) (frame : ℕ)
+    → IsFrameTree (requested gives consumes frame frames)
 tree_requested frames tree gives consumes frame = record {
   tree = tree-requested gives consumes frame frames tree.tree;
   numbered = spent consumes (given gives frame frames) ∙ got gives ∙ tree.numbered;
@@ -129,5 +143,6 @@ tree_requested frames tree gives consumes frame = record {
     spent false fs = refl
 
 -- a tab that was just opened has a tree, under the site of its address
-pub tree_opened : (rules : List Rule) (url : PlainAddress) → IsFrameTree (calls.opened rules url) × (top_site (calls.opened rules url) ≡ Some (site_of_address rules url))
+pub tree_opened : (rules : List Rule) (url : PlainAddress)
+    → IsFrameTree (calls.opened rules url) × (top_site (calls.opened rules url) ≡ Some (site_of_address rules url))
 tree_opened rules url = let top = opened_top rules url in (record { tree = top.0; numbered = refl }, top.1)

@@ -17,9 +17,9 @@ use Rattle.web_cookies.specs.Stored.{Entries as CookieEntries}
 use Rattle.web_cookies.specs.declared.prepared.Prepared.{Prepared}
 use Rattle.agent_model.specs.Done.{Effect, answers}
 use Rattle.agent_model.specs.Frames.{on_frames}
-use Rattle.agent_memory.specs.Actions.{Acts, Answered, IsDone, Stays}
+use Rattle.agent_memory.specs.Actions.{Acts, Answered, Stays}
 use Rattle.agent_memory.specs.FrameTrees.{AreTrees, IsFrameTree}
-use Rattle.agent_memory.specs.HoldingsView.{HoldingsView, cells_of, held_of}
+use Rattle.agent_memory.specs.HoldingsView.{HoldingsView}
 use Rattle.agent_memory.specs.Requests.{IsPerformed, KeepsCookies}
 use Rattle.agent_memory.proofs.DoneLemmas.{done_by, frames_done, frames_refused, stays_same, tree_of_open}
 use Rattle.agent_memory.proofs.FrameLemmas.{Leaves}
@@ -34,12 +34,16 @@ pub trees_in_place : (number : ℕ) (fresh : Option ℕ) (old new : PlainLive) (
 trees_in_place number fresh old new after (Ok u) is put same opened leaves trees =
     let tree : IsFrameTree (frames_at number old.tabs) = tree_of_open (tab_at number old.tabs) opened (trees number) in
     subst AreTrees (sym put)
-    (trees_after_put number (frames_at number new.tabs) fresh old.tabs (subst (Leaves (frames_at number old.tabs)) is (leaves tree)).0 trees)
-trees_in_place number fresh old new after (Err why) is put same opened leaves trees = subst (λ (l : PlainLive). AreTrees l.tabs) (sym same) trees
+    (trees_after_put number (frames_at number new.tabs) fresh old.tabs
+    (subst (Leaves (frames_at number old.tabs)) is (leaves tree)).0 trees)
+trees_in_place number fresh old new after (Err why) is put same opened leaves trees =
+    subst (λ (l : PlainLive). AreTrees l.tabs) (sym same) trees
 
 -- the action was refused, or memory was wanting
-pub acts_refused : (number : ℕ) (tab : PlainTab) (fresh : Option ℕ) (next : List PlainFrame → Effect) (after : Result (List PlainFrame) TreeFault) (old new : HoldingsView)
-    → Stays old new → (why : TreeFault) → (why ≡ NoMemory) ⊎ (after ≡ Err why) → (body : PlainBody) (result : Result ReplyBody memory.NoMemory) → Answered (Err why) body result
+pub acts_refused : (number : ℕ) (tab : PlainTab) (fresh : Option ℕ) (next : List PlainFrame → Effect)
+    (after : Result (List PlainFrame) TreeFault) (old new : HoldingsView)
+    → Stays old new → (why : TreeFault) → (why ≡ NoMemory) ⊎ (after ≡ Err why)
+    → (body : PlainBody) (result : Result ReplyBody memory.NoMemory) → Answered (Err why) body result
     → Acts (on_frames number tab fresh next after) old new result
 acts_refused number tab fresh next after old new stays NoFrame is body (Ok b) answered =
     frames_refused number tab fresh next after NoFrame (body_of b) old new is (λ e. cc e) answered stays
@@ -51,33 +55,46 @@ acts_refused number tab fresh next after old new stays NoMemory is body (Ok b) a
 acts_refused number tab fresh next after old new stays NoMemory is body (Err e) answered = stays
 
 -- the action was done, or refused
-pub acts_in_place : (number : ℕ) (fresh : Option ℕ) (old new : HoldingsView) (after : Result (List PlainFrame) TreeFault) → new.storage ≡ old.storage → new.grants ≡ old.grants → KeepsCookies old.cookies new.cookies
+pub acts_in_place : (number : ℕ) (fresh : Option ℕ) (old new : HoldingsView)
+    (after : Result (List PlainFrame) TreeFault) → new.storage ≡ old.storage → new.grants ≡ old.grants
+    → KeepsCookies old.cookies new.cookies
     → top_site (frames_at number new.live.tabs) ≡ top_site (frames_at number old.live.tabs)
     → (done : Result (Unit {0}) TreeFault) → Answers (λ _. frames_at number new.live.tabs) NoMemory after done
     → OnOk done (IsPutIn number fresh old.live.tabs new.live.tabs) → OnErr done (new.live ≡ old.live)
-    → (tab : PlainTab) → tab_at number old.live.tabs ≡ Some tab → (body : PlainBody) (result : Result ReplyBody memory.NoMemory) → Answered done body result
+    → (tab : PlainTab) → tab_at number old.live.tabs ≡ Some tab
+    → (body : PlainBody) (result : Result ReplyBody memory.NoMemory) → Answered done body result
     → Acts (on_frames number tab fresh (λ frames. answers body) after) old new result
 acts_in_place number fresh old new after storage rows keeps site (Ok u) is put same tab found body (Ok b) answered =
     frames_done number tab fresh (λ frames. answers body) after (frames_at number new.live.tabs) (body_of b) old new new found is
-    (site ∙ ap (λ t. top_site (frames_by t)) found) put storage rows keeps (record { held = refl; cells = refl; answer = answered; places = refl })
-acts_in_place number fresh old new after storage rows keeps site (Ok u) is put same tab found body (Err e) answered = absurd answered
+    (site ∙ ap (λ t. top_site (frames_by t)) found) put storage rows keeps
+    (record { held = refl; cells = refl; answer = answered; places = refl })
+acts_in_place number fresh old new after storage rows keeps site (Ok u) is put same tab found body (Err e)
+    answered = absurd answered
 acts_in_place number fresh old new after storage rows keeps site (Err why) is put same tab found body result answered =
-    acts_refused number tab fresh (λ frames. answers body) after old new (stays_same old new (ap (λ (l : PlainLive). l.tabs) same) storage rows keeps) why is body result answered
+    acts_refused number tab fresh (λ frames. answers body) after old new
+    (stays_same old new (ap (λ (l : PlainLive). l.tabs) same) storage rows keeps) why is body result answered
 
 -- a frame was loaded, or that was refused: its cookies were prepared before, and performed once the frames had it
-pub load_in_place : (number : ℕ) (fresh : Option ℕ) (does : Effect) (prepared : Prepared) (own : CookieEntries) (old new : HoldingsView) (after : Result (List PlainFrame) TreeFault)
+pub load_in_place : (number : ℕ) (fresh : Option ℕ) (does : Effect) (prepared : Prepared)
+    (own : CookieEntries) (old new : HoldingsView) (after : Result (List PlainFrame) TreeFault)
     → new.storage ≡ old.storage → new.grants ≡ old.grants → KeepsCookies old.cookies own → Prepares does own prepared
     → top_site (frames_at number new.live.tabs) ≡ top_site (frames_at number old.live.tabs)
     → (done : Result (Unit {0}) TreeFault) → Answers (λ _. frames_at number new.live.tabs) NoMemory after done
     → OnOk done (IsPutIn number fresh old.live.tabs new.live.tabs) → OnErr done (new.live ≡ old.live)
-    → (tab : PlainTab) → tab_at number old.live.tabs ≡ Some tab → (result : Result ReplyBody memory.NoMemory) → IsPerformed done prepared own new.cookies result
+    → (tab : PlainTab) → tab_at number old.live.tabs ≡ Some tab → (result : Result ReplyBody memory.NoMemory)
+    → IsPerformed done prepared own new.cookies result
     → Acts (on_frames number tab fresh (λ frames. does) after) old new result
-load_in_place number fresh does prepared own old new after storage rows keeps ready site (Ok u) is put same tab found (Ok b) performed =
+load_in_place number fresh does prepared own old new after storage rows keeps ready site (Ok u)
+    is put same tab found (Ok b) performed =
     let mid : HoldingsView = record new { cookies = own } in
     frames_done number tab fresh (λ frames. does) after (frames_at number new.live.tabs) (body_of b) old mid new found is
-    (site ∙ ap (λ t. top_site (frames_by t)) found) put storage rows keeps (done_by does mid new (body_of b) refl refl refl (performed does ready))
-load_in_place number fresh does prepared own old new after storage rows keeps ready site (Ok u) is put same tab found (Err e) performed = absurd performed
-load_in_place number fresh does prepared own old new after storage rows keeps ready site (Err why) is put same tab found result performed =
+    (site ∙ ap (λ t. top_site (frames_by t)) found) put storage rows keeps
+    (done_by does mid new (body_of b) refl refl refl (performed does ready))
+load_in_place number fresh does prepared own old new after storage rows keeps ready site (Ok u)
+    is put same tab found (Err e) performed = absurd performed
+load_in_place number fresh does prepared own old new after storage rows keeps ready site (Err why)
+    is put same tab found result performed =
     acts_refused number tab fresh (λ frames. does) after old new
-    (stays_same old new (ap (λ (l : PlainLive). l.tabs) same) storage rows (subst (KeepsCookies old.cookies) (sym performed.0) keeps))
+    (stays_same old new (ap (λ (l : PlainLive). l.tabs) same) storage rows
+    (subst (KeepsCookies old.cookies) (sym performed.0) keeps))
     why is (Plain []) result (performed.1 (Plain []))

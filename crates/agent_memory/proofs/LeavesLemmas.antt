@@ -41,26 +41,30 @@ module _ (cells : SharedCells) (held : Holdings) (tab : ℕ) where
   -- ---- areas and buckets
 
   -- an area of another tab
-  area_leaves : (kind : AreaKind) (other : ℕ) (key : PlainKey) (pairs : List Pair) → (tab == other) ≡ false → SameAt tab held (with_area kind other key pairs held)
+  area_leaves : (kind : AreaKind) (other : ℕ) (key : PlainKey) (pairs : List Pair) → (tab == other) ≡ false
+      → SameAt tab held (with_area kind other key pairs held)
   unfolding set_cell
   area_leaves Local other key pairs apart own = refl
   area_leaves Session other key pairs apart own = at pairs
     where
       untied_by : (b : Bool) → eq_by_cmp session_order (tab, own) (other, key) ≡ b → b ≡ false
       untied_by true tie =
-          let equal : tab ≡ other = ap (λ (k : SessionKey). k.0) (kept.tied session_order session_order_total session_order_same (tab, own) (other, key) tie) in
+          let equal : tab ≡ other = ap (λ (k : SessionKey). k.0)
+          (kept.tied session_order session_order_total session_order_same (tab, own) (other, key) tie) in
           absurd (true≢false (sym ((Decides-eqb tab other).1 equal) ∙ apart))
       untied_by false tie = refl
 
       untied : eq_by_cmp session_order (tab, own) (other, key) ≡ false
       untied = untied_by (eq_by_cmp session_order (tab, own) (other, key)) refl
 
-      changed_else : (x : Option (Full Pair)) → get (kept.changed_at (other, key) x held.sessions) (tab, own) ≡ get held.sessions (tab, own)
+      changed_else : (x : Option (Full Pair)) → get (kept.changed_at (other, key) x held.sessions) (tab, own)
+          ≡ get held.sessions (tab, own)
       changed_else x =
           kept.get_changed session_order session_order_total session_order_same held.sessions (other, key) x (tab, own)
           ∙ ap (λ b. cond b x (get held.sessions (tab, own))) untied
 
-      at : (pairs : List Pair) → get (set_cell session_order (other, key) pairs held.sessions) (tab, own) ≡ get held.sessions (tab, own)
+      at : (pairs : List Pair) → get (set_cell session_order (other, key) pairs held.sessions) (tab, own)
+          ≡ get held.sessions (tab, own)
       at [] = changed_else None
       at (x ∷ xs) = changed_else (Some (record { first = x; rest = xs }))
 
@@ -72,31 +76,38 @@ module _ (cells : SharedCells) (held : Holdings) (tab : ℕ) where
       pub write_leaves : (pairs : List Pair) (event : PlainEvent) → Leaves (write kind writer pairs event cells held)
       write_leaves pairs event = area_leaves kind label.tab key pairs apart
 
-      pub set_leaves : (answer : PlainPut) (name value : List ℕ) (pairs : List Pair) → Leaves (set_by answer kind writer name value pairs cells held)
+      pub set_leaves : (answer : PlainPut) (name value : List ℕ) (pairs : List Pair)
+          → Leaves (set_by answer kind writer name value pairs cells held)
       set_leaves answer name value pairs = by answer
         where
-          stored : (b : Bool) (event : PlainEvent) → Leaves (cond b (answers (Plain (codes "quota")) cells held) (write kind writer pairs event cells held))
+          stored : (b : Bool) (event : PlainEvent)
+              → Leaves (cond b (answers (Plain (codes "quota")) cells held) (write kind writer pairs event cells held))
           stored true event = λ own. refl
           stored false event = write_leaves pairs event
 
           by : (answer : PlainPut) → Leaves (set_by answer kind writer name value pairs cells held)
           by same = λ own. refl
           by added = stored (nat_lt quota (area_weight pairs)) (change_event kind writer (Some name) None (Some value))
-          by (changed before) = stored (nat_lt quota (area_weight pairs)) (change_event kind writer (Some name) (Some before) (Some value))
+          by (changed before) = stored (nat_lt quota (area_weight pairs))
+              (change_event kind writer (Some name) (Some before) (Some value))
 
       pub remove_leaves : (found : Option (List ℕ)) (name : List ℕ) → Leaves (remove_by found kind writer name cells held)
       remove_leaves None name = λ own. refl
-      remove_leaves (Some before) name = write_leaves (area_remove name (pairs_of kind writer held)) (change_event kind writer (Some name) (Some before) None)
+      remove_leaves (Some before) name = write_leaves (area_remove name (pairs_of kind writer held))
+          (change_event kind writer (Some name) (Some before) None)
 
     pub with_key_leaves : (open_tab : PlainTab) (action : Keyed → Effect)
-        → ((document : PlainDocument) (key : PlainKey) → Leaves (action (keyed_by label document key) cells held)) → Leaves (with_key label open_tab action cells held)
+        → ((document : PlainDocument) (key : PlainKey)
+        → Leaves (action (keyed_by label document key) cells held)) → Leaves (with_key label open_tab action cells held)
     with_key_leaves open_tab action each = by_found (document_of label.frame open_tab.frames)
       where
         by_own : (document : PlainDocument) (key : Option PlainKey) → Leaves (by_key label document key action cells held)
         by_own document None = λ own. refl
         by_own document (Some key) = each document key
 
-        by_found : (document : Option PlainDocument) → Leaves (by_document document (λ document. by_key label document (key_of_document label.frame open_tab.frames document) action) cells held)
+        by_found : (document : Option PlainDocument)
+            → Leaves (by_document document (λ document. by_key label document
+            (key_of_document label.frame open_tab.frames document) action) cells held)
         by_found None = λ own. refl
         by_found (Some document) = by_own document (key_of_document label.frame open_tab.frames document)
 
@@ -108,6 +119,7 @@ module _ (cells : SharedCells) (held : Holdings) (tab : ℕ) where
       by false true = λ own. refl
       by false false = λ own. refl
 
-      at : (b : Bool) → Leaves (cond b (persist_by (is_persistent asker.key held) (is_grant answer) asker cells held) (answers (Plain (codes "insecure")) cells held))
+      at : (b : Bool) → Leaves (cond b (persist_by (is_persistent asker.key held) (is_grant answer)
+          asker cells held) (answers (Plain (codes "insecure")) cells held))
       at true = by (is_persistent asker.key held) (is_grant answer)
       at false = λ own. refl

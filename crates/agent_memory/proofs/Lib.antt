@@ -4,6 +4,7 @@ pub mod TabLemmas
 -- The tab and the document that a line names.
 pub mod FoundLemmas
 -- What an action makes of what is held.
+pub mod ShownLemmas
 pub mod DoneLemmas
 pub mod AccessLemmas
 pub mod ActLemmas

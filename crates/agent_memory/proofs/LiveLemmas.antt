@@ -38,17 +38,21 @@ number_found number (first ∷ tabs) tab is = at (first.number == number) refl (
   where
     at : (b : Bool) → (first.number == number) ≡ b → (tab_at number tabs ≡ Some tab → tab.number ≡ number)
         → cond b (Some first) (tab_at number tabs) ≡ Some tab → tab.number ≡ number
-    at true same later is = let found : first ≡ tab = cc is in ap (λ t. t.number) (sym found) ∙ (Decides-eqb first.number number).0 same
+    at true same later is = let found : first ≡ tab =
+        cc is in ap (λ t. t.number) (sym found) ∙ (Decides-eqb first.number number).0 same
     at false apart later is = later is
 
 -- a place is put or taken out
-pub placed_changed : (number : ℕ) (site : Option PlainSite) (places : Places) → placed_by number site places ≡ changed_at number site places
+pub placed_changed : (number : ℕ) (site : Option PlainSite) (places : Places)
+    → placed_by number site places ≡ changed_at number site places
 placed_changed number None places = refl
 placed_changed number (Some site) places = refl
 
-site_placed : (number : ℕ) (site : Option PlainSite) (places : Places) (q : ℕ) → site_at q (placed_by number site places) ≡ cond (number == q) site (site_at q places)
+site_placed : (number : ℕ) (site : Option PlainSite) (places : Places) (q : ℕ)
+    → site_at q (placed_by number site places) ≡ cond (number == q) site (site_at q places)
 site_placed number site places q =
-    ap (site_at q) (placed_changed number site places) ∙ get_changed nat_cmp nat_cmp_total nat_cmp-IsAntisymmetric places number site q
+    ap (site_at q) (placed_changed number site places)
+    ∙ get_changed nat_cmp nat_cmp_total nat_cmp-IsAntisymmetric places number site q
     ∙ ap (λ b. cond b site (site_at q places)) (same_test q number)
 
 -- the site of the top document of a tab, where it is open
@@ -92,12 +96,14 @@ module _ (number : ℕ) (tab : Option PlainTab) (before after : List PlainTab) (
 -- a tab is put
 pub put_changes : (made : PlainTab) (tabs : List PlainTab) → ChangesAt made.number (Some made) tabs (with_tab made tabs)
 put_changes made tabs q =
-    find-append (λ t. t.number == q) (filter (λ t. nat_lt t.number made.number) tabs) (made ∷ filter (λ t. nat_lt made.number t.number) tabs)
+    find-append (λ t. t.number == q) (filter (λ t. nat_lt t.number made.number) tabs)
+    (made ∷ filter (λ t. nat_lt made.number t.number) tabs)
     ∙ (λ i. option_or (find-kept (λ t. t.number) (λ m. nat_lt m made.number) q tabs i)
     (cond (made.number == q) (Some made) (find-kept (λ t. t.number) (λ m. nat_lt made.number m) q tabs i)))
     ∙ at (nat_lt q made.number) (made.number == q) (nat_lt made.number q) refl refl refl (tab_at q tabs)
   where
-    at : (low same high : Bool) → nat_lt q made.number ≡ low → (made.number == q) ≡ same → nat_lt made.number q ≡ high → (found : Option PlainTab)
+    at : (low same high : Bool) → nat_lt q made.number ≡ low → (made.number == q) ≡ same
+        → nat_lt made.number q ≡ high → (found : Option PlainTab)
         → option_or (cond low found None) (cond same (Some made) (cond high found None)) ≡ cond same (Some made) found
     at true true high a b c found = absurd (grind (arith, nat_tests))
     at true false true a b c found = absurd (grind (arith, nat_tests))

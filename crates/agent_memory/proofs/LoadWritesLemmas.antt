@@ -24,25 +24,28 @@ use Rattle.agent_model.specs.Partition.{Holdings}
 use Rattle.agent_model.specs.Documents.{by_document, with_document}
 use Rattle.agent_model.specs.Done.{Done, Effect, SharedCells}
 use Rattle.agent_model.specs.Frames.{on_frames}
-use Rattle.agent_model.specs.Sessions.{copy_sessions}
 use Rattle.agent_memory.specs.Actions.{Answered}
 use Rattle.agent_memory.specs.Lines.{copied_under, with_copies}
 use Rattle.agent_memory.specs.Requests.{IsPerformed, KeepsCookies}
 use Rattle.agent_memory.specs.Writes.{AreRows}
-use Rattle.agent_memory.proofs.FoundLemmas.{document_there}
+use Rattle.line_events.proofs.CellLemmas.{document_there}
 use Rattle.agent_memory.proofs.RequestLemmas.{there_is}
-use Rattle.agent_memory.proofs.WritesLemmas.{appended_front, cut_back, front_same, none_appended, writes_none}
+use Rattle.agent_memory.proofs.WritesLemmas.{cut_back, front_same, writes_none}
 
 -- ---- what was prepared
 
 -- they are those of each effect that it was prepared for
-pub rows_written : (prepared : Prepared) (changes : List PlainChange) → changes ≡ map plain_change prepared.rows.items → (before after : List ℕ)
-    → (result : Result (Unit {0}) memory.NoMemory) → Appends changes before after result → OnOk result (AreRows prepared before after)
-rows_written prepared changes is before after (Ok u) appended = λ does entries others ready. subst (λ c. IsAppended c before after) (is ∙ ready.rows others) appended
+pub rows_written : (prepared : Prepared) (changes : List PlainChange)
+    → changes ≡ map plain_change prepared.rows.items → (before after : List ℕ)
+    → (result : Result (Unit {0}) memory.NoMemory) → Appends changes before after result
+    → OnOk result (AreRows prepared before after)
+rows_written prepared changes is before after (Ok u)
+    appended = λ does entries others ready. subst (λ c. IsAppended c before after) (is ∙ ready.rows others) appended
 rows_written prepared changes is before after (Err wanting) front = tt
 
 -- its row changes are those of the effect with what is held
-pub ready_written : (does : Effect) (prepared : Prepared) (old own : CookieEntries) (held : Holdings) (before after : List ℕ) → held.cookies ≡ partitioned_in old → KeepsCookies old own
+pub ready_written : (does : Effect) (prepared : Prepared) (old own : CookieEntries) (held : Holdings)
+    (before after : List ℕ) → held.cookies ≡ partitioned_in old → KeepsCookies old own
     → Prepares does own prepared → AreRows prepared before after → IsAppended (does (shared_in old) held).changes before after
 ready_written does prepared old own held before after is keeps ready rows =
     let same : does (shared_in own) (cookies.held_with own held) ≡ does (shared_in old) held =
@@ -52,8 +55,10 @@ ready_written does prepared old own held before after is keeps ready rows =
 -- ---- a document that is there
 
 -- what is done for it, whichever it is
-pub present_is : (at : Label) (tabs : List PlainTab) (tab : PlainTab) → tab_at at.tab tabs ≡ Some tab → has_document tabs at ≡ true → (does : Effect) → with_document at tab (λ document. does) ≡ does
-present_is at tabs tab found is does = by (document_of at.frame tab.frames) (document_there at.frame tab.frames ∙ there_is at tabs tab found true is)
+pub present_is : (at : Label) (tabs : List PlainTab) (tab : PlainTab) → tab_at at.tab tabs ≡ Some tab
+    → has_document tabs at ≡ true → (does : Effect) → with_document at tab (λ document. does) ≡ does
+present_is at tabs tab found is does = by (document_of at.frame tab.frames)
+    (document_there at.frame tab.frames ∙ there_is at tabs tab found true is)
   where
     by : (document : Option PlainDocument) → is_some document ≡ true → by_document document (λ document. does) ≡ does
     by None there = absurd (cc there)
@@ -63,38 +68,53 @@ present_is at tabs tab found is does = by (document_of at.frame tab.frames) (doc
 
 module _ (number : ℕ) (tab : PlainTab) (fresh : Option ℕ) (cells : SharedCells) (held : Holdings) where
   -- the frames refuse the load, which writes nothing
-  pub refused_none : (next : List PlainFrame → Effect) (after : Result (List PlainFrame) TreeFault) (why : TreeFault) → after ≡ Err why → (on_frames number tab fresh next after cells held).changes ≡ []
+  pub refused_none : (next : List PlainFrame → Effect) (after : Result (List PlainFrame) TreeFault)
+      (why : TreeFault) → after ≡ Err why → (on_frames number tab fresh next after cells held).changes ≡ []
   refused_none next after why is = ap (λ r. (on_frames number tab fresh next r cells held).changes) is
 
-  by_refusal : (next : List PlainFrame → Effect) (after : Result (List PlainFrame) TreeFault) (why : TreeFault) → (why ≡ NoMemory) ⊎ (after ≡ Err why) → (body : PlainBody) (result : Result ReplyBody memory.NoMemory)
-      → Answered (Err why) body result → (before : List ℕ) → Appends (on_frames number tab fresh next after cells held).changes before before result
+  by_refusal : (next : List PlainFrame → Effect) (after : Result (List PlainFrame) TreeFault)
+      (why : TreeFault) → (why ≡ NoMemory) ⊎ (after ≡ Err why) → (body : PlainBody) (result : Result ReplyBody memory.NoMemory)
+      → Answered (Err why) body result → (before : List ℕ)
+      → Appends (on_frames number tab fresh next after cells held).changes before before result
   by_refusal next after NoFrame (inl wanting) body result answered before = absurd (cc wanting)
-  by_refusal next after NoFrame (inr is) body result answered before = writes_none _ (refused_none next after NoFrame is) before result
+  by_refusal next after NoFrame (inr is) body result answered before =
+      writes_none _ (refused_none next after NoFrame is) before result
   by_refusal next after FrameExists (inl wanting) body result answered before = absurd (cc wanting)
-  by_refusal next after FrameExists (inr is) body result answered before = writes_none _ (refused_none next after FrameExists is) before result
+  by_refusal next after FrameExists (inr is) body result answered before =
+      writes_none _ (refused_none next after FrameExists is) before result
   by_refusal next after NoMemory is body (Ok told) answered before = absurd answered
   by_refusal next after NoMemory is body (Err wanting) answered before = front_same before
 
   -- a load that is done has its row changes written; they are cut off where the frames refuse it
-  pub load_written : (does : Effect) (prepared : Prepared) (old own : CookieEntries) (new : CookieEntries) (after : Result (List PlainFrame) TreeFault) (frames : List PlainFrame) (length_before : ℕ) (before mid last : List ℕ) → length_before ≡ length before
-      → held.cookies ≡ partitioned_in old → cells ≡ shared_in old → KeepsCookies old own → Prepares does own prepared → AreRows prepared before mid → IsFront before mid
-      → (done : Result (Unit {0}) TreeFault) → Answers (λ _. frames) NoMemory after done → OnOk done (last ≡ mid) → OnErr done (last ≡ take length_before mid)
+  pub load_written : (does : Effect) (prepared : Prepared) (old own : CookieEntries) (new : CookieEntries)
+      (after : Result (List PlainFrame) TreeFault) (frames : List PlainFrame) (length_before : ℕ)
+      (before mid last : List ℕ) → length_before ≡ length before
+      → held.cookies ≡ partitioned_in old → cells ≡ shared_in old → KeepsCookies old own
+      → Prepares does own prepared → AreRows prepared before mid → IsFront before mid
+      → (done : Result (Unit {0}) TreeFault) → Answers (λ _. frames) NoMemory after done
+      → OnOk done (last ≡ mid) → OnErr done (last ≡ take length_before mid)
       → (result : Result ReplyBody memory.NoMemory) → IsPerformed done prepared own new result
       → Appends (on_frames number tab fresh (λ frames. does) after cells held).changes before last result
-  load_written does prepared old own new after frames n before mid last counts has shared keeps ready rows front (Ok u) is kept cut (Err wanting) performed = absurd performed
-  load_written does prepared old own new after frames n before mid last counts has shared keeps ready rows front (Ok u) is kept cut (Ok told) performed =
+  load_written does prepared old own new after frames n before mid last counts has shared keeps ready rows
+      front (Ok u) is kept cut (Err wanting) performed = absurd performed
+  load_written does prepared old own new after frames n before mid last counts has shared keeps ready rows
+      front (Ok u) is kept cut (Ok told) performed =
       subst (λ r. IsAppended (on_frames number tab fresh (λ frames. does) r cells held).changes before last) (sym is)
-      (subst (λ end. IsAppended (on_frames number tab fresh (λ frames. does) (Ok frames) cells held).changes before end) (sym kept)
+      (subst (λ end. IsAppended (on_frames number tab fresh (λ frames. does) (Ok frames) cells held).changes
+      before end) (sym kept)
       (subst (λ c. IsAppended (on_frames number tab fresh (λ frames. does) (Ok frames) c held).changes before mid) (sym shared)
       (ready_written does prepared old own _ before mid has keeps ready rows)))
-  load_written does prepared old own new after frames n before mid last counts has shared keeps ready rows front (Err why) is kept cut result performed =
-      subst (λ end. Appends (on_frames number tab fresh (λ frames. does) after cells held).changes before end result) (sym (cut ∙ ap (λ n. take n mid) counts ∙ cut_back before mid front))
+  load_written does prepared old own new after frames n before mid last counts has shared keeps ready rows
+      front (Err why) is kept cut result performed =
+      subst (λ end. Appends (on_frames number tab fresh (λ frames. does) after cells held).changes before end
+      result) (sym (cut ∙ ap (λ n. take n mid) counts ∙ cut_back before mid front))
       (by_refusal (λ frames. does) after why is (Plain []) result (performed.1 (Plain [])) before)
 
 -- ---- loads of top documents
 
 -- copies are no cookies
-pub copies_cookies : (opener : Option ℕ) (to : ℕ) (tabs : List PlainTab) (held : Holdings) → (with_copies opener to tabs held).cookies ≡ held.cookies
+pub copies_cookies : (opener : Option ℕ) (to : ℕ) (tabs : List PlainTab) (held : Holdings)
+    → (with_copies opener to tabs held).cookies ≡ held.cookies
 copies_cookies None to tabs held = refl
 copies_cookies (Some opener) to tabs held = by (top_site (frames_by (tab_at opener tabs)))
   where

@@ -12,7 +12,8 @@ use Rattle.live_state.specs.Documents.{frame_numbers}
 
 module _ {X Y : Type 0} where
   -- what a filter keeps, and a function makes of it
-  pub any_kept : (p : Y → Bool) (f : X → Y) (q : X → Bool) (xs : List X) → list_any p (map f (filter q xs)) ≡ list_any (λ x. q x && p (f x)) xs
+  pub any_kept : (p : Y → Bool) (f : X → Y) (q : X → Bool) (xs : List X)
+      → list_any p (map f (filter q xs)) ≡ list_any (λ x. q x && p (f x)) xs
   any_kept p f q [] = refl
   any_kept p f q (x ∷ xs) = at (q x) (any_kept p f q xs)
     where
@@ -76,7 +77,8 @@ module _ {X : Type 0} where
         let parts = and_parts (list_all (λ y. nat_lt (key x) (key y)) xs) (rises key xs) rising in
         at (eqb_tells (key x) n) parts.0 (any_one xs parts.1)
       where
-        at : (((key x == n) ≡ true) × (key x ≡ n)) ⊎ (((key x == n) ≡ false) × (key x ≢ n)) → list_all (λ y. nat_lt (key x) (key y)) xs ≡ true
+        at : (((key x == n) ≡ true) × (key x ≡ n)) ⊎ (((key x == n) ≡ false) × (key x ≢ n))
+            → list_all (λ y. nat_lt (key x) (key y)) xs ≡ true
             → some_has xs ≡ passes test (find (λ x. key x == n) xs)
             → ((test x && (key x == n)) || some_has xs) ≡ passes test (cond (key x == n) (Some x) (find (λ x. key x == n) xs))
         at (inl is) high later =
@@ -98,12 +100,14 @@ range_above : (low first count : ℕ) → low < first → list_all (λ m. nat_lt
 range_above low first zero is = refl
 range_above low first (suc count) is =
     let one : nat_lt low first ≡ true = grind (arith, nat_tests) in
-    and_from (nat_lt low first) (list_all (λ m. nat_lt low m) (range_with_len (first + 1) count)) one (range_above low (first + 1) count (omega arith))
+    and_from (nat_lt low first) (list_all (λ m. nat_lt low m) (range_with_len (first + 1) count)) one
+    (range_above low (first + 1) count (omega arith))
 
 range_rises : (first count : ℕ) → rises (λ m. m) (range_with_len first count) ≡ true
 range_rises first zero = refl
 range_rises first (suc count) =
-    and_from (list_all (λ m. nat_lt first m) (range_with_len (first + 1) count)) (rises (λ m. m) (range_with_len (first + 1) count))
+    and_from (list_all (λ m. nat_lt first m) (range_with_len (first + 1) count))
+    (rises (λ m. m) (range_with_len (first + 1) count))
     (range_above first (first + 1) count (omega arith)) (range_rises (first + 1) count)
 
 pub numbers_rise : rises (λ m. m) frame_numbers ≡ true
@@ -120,7 +124,8 @@ range_has n first (suc count) low high = at (eqb_tells first n) (range_has n (fi
     at (inl is) later = ap (λ b. cond b (Some first) (find (λ m. m == n) (range_with_len (first + 1) count))) is.0 ∙ ap Some is.1
     at (inr isnt) later =
         let differ : first ≢ n = isnt.1 in
-        ap (λ b. cond b (Some first) (find (λ m. m == n) (range_with_len (first + 1) count))) isnt.0 ∙ later (omega arith) (omega arith)
+        ap (λ b. cond b (Some first) (find (λ m. m == n) (range_with_len (first + 1) count))) isnt.0
+        ∙ later (omega arith) (omega arith)
 
 -- a number that a frame can have is among all of them
 pub numbers_have : (n : ℕ) → n < 256 → find (λ m. m == n) frame_numbers ≡ Some n

@@ -42,7 +42,8 @@ same_copies : (opener : Option ℕ) (noopener : Bool) (number : ℕ) (tabs : Lis
 same_copies None true number tabs held = refl
 same_copies None false number tabs held = refl
 same_copies (Some from) true number tabs held = refl
-same_copies (Some from) false number tabs held = under (top_site (frames_by (tab_at from tabs))) ∙ ap (λ here. copied_at here from number held) (there (tab_at from tabs) ∙ sym (site_found from tabs))
+same_copies (Some from) false number tabs held = under (top_site (frames_by (tab_at from tabs)))
+    ∙ ap (λ here. copied_at here from number held) (there (tab_at from tabs) ∙ sym (site_found from tabs))
   where
     under : (here : Option PlainSite) → copied_under here from number held ≡ copied_at here from number held
     under None = refl
@@ -54,7 +55,8 @@ same_copies (Some from) false number tabs held = under (top_site (frames_by (tab
 
 module _ (old : AgentState) (standing : IsStanding old) where
   -- the opener is there, and so who starts the load
-  pub starter_is : (opener : Option ℕ) → is_there opener old.tabs ≡ true → opener_of opener (places_in old.tabs) ≡ Some (starter_in opener old.tabs)
+  pub starter_is : (opener : Option ℕ) → is_there opener old.tabs ≡ true
+      → opener_of opener (places_in old.tabs) ≡ Some (starter_in opener old.tabs)
   starter_is None there = refl
   starter_is (Some opener) there =
       let tab = tab_there opener old.tabs there in
@@ -86,26 +88,39 @@ module _ (old : AgentState) (standing : IsStanding old) where
 
     -- ---- refused
 
-    pub runs_unopened : is_there opener old.tabs ≡ false → (reply : Reply) → reply_of reply ≡ record { name = action_name line; site = None; body = Plain (codes "no-tab") } → Runs line old old (Ok reply)
+    pub runs_unopened : is_there opener old.tabs ≡ false → (reply : Reply)
+        → reply_of reply ≡ record { name = action_name line; site = None; body = Plain (codes "no-tab") }
+        → Runs line old old (Ok reply)
     runs_unopened missing reply replies =
-        runs_refused line old standing (Plain (codes "no-tab")) (ap (λ starter. opens starter (site_at number places)) (no_starter opener missing)) reply replies
+        runs_refused line old standing (Plain (codes "no-tab"))
+        (ap (λ starter. opens starter (site_at number places)) (no_starter opener missing)) reply replies
 
     pub runs_taken : is_there opener old.tabs ≡ true → is_open number old.tabs ≡ true
-        → (reply : Reply) → reply_of reply ≡ record { name = action_name line; site = None; body = Plain (codes "tab-exists") } → Runs line old old (Ok reply)
+        → (reply : Reply) → reply_of reply ≡ record {
+          name = action_name line;
+          site = None;
+          body =
+              Plain (codes "tab-exists");
+        } → Runs line old old (Ok reply)
     runs_taken there taken reply replies =
         let tab = tab_there number old.tabs taken in
         let place = place_is old number standing tab.0 tab.1 in
-        runs_refused line old standing (Plain (codes "tab-exists")) (λ i. opens (starter_is opener there i) (place.1 i)) reply replies
+        runs_refused line old standing (Plain (codes "tab-exists"))
+        (λ i. opens (starter_is opener there i) (place.1 i)) reply replies
 
-    pub changes_unopened : is_there opener old.tabs ≡ false → line_changes (machine old.rules) (world_of old) (Open number url opener noopener method head) ≡ []
+    pub changes_unopened : is_there opener old.tabs ≡ false
+        → line_changes (machine old.rules) (world_of old) (Open number url opener noopener method head) ≡ []
     changes_unopened missing =
-        changes_are line old standing (refuses (store_of old) line (Plain (codes "no-tab"))) (ap (λ starter. opens starter (site_at number places)) (no_starter opener missing))
+        changes_are line old standing (refuses (store_of old) line (Plain (codes "no-tab")))
+        (ap (λ starter. opens starter (site_at number places)) (no_starter opener missing))
 
-    pub changes_taken : is_there opener old.tabs ≡ true → is_open number old.tabs ≡ true → line_changes (machine old.rules) (world_of old) (Open number url opener noopener method head) ≡ []
+    pub changes_taken : is_there opener old.tabs ≡ true → is_open number old.tabs ≡ true
+        → line_changes (machine old.rules) (world_of old) (Open number url opener noopener method head) ≡ []
     changes_taken there taken =
         let tab = tab_there number old.tabs taken in
         let place = place_is old number standing tab.0 tab.1 in
-        changes_are line old standing (refuses (store_of old) line (Plain (codes "tab-exists"))) (λ i. opens (starter_is opener there i) (place.1 i))
+        changes_are line old standing (refuses (store_of old) line (Plain (codes "tab-exists")))
+        (λ i. opens (starter_is opener there i) (place.1 i))
 
     -- ---- a tab is opened
 
@@ -115,7 +130,8 @@ module _ (old : AgentState) (standing : IsStanding old) where
 
       -- what the load does with what is held
       abbrev arrived : Holdings → Done
-      arrived held = arrive old.rules old.now target number url method (is_same_site (starter_in opener old.tabs) target) head (cells_in old) held
+      arrived held = arrive old.rules old.now target number url method
+          (is_same_site (starter_in opener old.tabs) target) head (cells_in old) held
 
       -- what is held then, as the agent finds it
       abbrev own_copied : Holdings
@@ -127,12 +143,15 @@ module _ (old : AgentState) (standing : IsStanding old) where
       open_makes : store_step old.rules (store_of old) line ≡ loads
       open_makes =
           (λ i. opens (starter_is opener opener_there i) (nowhere_is number old.tabs free i))
-          ∙ ap (λ held. done_with (store_of old) line target (placed number target places) (arrived held)) (sym (same_copies opener noopener number old.tabs (held_in old)))
+          ∙ ap (λ held. done_with (store_of old) line target (placed number target places) (arrived held))
+          (sym (same_copies opener noopener number old.tabs (held_in old)))
 
-      pub changes_opened : line_changes (machine old.rules) (world_of old) (Open number url opener noopener method head) ≡ change_of target (arrived own_copied).changes
+      pub changes_opened : line_changes (machine old.rules) (world_of old)
+          (Open number url opener noopener method head) ≡ change_of target (arrived own_copied).changes
       changes_opened = changes_are line old standing loads open_makes
 
-      module _ (tabs : List PlainTab) (entries : Entries) (cookies : CookieEntries) (grants : List PlainGrant) (there : places_in tabs ≡ placed number target places)
+      module _ (tabs : List PlainTab) (entries : Entries) (cookies : CookieEntries) (grants : List PlainGrant)
+          (there : places_in tabs ≡ placed number target places)
           (shared : cells_in (replaced old tabs entries cookies grants) ≡ (arrived own_copied).cells)
           (has : held_in (replaced old tabs entries cookies grants) ≡ (arrived own_copied).held) where
         abbrev new : AgentState
@@ -145,8 +164,11 @@ module _ (old : AgentState) (standing : IsStanding old) where
             (owned_shown old.rules number url (held_in old) own_copied standing.owned copies)
           where
             copies : AreCopies number (held_in old) own_copied
-            copies = subst (AreCopies number (held_in old)) (sym (same_copies opener noopener number old.tabs (held_in old))) (copies_by places number opener noopener (held_in old))
+            copies = subst (AreCopies number (held_in old))
+                (sym (same_copies opener noopener number old.tabs (held_in old)))
+                (copies_by places number opener noopener (held_in old))
 
         pub runs_opened : (reply : Reply) → reply_of reply ≡ printed loads.reply → Runs line old new (Ok reply)
         runs_opened reply replies =
-            runs_done line old new refl standing loads open_makes (store_is new (placed number target places) loads.store.cells loads.store.held there shared has) reply replies
+            runs_done line old new refl standing loads open_makes
+            (store_is new (placed number target places) loads.store.cells loads.store.held there shared has) reply replies

@@ -47,7 +47,8 @@ none_tested tab held none =
 
 pub none_found : (tab : ℕ) (held : Holdings) → has_session tab held ≡ false → HasNone tab held
 none_found tab held none key =
-    kept.none_passes session_order session_order_total session_order_same held.sessions (is_of_tab tab) none (tab, key) ((Decides-eqb tab tab).1 refl)
+    kept.none_passes session_order session_order_total session_order_same held.sessions (is_of_tab tab) none
+    (tab, key) ((Decides-eqb tab tab).1 refl)
 
 -- ---- every tab
 
@@ -108,20 +109,25 @@ copies_at (Some site) from to held = record { tabs = refl; others = others }
     others : (tab : ℕ) → (tab == to) ≡ false → SameAt tab held (copied_at (Some site) from to held)
     others tab apart key =
         get_copied site from to held (tab, key)
-        ∙ ap (λ b. option_or (cond b (cond (is_under site key) (get held.sessions (from, key)) None) None) (get held.sessions (tab, key))) apart
+        ∙ ap (λ b. option_or (cond b (cond (is_under site key) (get held.sessions (from, key)) None) None)
+        (get held.sessions (tab, key))) apart
 
-pub copies_by : (places : Places) (to : ℕ) (opener : Option ℕ) (noopener : Bool) (held : Holdings) → AreCopies to held (with_copies places to opener noopener held)
+pub copies_by : (places : Places) (to : ℕ) (opener : Option ℕ) (noopener : Bool) (held : Holdings)
+    → AreCopies to held (with_copies places to opener noopener held)
 copies_by places to (Some from) false held = copies_at (site_at from places) from to held
 copies_by places to (Some from) true held = no_copies to held
 copies_by places to None noopener held = no_copies to held
 
 -- a tab is opened, or goes to an address, after copies for it
-pub owned_shown : (rules : List Rule) (number : ℕ) (url : PlainAddress) (held before : Holdings) → AreOwned held → AreCopies number held before → AreOwned (show rules number url before)
+pub owned_shown : (rules : List Rule) (number : ℕ) (url : PlainAddress) (held before : Holdings)
+    → AreOwned held → AreCopies number held before → AreOwned (show rules number url before)
 owned_shown rules number url held before owned copies = owned_by (show rules number url before) have
   where
-    at : (made : PlainTab) (tab : ℕ) (key : PlainKey) (b : Bool) → (tab == number) ≡ b → cond b (Some made) (tab_named tab before) ≡ None → get before.sessions (tab, key) ≡ None
+    at : (made : PlainTab) (tab : ℕ) (key : PlainKey) (b : Bool) → (tab == number) ≡ b
+        → cond b (Some made) (tab_named tab before) ≡ None → get before.sessions (tab, key) ≡ None
     at made tab key true is none = cc
-    at made tab key false apart none = copies.others tab apart key ∙ open_have held owned tab (ap (λ tabs. get tabs tab) (sym copies.tabs) ∙ none) key
+    at made tab key false apart none = copies.others tab apart key
+        ∙ open_have held owned tab (ap (λ tabs. get tabs tab) (sym copies.tabs) ∙ none) key
 
     have : OpenHave (show rules number url before)
     have tab none key =

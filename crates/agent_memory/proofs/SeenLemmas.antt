@@ -1,17 +1,14 @@
 -- What a line gives a site is read off what the agent has: its tabs are those of its world, and a site has session areas
 -- of a tab where the storage has some under it.
-use Rattle.std.proofs.Common.{◌≡◌, ℕ, ◌==◌, Bool, true, false, cond, not, ◌&&◌, ◌||◌, List, [], ◌∷◌, map, Option, Some, None, refl, sym, ap, ◌∙◌}
+use Rattle.std.proofs.Common.{◌≡◌, ℕ, Bool, true, false, cond, not, ◌&&◌, ◌||◌, List, [], ◌∷◌, None, refl, sym, ap, ◌∙◌}
 use Rattle.std.specs.Prelude.{if◌then◌else◌}
 use Rattle.std.specs.List.{list_all, list_any}
-use Rattle.std.specs.Cmp.{nat_cmp_total}
 use Rattle.std.specs.Ordering.{nat_cmp}
 use Rattle.std.specs.FinMap.{get, keys, nat_cmp-IsAntisymmetric, retain_keys}
-use Rattle.unwinding.specs.FiniteCells.{Full}
 use Rattle.unwinding.proofs.FiniteCellsLemmas.{get_kept}
 use Rattle.origin_site.specs.Site.{PlainSite}
 use Rattle.storage_key.specs.Context.{is_of}
-use Rattle.local_area.specs.Area.{Pair}
-use Rattle.live_state.specs.Tabs.{PlainTab, tab_at}
+use Rattle.live_state.specs.Tabs.{tab_at}
 use Rattle.web_storage.specs.SiteSessions.{has_session_under}
 use Rattle.agent_model.specs.Lines.{site_at}
 use Rattle.agent_model.specs.Partition.{SessionAreas, SessionKey, is_under, session_order, tab_named}
@@ -19,7 +16,7 @@ use Rattle.agent_model.specs.Sessions.{has_session, is_copied, is_of_tab}
 use Rattle.agent_model.proofs.HoldingsLemmas.{session_order_same, session_order_total}
 use Rattle.agent_model.proofs.KeptLemmas as kept
 use Rattle.one_store.specs.WholeWorld.{whole_world}
-use Rattle.line_events.specs.Events.{ShowsTabs, place_in}
+use Rattle.line_events.specs.Events.{place_in}
 use Rattle.site_entries.specs.Present.{PlainPresent, StandsFor}
 use Rattle.agent_memory.specs.AgentState.{AgentState, held_in, places_in, world_of}
 use Rattle.agent_memory.proofs.LiveLemmas.{site_found}
@@ -34,10 +31,12 @@ present_of state = record { rules = state.rules; now = state.now; tabs = state.t
 module _ (state : AgentState) where
   -- a site has the tabs that are at it
   tabs_at : (site : PlainSite) (number : ℕ)
-      → tab_named number ((world_of state).partition site).held ≡ (if is_of site (place_in state.tabs number) then tab_at number state.tabs else None)
+      → tab_named number ((world_of state).partition site).held
+      ≡ (if is_of site (place_in state.tabs number) then tab_at number state.tabs else None)
   unfolding world_of whole_world
   tabs_at site number =
-      get_kept nat_cmp nat_cmp-IsAntisymmetric (λ tab. is_of site (site_at tab (places_in state.tabs))) (held_in state).tabs number
+      get_kept nat_cmp nat_cmp-IsAntisymmetric (λ tab. is_of site (site_at tab (places_in state.tabs)))
+      (held_in state).tabs number
       ∙ λ i. cond (is_of site (site_found number state.tabs i)) (tab_is state number i) None
 
   pub stands_for : StandsFor (present_of state) (world_of state)
@@ -55,11 +54,13 @@ module _ (state : AgentState) where
 -- ---- session areas
 
 -- no key passes a test where none that does has an area
-none_any : (areas : SessionAreas) (test : SessionKey → Bool) → ((key : SessionKey) → test key ≡ true → get areas key ≡ None) → list_any test (keys areas) ≡ false
+none_any : (areas : SessionAreas) (test : SessionKey → Bool)
+    → ((key : SessionKey) → test key ≡ true → get areas key ≡ None) → list_any test (keys areas) ≡ false
 none_any areas test none =
     none_of (keys areas)
     (ap (λ kept. list_all (λ key. not (test key)) (keys kept))
-    (sym (kept.all_kept session_order session_order_total session_order_same areas (λ key. not (test key)) (λ key isnt. none key (at (test key) isnt))))
+    (sym (kept.all_kept session_order session_order_total session_order_same areas (λ key. not (test key))
+    (λ key isnt. none key (at (test key) isnt))))
     ∙ kept.kept_pass session_order session_order_total session_order_same areas (λ key. not (test key)))
   where
     at : (b : Bool) → not b ≡ false → b ≡ true
@@ -70,7 +71,8 @@ none_any areas test none =
     none_of [] all = refl
     none_of (k ∷ ks) all = by (test k) all (none_of ks)
       where
-        by : (b : Bool) → (not b && list_all (λ key. not (test key)) ks) ≡ true → (list_all (λ key. not (test key)) ks ≡ true → list_any test ks ≡ false) → (b || list_any test ks) ≡ false
+        by : (b : Bool) → (not b && list_all (λ key. not (test key)) ks) ≡ true
+            → (list_all (λ key. not (test key)) ks ≡ true → list_any test ks ≡ false) → (b || list_any test ks) ≡ false
         by true all later = absurd (cc all)
         by false all later = later all
 
@@ -101,11 +103,13 @@ areas_are state site tab =
     none_own : list_any (is_of_tab tab) (keys own) ≡ false → (key : SessionKey) → is_of_tab tab key ≡ true → get own key ≡ None
     none_own none key is = kept.none_passes session_order session_order_total session_order_same own (is_of_tab tab) none key is
 
-    absent : (key : SessionKey) (b : Bool) → is_of_tab tab key ≡ b → (b && is_under site key.1) ≡ true → (is_of_tab tab key ≡ true → get own key ≡ None) → get all key ≡ None
+    absent : (key : SessionKey) (b : Bool) → is_of_tab tab key ≡ b → (b && is_under site key.1) ≡ true
+        → (is_of_tab tab key ≡ true → get own key ≡ None) → get all key ≡ None
     absent key true is under none = sym (own_is key ∙ ap (λ b. cond b (get all key) None) under) ∙ none is
     absent key false is under none = absurd (cc under)
 
-    gone : (key : SessionKey) (b : Bool) → is_under site key.1 ≡ b → is_of_tab tab key ≡ true → list_any (is_copied site tab) (keys all) ≡ false → cond b (get all key) None ≡ None
+    gone : (key : SessionKey) (b : Bool) → is_under site key.1 ≡ b → is_of_tab tab key ≡ true
+        → list_any (is_copied site tab) (keys all) ≡ false → cond b (get all key) None ≡ None
     gone key true under is none =
         kept.none_passes session_order session_order_total session_order_same all (is_copied site tab) none key
         ((λ i. is i && is_under site key.1) ∙ under)

@@ -38,11 +38,14 @@ event_sent label event (l ∷ to) = at (same_label l label) (event_sent label ev
     at false later = later
 
 -- events of the program that are such ones are for these documents
-pub labels_sent : (event : PlainEvent) (to : List Label) (events : List (Label × Event)) → map plain_sent events ≡ each_sent event to → map (λ e. e.0) events ≡ to
+pub labels_sent : (event : PlainEvent) (to : List Label) (events : List (Label × Event))
+    → map plain_sent events ≡ each_sent event to → map (λ e. e.0) events ≡ to
 labels_sent event to events is =
-    sym (map-map (λ e. e.0) plain_sent events) ∙ ap (map (λ e. e.0)) is ∙ map-map (λ e. e.0) (λ label. (label, event)) to ∙ map-id to
+    sym (map-map (λ e. e.0) plain_sent events) ∙ ap (map (λ e. e.0)) is
+    ∙ map-map (λ e. e.0) (λ label. (label, event)) to ∙ map-id to
 
-module _ (kind : AreaKind) (writer : Keyed) (event : PlainEvent) (tabs : List PlainTab) (rising : is_rising tabs ≡ true) (trees : AreTrees tabs) where
+module _ (kind : AreaKind) (writer : Keyed) (event : PlainEvent) (tabs : List PlainTab)
+    (rising : is_rising tabs ≡ true) (trees : AreTrees tabs) where
   -- the documents that hear
   abbrev to : List Label
   to = hearers kind writer.at writer.key tabs
@@ -62,7 +65,8 @@ module _ (kind : AreaKind) (writer : Keyed) (event : PlainEvent) (tabs : List Pl
         at true = refl
         at false = refl
 
-    queues_sent : (queues : List PlainFrameQueue) → map (λ queue. change (label_of tab queue) queue) queues ≡ map (told_queue kind writer event tab.number tab) queues
+    queues_sent : (queues : List PlainFrameQueue) → map (λ queue. change (label_of tab queue) queue) queues
+        ≡ map (told_queue kind writer event tab.number tab) queues
     queues_sent [] = refl
     queues_sent (queue ∷ queues) = λ i. queue_sent queue i ∷ queues_sent queues i
 
@@ -78,6 +82,7 @@ module _ (kind : AreaKind) (writer : Keyed) (event : PlainEvent) (tabs : List Pl
   -- what is sent to the documents that hear, in the list, is told to every document of the map
   pub tabs_after_send : tabs_in (sent (each_sent event to) tabs) ≡ told kind writer event (tabs_in tabs)
   tabs_after_send = same_map nat_cmp_total nat_cmp-IsAntisymmetric _ _ (λ q.
-      tab_found q (sent (each_sent event to) tabs) ∙ find-map (with_queues change) (λ tab. tab.number == q) tabs ∙ tab_sent q (tab_at q tabs) refl
+      tab_found q (sent (each_sent event to) tabs)
+      ∙ find-map (with_queues change) (λ tab. tab.number == q) tabs ∙ tab_sent q (tab_at q tabs) refl
       ∙ sym (get_mapped nat_cmp nat_cmp_total nat_cmp-IsAntisymmetric (told_tab kind writer event) (tabs_in tabs) q
       ∙ ap (option_map (told_tab kind writer event q)) (tab_found q tabs)))

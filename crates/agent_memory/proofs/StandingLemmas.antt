@@ -63,10 +63,12 @@ module _ (state : AgentState) (places : Places) (cells : SharedCells) (held : Ho
 -- ---- the tabs
 
 -- what a test says of a tab
-pub tab_there : (number : ℕ) (tabs : List PlainTab) → is_open number tabs ≡ true → (tab : PlainTab) × (tab_at number tabs ≡ Some tab)
+pub tab_there : (number : ℕ) (tabs : List PlainTab) → is_open number tabs ≡ true
+    → (tab : PlainTab) × (tab_at number tabs ≡ Some tab)
 tab_there number tabs is = at (tab_at number tabs) refl is
   where
-    at : (found : Option PlainTab) → tab_at number tabs ≡ found → is_some found ≡ true → (tab : PlainTab) × (tab_at number tabs ≡ Some tab)
+    at : (found : Option PlainTab) → tab_at number tabs ≡ found → is_some found ≡ true
+        → (tab : PlainTab) × (tab_at number tabs ≡ Some tab)
     at None there shown = cc
     at (Some tab) there shown = (tab, there)
 
@@ -94,26 +96,32 @@ module _ (state : AgentState) (number : ℕ) where
   closed_is is = tab_is ∙ is
 
   -- it is at the site of its top document
-  pub top_is : IsStanding state → (tab : PlainTab) → tab_at number state.tabs ≡ Some tab → top_site tab.frames ≡ site_at number (places_in state.tabs)
+  pub top_is : IsStanding state → (tab : PlainTab) → tab_at number state.tabs ≡ Some tab
+      → top_site tab.frames ≡ site_at number (places_in state.tabs)
   top_is standing tab is = (at_its_top (places_in state.tabs) (held_in state) standing.placed_all number tab (open_is tab is)).1
 
   -- it is at a site
-  pub place_is : IsStanding state → (tab : PlainTab) → tab_at number state.tabs ≡ Some tab → (site : PlainSite) × (site_at number (places_in state.tabs) ≡ Some site)
+  pub place_is : IsStanding state → (tab : PlainTab) → tab_at number state.tabs ≡ Some tab
+      → (site : PlainSite) × (site_at number (places_in state.tabs) ≡ Some site)
   place_is standing tab is = site_of_tab (places_in state.tabs) (held_in state) standing.placed_all number tab (open_is tab is)
 
   -- a tab that is at a site is open
-  pub shown_is : IsStanding state → (site : PlainSite) → site_at number (places_in state.tabs) ≡ Some site → (tab : PlainTab) × (tab_at number state.tabs ≡ Some tab)
+  pub shown_is : IsStanding state → (site : PlainSite) → site_at number (places_in state.tabs) ≡ Some site
+      → (tab : PlainTab) × (tab_at number state.tabs ≡ Some tab)
   shown_is standing site place =
       let found = open_tab (places_in state.tabs) (held_in state) standing.placed_all number site place in
       (found.0, sym tab_is ∙ found.1)
 
 -- no tab is open, and no session area is held
-pub stands_alone : (state : AgentState) → state.tabs ≡ [] → state.now ≤ last_moment → (held_in state).sessions ≡ finite.empty → IsStanding state
+pub stands_alone : (state : AgentState) → state.tabs ≡ [] → state.now ≤ last_moment
+    → (held_in state).sessions ≡ finite.empty → IsStanding state
 stands_alone state none in_time sessions =
     record {
       in_time = in_time;
-      placed_all = λ number. subst (IsPlacedAt (site_at number (places_in state.tabs))) (sym (tab_is state number ∙ ap (tab_at number) none)) (nowhere_is number state.tabs (ap (is_open number) none));
-      owned = λ number absent. none_tested number (held_in state) (λ key. ap (λ areas. finite.get areas (number, key)) sessions ∙ finite.get-empty session_order (number, key));
+      placed_all = λ number. subst (IsPlacedAt (site_at number (places_in state.tabs)))
+          (sym (tab_is state number ∙ ap (tab_at number) none)) (nowhere_is number state.tabs (ap (is_open number) none));
+      owned = λ number absent. none_tested number (held_in state)
+          (λ key. ap (λ areas. finite.get areas (number, key)) sessions ∙ finite.get-empty session_order (number, key));
     }
 
 -- ---- a line that is an event of a site
@@ -121,43 +129,52 @@ stands_alone state none in_time sessions =
 -- what a line finds that has a main event
 abbrev pub HasEvent : PlainAction → Places → Type 0
 HasEvent (Tick s) places = ⊥
-HasEvent (Open tab url opener noopener method head) places = (is_some (opener_of opener places) ≡ true) × (site_at tab places ≡ None)
+HasEvent (Open tab url opener noopener method head) places =
+    (is_some (opener_of opener places) ≡ true) × (site_at tab places ≡ None)
 HasEvent (Close tab) places = is_some (site_at tab places) ≡ true
 HasEvent (Go tab url by_page method head) places = is_some (site_at tab places) ≡ true
 HasEvent (Evict site) places = Unit {0}
 HasEvent (Act at action) places = is_some (site_at at.tab places) ≡ true
 
-some_occurs : (world : AgentWorld) (event : SiteEvent) (here : Option PlainSite) → is_some here ≡ true → option_map (occurs world event) here ≡ None → ⊥
+some_occurs : (world : AgentWorld) (event : SiteEvent) (here : Option PlainSite) → is_some here ≡ true
+    → option_map (occurs world event) here ≡ None → ⊥
 some_occurs world event None there none = cc
 some_occurs world event (Some site) there none = cc
 
-some_opens : (rules : List Rule) (world : AgentWorld) (tab : ℕ) (url : PlainAddress) (method : Method) (head : List HeadField) (starter : Option Starter) (here : Option PlainSite)
+some_opens : (rules : List Rule) (world : AgentWorld) (tab : ℕ) (url : PlainAddress) (method : Method)
+    (head : List HeadField) (starter : Option Starter) (here : Option PlainSite)
     → is_some starter ≡ true → here ≡ None → opening rules world tab url method head starter here ≡ None → ⊥
 some_opens rules world tab url method head None here there free none = cc
 some_opens rules world tab url method head (Some starter) None there free none = cc
 some_opens rules world tab url method head (Some starter) (Some site) there free none = cc
 
-some_goes : (rules : List Rule) (world : AgentWorld) (tab : ℕ) (url : PlainAddress) (by_page : Bool) (method : Method) (head : List HeadField) (here : Option PlainSite)
+some_goes : (rules : List Rule) (world : AgentWorld) (tab : ℕ) (url : PlainAddress) (by_page : Bool)
+    (method : Method) (head : List HeadField) (here : Option PlainSite)
     → is_some here ≡ true → going rules world tab url by_page method head here ≡ None → ⊥
 some_goes rules world tab url by_page method head None there none = cc
 some_goes rules world tab url by_page method head (Some site) there none = cc
 
 -- it is not refused
-pub not_refused : (state : AgentState) (action : PlainAction) → HasEvent action (places_in state.tabs) → main_event state.rules (world_of state) action ≡ None → ⊥
+pub not_refused : (state : AgentState) (action : PlainAction) → HasEvent action (places_in state.tabs)
+    → main_event state.rules (world_of state) action ≡ None → ⊥
 unfolding main_event world_of whole_world
 not_refused state (Tick s) event none = absurd event
 not_refused state (Open tab url opener noopener method head) event none =
-    some_opens state.rules (world_of state) tab url method head (opener_of opener (places_in state.tabs)) (site_at tab (places_in state.tabs)) event.0 event.1 none
-not_refused state (Close tab) event none = some_occurs (world_of state) (Closes tab) (site_at tab (places_in state.tabs)) event none
+    some_opens state.rules (world_of state) tab url method head (opener_of opener (places_in state.tabs))
+    (site_at tab (places_in state.tabs)) event.0 event.1 none
+not_refused state (Close tab) event none = some_occurs (world_of state) (Closes tab)
+    (site_at tab (places_in state.tabs)) event none
 not_refused state (Go tab url by_page method head) event none =
     some_goes state.rules (world_of state) tab url by_page method head (site_at tab (places_in state.tabs)) event none
 not_refused state (Evict site) event none = cc
-not_refused state (Act at action) event none = some_occurs (world_of state) (Acts at action) (site_at at.tab (places_in state.tabs)) event none
+not_refused state (Act at action) event none = some_occurs (world_of state) (Acts at action)
+    (site_at at.tab (places_in state.tabs)) event none
 
 -- ---- a line was run
 
 -- what it makes of the store
-module _ (action : PlainAction) (old : AgentState) (standing : IsStanding old) (step : Step) (makes : store_step old.rules (store_of old) action ≡ step) where
+module _ (action : PlainAction) (old : AgentState) (standing : IsStanding old) (step : Step)
+    (makes : store_step old.rules (store_of old) action ≡ step) where
   made : IsStep old.rules (store_of old) action step
   made = subst (IsStep old.rules (store_of old) action) makes (are_steps old.rules (store_of old) action standing.placed_all)
 
@@ -173,15 +190,18 @@ pub reply_as : (action : PlainAction) (reply : Reply) {here there : PlainSite} {
 reply_as action reply is same says = is ∙ λ i. record { name = action_name action; site = Some (same i); body = says i }
 
 -- the agent's state, told otherwise
-pub runs_from : {action : PlainAction} {old seen new : AgentState} {result : Result Reply NoMemory} → old ≡ seen → Runs action old new result → Runs action seen new result
+pub runs_from : {action : PlainAction} {old seen new : AgentState} {result : Result Reply NoMemory}
+    → old ≡ seen → Runs action old new result → Runs action seen new result
 runs_from {action} {new = new} {result = result} same runs = subst (λ o. Runs action o new result) same runs
 
-pub runs_still : {action : PlainAction} {old seen : AgentState} {result : Result Reply NoMemory} → old ≡ seen → Runs action old old result → Runs action seen seen result
+pub runs_still : {action : PlainAction} {old seen : AgentState} {result : Result Reply NoMemory} → old ≡ seen
+    → Runs action old old result → Runs action seen seen result
 runs_still {action} {result = result} same runs = subst (λ o. Runs action o o result) same runs
 
 module _ (action : PlainAction) (old new : AgentState) (rules : new.rules ≡ old.rules) where
   -- what the line makes of the store is what the agent has
-  module _ (standing : IsStanding old) (step : Step) (makes : store_step old.rules (store_of old) action ≡ step) (same : store_of new ≡ step.store) where
+  module _ (standing : IsStanding old) (step : Step)
+      (makes : store_step old.rules (store_of old) action ≡ step) (same : store_of new ≡ step.store) where
     done : IsStep old.rules (store_of old) action step
     done = made action old standing step makes
 
@@ -201,12 +221,27 @@ module _ (action : PlainAction) (old new : AgentState) (rules : new.rules ≡ ol
     pub runs_done : (reply : Reply) → reply_of reply ≡ printed step.reply → Runs action old new (Ok reply)
     unfolding world_of
     runs_done reply is =
-        record { reply = is ∙ ap printed (sym done.reply); world = ap refinement.world_of same ∙ sym done.world; rules = rules; unchanged = tt; refused = λ none. refl }
+        record {
+          reply = is ∙ ap printed (sym done.reply);
+          world =
+              ap refinement.world_of same ∙ sym done.world;
+          rules = rules;
+          unchanged = tt;
+          refused = λ none. refl;
+        }
 
   -- memory was wanting
-  pub runs_wanting : (wanting : NoMemory) → world_of new ≡ world_of old → HasEvent action (places_in old.tabs) → Runs action old new (Err wanting)
+  pub runs_wanting : (wanting : NoMemory) → world_of new ≡ world_of old → HasEvent action (places_in old.tabs)
+      → Runs action old new (Err wanting)
   runs_wanting wanting world event =
-      record { reply = tt; world = tt; rules = rules; unchanged = world; refused = λ none. absurd (not_refused old action event none) }
+      record {
+        reply = tt;
+        world = tt;
+        rules = rules;
+        unchanged =
+            world;
+        refused = λ none. absurd (not_refused old action event none);
+      }
 
 -- ---- the line was refused, and all stays
 
@@ -232,13 +267,18 @@ no_tab_makes state (Act at action) needs =
 
 module _ (action : PlainAction) (state : AgentState) (standing : IsStanding state) where
   pub runs_refused : (body : PlainBody) → store_step state.rules (store_of state) action ≡ refuses (store_of state) action body
-      → (reply : Reply) → reply_of reply ≡ record { name = action_name action; site = None; body = body } → Runs action state state (Ok reply)
-  runs_refused body makes reply is = runs_done action state state refl standing (refuses (store_of state) action body) makes refl reply is
+      → (reply : Reply) → reply_of reply ≡ record { name = action_name action; site = None; body = body }
+      → Runs action state state (Ok reply)
+  runs_refused body makes reply is = runs_done action state state refl standing
+      (refuses (store_of state) action body) makes refl reply is
 
-  pub changes_without_tab : NeedsTab action (places_in state.tabs) → line_changes (machine state.rules) (world_of state) action ≡ []
-  changes_without_tab needs = changes_are action state standing (refuses (store_of state) action (Plain (codes "no-tab"))) (no_tab_makes state action needs)
+  pub changes_without_tab : NeedsTab action (places_in state.tabs)
+      → line_changes (machine state.rules) (world_of state) action ≡ []
+  changes_without_tab needs = changes_are action state standing
+      (refuses (store_of state) action (Plain (codes "no-tab"))) (no_tab_makes state action needs)
 
   -- as no tab of its number is open
   pub runs_without_tab : (reply : Reply) → NeedsTab action (places_in state.tabs)
-      → reply_of reply ≡ record { name = action_name action; site = None; body = Plain (codes "no-tab") } → Runs action state state (Ok reply)
+      → reply_of reply ≡ record { name = action_name action; site = None; body = Plain (codes "no-tab") }
+      → Runs action state state (Ok reply)
   runs_without_tab reply needs is = runs_refused (Plain (codes "no-tab")) (no_tab_makes state action needs) reply is

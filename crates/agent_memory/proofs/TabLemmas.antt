@@ -24,7 +24,8 @@ use Rattle.agent_memory.proofs.LiveLemmas.{ChangesAt, number_found, placed_chang
 
 -- a tab with these frames is put
 pub tabs_after_put : (number : ℕ) (frames : List PlainFrame) (fresh : Option ℕ) (tabs : List PlainTab)
-    → tabs_in (tabs_put number frames fresh tabs) ≡ insert (tabs_in tabs) number (made_tab number frames fresh (tab_at number tabs))
+    → tabs_in (tabs_put number frames fresh tabs) ≡ insert (tabs_in tabs) number
+    (made_tab number frames fresh (tab_at number tabs))
 tabs_after_put number frames fresh tabs =
     let made : PlainTab = made_tab number frames fresh (tab_at number tabs) in
     tabs_changed number (Some made) tabs (with_tab made tabs) (put_changes made tabs)
@@ -36,12 +37,15 @@ places_after_put number frames fresh tabs =
     let made : PlainTab = made_tab number frames fresh (tab_at number tabs) in
     places_changed number (Some made) tabs (with_tab made tabs) (put_changes made tabs)
 
-pub places_after_load : (number : ℕ) (frames : List PlainFrame) (fresh : Option ℕ) (tabs : List PlainTab) (site : PlainSite) → top_site frames ≡ Some site
+pub places_after_load : (number : ℕ) (frames : List PlainFrame) (fresh : Option ℕ) (tabs : List PlainTab)
+    (site : PlainSite) → top_site frames ≡ Some site
     → places_in (tabs_put number frames fresh tabs) ≡ placed number site (places_in tabs)
-places_after_load number frames fresh tabs site is = places_after_put number frames fresh tabs ∙ ap (λ site. placed_by number site (places_in tabs)) is
+places_after_load number frames fresh tabs site is =
+    places_after_put number frames fresh tabs ∙ ap (λ site. placed_by number site (places_in tabs)) is
 
 -- a tab that stays at its site leaves the places
-pub places_stay : (number : ℕ) (frames : List PlainFrame) (fresh : Option ℕ) (tabs : List PlainTab) (tab : PlainTab) → tab_at number tabs ≡ Some tab
+pub places_stay : (number : ℕ) (frames : List PlainFrame) (fresh : Option ℕ) (tabs : List PlainTab)
+    (tab : PlainTab) → tab_at number tabs ≡ Some tab
     → top_site frames ≡ top_site tab.frames → places_in (tabs_put number frames fresh tabs) ≡ places_in tabs
 places_stay number frames fresh tabs tab is same =
     places_after_put number frames fresh tabs
@@ -53,17 +57,20 @@ places_stay number frames fresh tabs tab is same =
 pub tabs_after_close : (number : ℕ) (tabs : List PlainTab) → tabs_in (without_tab number tabs) ≡ remove (tabs_in tabs) number
 tabs_after_close number tabs = tabs_changed number None tabs (without_tab number tabs) (without_changes number tabs)
 
-pub places_after_close : (number : ℕ) (tabs : List PlainTab) → places_in (without_tab number tabs) ≡ remove (places_in tabs) number
+pub places_after_close : (number : ℕ) (tabs : List PlainTab)
+    → places_in (without_tab number tabs) ≡ remove (places_in tabs) number
 places_after_close number tabs = places_changed number None tabs (without_tab number tabs) (without_changes number tabs)
 
 -- ---- queues
 
 -- a change of queues leaves the places
-places_keep : (change : Label → PlainFrameQueue → PlainFrameQueue) (tabs : List PlainTab) → places_in (map (with_queues change) tabs) ≡ places_in tabs
+places_keep : (change : Label → PlainFrameQueue → PlainFrameQueue) (tabs : List PlainTab)
+    → places_in (map (with_queues change) tabs) ≡ places_in tabs
 places_keep change [] = refl
 places_keep change (tab ∷ tabs) = ap (placed_by tab.number (top_site tab.frames)) (places_keep change tabs)
 
-pub places_after_send : (events : List (Label × PlainEvent)) (tabs : List PlainTab) → places_in (sent events tabs) ≡ places_in tabs
+pub places_after_send : (events : List (Label × PlainEvent)) (tabs : List PlainTab)
+    → places_in (sent events tabs) ≡ places_in tabs
 places_after_send events tabs = places_keep (λ label queue. queue_told (event_for label events) queue) tabs
 
 -- ---- events are taken
@@ -73,31 +80,39 @@ places_after_take label tabs = places_keep (after_take label) tabs
 
 -- the emptied queue of a frame, by the frame's number
 queues_taken : (frame : ℕ) (queues : List PlainFrameQueue)
-    → map (λ q. if q.frame == frame then empty_queue q.frame else q) queues ≡ map (λ q. if q.frame == frame then empty_queue frame else q) queues
+    → map (λ q. if q.frame == frame then empty_queue q.frame else q) queues
+    ≡ map (λ q. if q.frame == frame then empty_queue frame else q) queues
 queues_taken frame queues =
-    map-agree (λ q. if q.frame == frame then empty_queue q.frame else q) (λ q. if q.frame == frame then empty_queue frame else q) queues
+    map-agree (λ q. if q.frame == frame then empty_queue q.frame else q)
+    (λ q. if q.frame == frame then empty_queue frame else q) queues
     (λ q. at q (q.frame == frame) refl)
   where
-    at : (q : PlainFrameQueue) (b : Bool) → (q.frame == frame) ≡ b → (if b then empty_queue q.frame else q) ≡ (if b then empty_queue frame else q)
+    at : (q : PlainFrameQueue) (b : Bool) → (q.frame == frame) ≡ b
+        → (if b then empty_queue q.frame else q) ≡ (if b then empty_queue frame else q)
     at q true is = ap empty_queue ((Decides-eqb q.frame frame).0 is)
     at q false apart = refl
 
 module _ (label : Label) (tabs : List PlainTab) (tab : PlainTab) (is : tab_at label.tab tabs ≡ Some tab) where
   pub taken_changes : ChangesAt label.tab (Some (with_taken label.frame tab)) tabs (taken label tabs)
-  taken_changes q = find-map (with_queues (after_take label)) (λ tab. tab.number == q) tabs ∙ at (label.tab == q) refl (tab_at q tabs) refl
+  taken_changes q = find-map (with_queues (after_take label)) (λ tab. tab.number == q) tabs
+      ∙ at (label.tab == q) refl (tab_at q tabs) refl
     where
-      one : (b : Bool) (other : PlainTab) → (other.number == label.tab) ≡ b → with_queues (after_take label) other ≡ cond b (with_taken label.frame other) other
+      one : (b : Bool) (other : PlainTab) → (other.number == label.tab) ≡ b
+          → with_queues (after_take label) other ≡ cond b (with_taken label.frame other) other
       one true other is =
-          taken-here label other ((Decides-eqb other.number label.tab).0 is) ∙ ap (λ queues. record other { queues = queues }) (queues_taken label.frame other.queues)
+          taken-here label other ((Decides-eqb other.number label.tab).0 is)
+          ∙ ap (λ queues. record other { queues = queues }) (queues_taken label.frame other.queues)
       one false other is = taken-others label other (ap not is)
 
       at : (b : Bool) → (label.tab == q) ≡ b → (found : Option PlainTab) → tab_at q tabs ≡ found
           → option_map (with_queues (after_take label)) found ≡ cond b (Some (with_taken label.frame tab)) found
       at true here found there =
-          ap (option_map (with_queues (after_take label))) (sym there ∙ ap (λ n. tab_at n tabs) (sym ((Decides-eqb label.tab q).0 here)) ∙ is)
+          ap (option_map (with_queues (after_take label)))
+          (sym there ∙ ap (λ n. tab_at n tabs) (sym ((Decides-eqb label.tab q).0 here)) ∙ is)
           ∙ ap Some (one true tab ((Decides-eqb tab.number label.tab).1 (number_found label.tab tabs tab is)))
       at false apart None there = refl
-      at false apart (Some other) there = ap Some (one false other (ap (λ n. n == label.tab) (number_found q tabs other there) ∙ flip_apart label.tab q apart))
+      at false apart (Some other) there = ap Some (one false other
+          (ap (λ n. n == label.tab) (number_found q tabs other there) ∙ flip_apart label.tab q apart))
 
   pub tabs_after_take : tabs_in (taken label tabs) ≡ insert (tabs_in tabs) label.tab (with_taken label.frame tab)
   tabs_after_take = tabs_changed label.tab (Some (with_taken label.frame tab)) tabs (taken label tabs) taken_changes

@@ -39,7 +39,8 @@ use Rattle.agent_memory.proofs.SendLemmas.{tabs_after_send}
 -- ---- a change is stored and its event sent
 
 -- the tabs do not change where an area does
-tabs_kept : (kind : AreaKind) (tab : ℕ) (key : PlainKey) (pairs : List Pair) (held : Holdings) → (with_area kind tab key pairs held).tabs ≡ held.tabs
+tabs_kept : (kind : AreaKind) (tab : ℕ) (key : PlainKey) (pairs : List Pair) (held : Holdings)
+    → (with_area kind tab key pairs held).tabs ≡ held.tabs
 tabs_kept Local tab key pairs held = refl
 tabs_kept Session tab key pairs held = refl
 
@@ -49,7 +50,8 @@ pub these_sent : {url : List ℕ} {to : List Label} {hear : List Label} {events 
 these_sent {url} {to} event these own are =
     these ∙ ap (λ url. each_sent (record event { url = url }) to) own ∙ ap (each_sent event) are
 
-module _ (event : PlainEvent) (writer : Keyed) (change : List Pair → List Pair) (old inside : HoldingsView) (seen : inside ≡ old) (trees : AreTrees inside.live.tabs) (rising : is_rising old.live.tabs ≡ true)
+module _ (event : PlainEvent) (writer : Keyed) (change : List Pair → List Pair) (old inside : HoldingsView)
+    (seen : inside ≡ old) (trees : AreTrees inside.live.tabs) (rising : is_rising old.live.tabs ≡ true)
     (reserved : PlainLive) (kept : reserved.tabs ≡ inside.live.tabs) where
   -- the pairs of the area after the change, and what is held with them
   abbrev pairs : List Pair
@@ -61,8 +63,10 @@ module _ (event : PlainEvent) (writer : Keyed) (change : List Pair → List Pair
   -- the area has its pairs, and each document that hears is told
   pub is_written : {live : PlainLive} {entries : Entries} {body : PlainBody} {events : List (Label × PlainEvent)}
       → events ≡ each_sent event (hearers event.area writer.at writer.key old.live.tabs)
-      → live.tabs ≡ sent events reserved.tabs → ((beside : Holdings) → held_with beside entries ≡ with_pairs (held_with beside inside.storage))
-      → body ≡ ok → IsDone (write event.area writer pairs event (cells_of old) (held_of old)) old (record inside { live = live; storage = entries }) body
+      → live.tabs ≡ sent events reserved.tabs → ((beside : Holdings)
+      → held_with beside entries ≡ with_pairs (held_with beside inside.storage))
+      → body ≡ ok → IsDone (write event.area writer pairs event (cells_of old) (held_of old)) old
+      (record inside { live = live; storage = entries }) body
   is_written {live} {entries} {body} {events} these after stored answer =
       let tabs : reserved.tabs ≡ old.live.tabs = kept ∙ ap (λ (h : HoldingsView). h.live.tabs) seen in
       let same : inside.cookies ≡ old.cookies = ap (λ (h : HoldingsView). h.cookies) seen in
@@ -73,11 +77,15 @@ module _ (event : PlainEvent) (writer : Keyed) (change : List Pair → List Pair
             ∙ held_tabs old.live.tabs live.tabs old.cookies old.grants entries
             ∙ ap {A = Holdings} (λ held. record held { tabs = tabs_in live.tabs })
             (stored (beside_storage old.live.tabs old.cookies old.grants)
-            ∙ ap (λ (h : HoldingsView). with_pairs (held_with (beside_storage old.live.tabs old.cookies old.grants) h.storage)) seen)
+            ∙ ap (λ (h : HoldingsView). with_pairs
+            (held_with (beside_storage old.live.tabs old.cookies old.grants) h.storage)) seen)
             ∙ ap {B = Holdings} (λ tabs. record (with_pairs (held_of old)) { tabs = tabs })
             (ap tabs_in (after ∙ λ i. sent (these i) (tabs i))
-            ∙ tabs_after_send event.area writer event old.live.tabs rising (subst (λ (h : HoldingsView). AreTrees h.live.tabs) seen trees)
-            ∙ ap (told event.area writer event) (sym (tabs_kept event.area writer.at.tab writer.key pairs (held_of old) ∙ tabs_held old.live.tabs old.cookies old.grants old.storage)));
+            ∙ tabs_after_send event.area writer event old.live.tabs rising
+            (subst (λ (h : HoldingsView). AreTrees h.live.tabs) seen trees)
+            ∙ ap (told event.area writer event)
+            (sym (tabs_kept event.area writer.at.tab writer.key pairs (held_of old)
+            ∙ tabs_held old.live.tabs old.cookies old.grants old.storage)));
         cells = ap shared_in same;
         answer = answer;
         places = ap places_in after ∙ places_after_send events reserved.tabs ∙ ap places_in tabs;
@@ -93,24 +101,31 @@ module _ (kind : AreaKind) (writer : Keyed) (pairs : List Pair) (event : PlainEv
   pub stored_is : area_weight pairs ≤ quota → store kind writer pairs event cells held ≡ write kind writer pairs event cells held
   stored_is within = ap stores (le-ltb quota (area_weight pairs) within)
 
-  pub refused_is : quota < area_weight pairs → store kind writer pairs event cells held ≡ answers (Plain (codes "quota")) cells held
+  pub refused_is : quota < area_weight pairs → store kind writer pairs event cells held
+      ≡ answers (Plain (codes "quota")) cells held
   refused_is past = ap stores (lt-ltb quota (area_weight pairs) past)
 
-module _ (kind : AreaKind) (writer : Keyed) (pairs : List Pair) (event : PlainEvent) (cells : SharedCells) (held : Holdings) (old new : HoldingsView) (body : PlainBody) where
-  pub is_stored : area_weight pairs ≤ quota → IsDone (write kind writer pairs event cells held) old new body → IsDone (store kind writer pairs event cells held) old new body
+module _ (kind : AreaKind) (writer : Keyed) (pairs : List Pair) (event : PlainEvent) (cells : SharedCells)
+    (held : Holdings) (old new : HoldingsView) (body : PlainBody) where
+  pub is_stored : area_weight pairs ≤ quota → IsDone (write kind writer pairs event cells held) old new body
+      → IsDone (store kind writer pairs event cells held) old new body
   is_stored within done = subst (λ d. IsDone d old new body) (sym (stored_is kind writer pairs event cells held within)) done
 
-  pub is_refused : quota < area_weight pairs → IsDone (answers (Plain (codes "quota")) cells held) old new body → IsDone (store kind writer pairs event cells held) old new body
+  pub is_refused : quota < area_weight pairs → IsDone (answers (Plain (codes "quota")) cells held)
+      old new body → IsDone (store kind writer pairs event cells held) old new body
   is_refused past done = subst (λ d. IsDone d old new body) (sym (refused_is kind writer pairs event cells held past)) done
 
 -- a refusal for the quota passes it
-pub is_past : {T : Type 0} (why : AreaFault) (said weight : ℕ) → why ≡ fault.Quota said → (why ≡ fault.Quota weight) ⊎ (why ≡ fault.NoMemory)
+pub is_past : {T : Type 0} (why : AreaFault) (said weight : ℕ) → why ≡ fault.Quota said
+    → (why ≡ fault.Quota weight) ⊎ (why ≡ fault.NoMemory)
     → (◌≡◌ {A = Result T AreaFault} (Err why) (Err (fault.Quota weight))) ↔ (quota < weight) → quota < weight
 is_past why said weight refused (inl is) exact = exact.0 (ap Err is)
-is_past why said weight refused (inr none) exact = let differ : fault.Quota said ≡ fault.NoMemory = sym refused ∙ none in absurd (cc differ)
+is_past why said weight refused (inr none) exact = let differ : fault.Quota said ≡ fault.NoMemory =
+    sym refused ∙ none in absurd (cc differ)
 
 -- what is not refused is within the quota
-pub is_within : {T : Type 0} (done : T) (weight : ℕ) → (◌≡◌ {A = Result T AreaFault} (Ok done) (Err (fault.Quota weight))) ↔ (quota < weight) → weight ≤ quota
+pub is_within : {T : Type 0} (done : T) (weight : ℕ)
+    → (◌≡◌ {A = Result T AreaFault} (Ok done) (Err (fault.Quota weight))) ↔ (quota < weight) → weight ≤ quota
 is_within {T} done weight exact = by (nat_lt quota weight) refl
   where
     by : (b : Bool) → nat_lt quota weight ≡ b → weight ≤ quota
@@ -129,15 +144,20 @@ none_copied (Some found) = refl
 module _ (kind : AreaKind) (writer : Keyed) (name : List ℕ) (cells : SharedCells) (held : Holdings) where
   -- a name that has another value, or none, is given one
   pub is_set : (value : List ℕ) (found : Option (List ℕ)) → found ≢ Some value → found ≡ area_get name (pairs_of kind writer held)
-      → put_sent kind name value (change_event kind writer (Some name) found (Some value)) writer cells held ≡ set_item kind name value writer cells held
-  is_set value found other is = sets found other ∙ ap (λ found. set_by (answer_over value found) kind writer name value (area_put name value (pairs_of kind writer held)) cells held) is
+      → put_sent kind name value (change_event kind writer (Some name) found (Some value)) writer cells held
+      ≡ set_item kind name value writer cells held
+  is_set value found other is = sets found other ∙ ap (λ found. set_by (answer_over value found)
+      kind writer name value (area_put name value (pairs_of kind writer held)) cells held) is
     where
-      by : (before : List ℕ) (b : Bool) → b ≡ false → put_sent kind name value (change_event kind writer (Some name) (Some before) (Some value)) writer cells held
-          ≡ set_by (cond b same (changed before)) kind writer name value (area_put name value (pairs_of kind writer held)) cells held
+      by : (before : List ℕ) (b : Bool) → b ≡ false
+          → put_sent kind name value (change_event kind writer (Some name) (Some before) (Some value)) writer cells held
+          ≡ set_by (cond b same (changed before)) kind writer name value
+          (area_put name value (pairs_of kind writer held)) cells held
       by before true apart = absurd (cc apart)
       by before false apart = refl
 
-      sets : (found : Option (List ℕ)) → found ≢ Some value → put_sent kind name value (change_event kind writer (Some name) found (Some value)) writer cells held
+      sets : (found : Option (List ℕ)) → found ≢ Some value
+          → put_sent kind name value (change_event kind writer (Some name) found (Some value)) writer cells held
           ≡ set_by (answer_over value found) kind writer name value (area_put name value (pairs_of kind writer held)) cells held
       sets None other = refl
       sets (Some before) other = by before (bytes_eq before value) (differ (bytes_eq before value) refl)
@@ -148,22 +168,27 @@ module _ (kind : AreaKind) (writer : Keyed) (name : List ℕ) (cells : SharedCel
 
   -- a name that is there is removed
   removes : (found : Option (List ℕ)) → is_none found ≡ false
-      → write kind writer (area_remove name (pairs_of kind writer held)) (change_event kind writer (Some name) found None) cells held ≡ remove_by found kind writer name cells held
+      → write kind writer (area_remove name (pairs_of kind writer held))
+      (change_event kind writer (Some name) found None) cells held ≡ remove_by found kind writer name cells held
   removes None there = absurd (cc there)
   removes (Some before) there = refl
 
   pub removed_is : (found : Option (List ℕ)) → is_none found ≡ false → found ≡ area_get name (pairs_of kind writer held)
-      → write kind writer (area_remove name (pairs_of kind writer held)) (change_event kind writer (Some name) found None) cells held ≡ remove_item kind name writer cells held
+      → write kind writer (area_remove name (pairs_of kind writer held))
+      (change_event kind writer (Some name) found None) cells held ≡ remove_item kind name writer cells held
   removed_is found there is = removes found there ∙ ap (λ found. remove_by found kind writer name cells held) is
 
-  pub is_removed : (found : Option (List ℕ)) (old new : HoldingsView) (body : PlainBody) → is_none found ≡ false → found ≡ area_get name (pairs_of kind writer held)
-      → IsDone (write kind writer (area_remove name (pairs_of kind writer held)) (change_event kind writer (Some name) found None) cells held) old new body
+  pub is_removed : (found : Option (List ℕ)) (old new : HoldingsView) (body : PlainBody)
+      → is_none found ≡ false → found ≡ area_get name (pairs_of kind writer held)
+      → IsDone (write kind writer (area_remove name (pairs_of kind writer held))
+      (change_event kind writer (Some name) found None) cells held) old new body
       → IsDone (remove_item kind name writer cells held) old new body
   is_removed found old new body there is done = subst (λ done. IsDone done old new body) (removed_is found there is) done
 
 -- ---- the events of the documents that hear
 
 -- each is for a document that is ready
-pub events_ready : {to : List Label} (events : List (Label × Event)) → map (λ e. e.0) events ≡ to → (ready : Label → Bool) → list_all ready to ≡ true
+pub events_ready : {to : List Label} (events : List (Label × Event)) → map (λ e. e.0) events ≡ to
+    → (ready : Label → Bool) → list_all ready to ≡ true
     → list_all (λ e. ready e.0) events ≡ true
 events_ready events labels ready all = sym (list_all-map ready (λ e. e.0) events) ∙ ap (list_all ready) labels ∙ all

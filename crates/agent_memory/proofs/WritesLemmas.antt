@@ -28,8 +28,8 @@ use Rattle.row_changes.specs.Change.{PlainChange, AreaClear}
 use Rattle.row_changes.specs.Appended.{Appends, HasTexts, IsAppended, IsFront}
 use Rattle.agent_model.specs.Changes.{changes_of_write, durable_in}
 use Rattle.agent_model.specs.Partition.{Holdings}
-use Rattle.agent_model.specs.Done.{Done, Effect, SharedCells, answers}
-use Rattle.agent_model.specs.Documents.{Keyed, by_document, by_key, with_document, with_key}
+use Rattle.agent_model.specs.Done.{Effect, SharedCells, answers}
+use Rattle.agent_model.specs.Documents.{Keyed, by_document, by_key, with_key}
 use Rattle.agent_model.specs.Frames.{click, frames_clicked, frames_removed, on_frames, remove_frame}
 use Rattle.agent_model.specs.Queues.{take_events, take_queue}
 use Rattle.agent_model.specs.StorageAccess.{tell_access}
@@ -63,22 +63,26 @@ pub cut_back : (before after : List ℕ) → IsFront before after → take (leng
 cut_back before after is = ap (take (length before)) is.1 ∙ take-append_seam before is.0
 
 -- what is written further leaves it the front
-pub writes_front : {T : Type 0} (changes : List PlainChange) (before after : List ℕ) (result : Result T NoMemory) → Appends changes before after result → IsFront before after
+pub writes_front : {T : Type 0} (changes : List PlainChange) (before after : List ℕ)
+    (result : Result T NoMemory) → Appends changes before after result → IsFront before after
 writes_front changes before after (Ok told) is = appended_front changes before after is
 writes_front changes before after (Err wanting) front = front
 
 -- what was appended stays so, whether what follows wants memory or not
-pub appended_still : {T : Type 0} (changes : List PlainChange) (before after : List ℕ) (result : Result T NoMemory) → IsAppended changes before after → Appends changes before after result
+pub appended_still : {T : Type 0} (changes : List PlainChange) (before after : List ℕ)
+    (result : Result T NoMemory) → IsAppended changes before after → Appends changes before after result
 appended_still changes before after (Ok told) is = is
 appended_still changes before after (Err wanting) is = appended_front changes before after is
 
 -- nothing is written by what has no row change, whatever the answer is
-pub writes_none : {T : Type 0} (changes : List PlainChange) → changes ≡ [] → (body : List ℕ) (result : Result T NoMemory) → Appends changes body body result
+pub writes_none : {T : Type 0} (changes : List PlainChange) → changes ≡ []
+    → (body : List ℕ) (result : Result T NoMemory) → Appends changes body body result
 writes_none changes none body (Ok told) = subst (λ c. IsAppended c body body) (sym none) (none_appended body)
 writes_none changes none body (Err wanting) = front_same body
 
 -- memory was wanting
-pub writes_wanting : {T : Type 0} (changes : List PlainChange) (before after : List ℕ) (result : Result T NoMemory) → IsErr result → IsFront before after → Appends changes before after result
+pub writes_wanting : {T : Type 0} (changes : List PlainChange) (before after : List ℕ)
+    (result : Result T NoMemory) → IsErr result → IsFront before after → Appends changes before after result
 writes_wanting changes before after (Ok told) wanting front = absurd (cc wanting)
 writes_wanting changes before after (Err wanting) is front = front
 
@@ -88,40 +92,49 @@ each_some says None all = tt
 each_some says (Some x) all = all x
 
 -- the row changes are told otherwise
-pub writes_as : {T : Type 0} (changes seen : List PlainChange) (before after : List ℕ) (result : Result T NoMemory) → changes ≡ seen → Appends changes before after result → Appends seen before after result
+pub writes_as : {T : Type 0} (changes seen : List PlainChange) (before after : List ℕ)
+    (result : Result T NoMemory) → changes ≡ seen → Appends changes before after result → Appends seen before after result
 writes_as changes seen before after result same writes = subst (λ c. Appends c before after result) same writes
 
 -- ---- actions without row changes
 
-frames_none : (number : ℕ) (tab : PlainTab) (body : PlainBody) (after : Result (List PlainFrame) TreeFault) (cells : SharedCells) (held : Holdings)
+frames_none : (number : ℕ) (tab : PlainTab) (body : PlainBody) (after : Result (List PlainFrame) TreeFault)
+    (cells : SharedCells) (held : Holdings)
     → (on_frames number tab None (λ frames. answers body) after cells held).changes ≡ []
 frames_none number tab body (Ok frames) cells held = refl
 frames_none number tab body (Err why) cells held = refl
 
-pub removes_none : (at : Label) (tab : PlainTab) (cells : SharedCells) (held : Holdings) → (remove_frame at tab cells held).changes ≡ []
+pub removes_none : (at : Label) (tab : PlainTab) (cells : SharedCells) (held : Holdings)
+    → (remove_frame at tab cells held).changes ≡ []
 removes_none at tab cells held = frames_none at.tab tab _ (frames_removed at tab.frames) cells held
 
-pub clicks_none : (now : ℕ) (at : Label) (tab : PlainTab) (cells : SharedCells) (held : Holdings) → (click now at tab cells held).changes ≡ []
+pub clicks_none : (now : ℕ) (at : Label) (tab : PlainTab) (cells : SharedCells) (held : Holdings)
+    → (click now at tab cells held).changes ≡ []
 clicks_none now at tab cells held = frames_none at.tab tab _ (frames_clicked now at tab.frames) cells held
 
-pub takes_none : (at : Label) (tab : PlainTab) (cells : SharedCells) (held : Holdings) → (take_events at tab cells held).changes ≡ []
+pub takes_none : (at : Label) (tab : PlainTab) (cells : SharedCells) (held : Holdings)
+    → (take_events at tab cells held).changes ≡ []
 takes_none at tab cells held = by (has_frame at.frame tab.frames)
   where
-    by : (b : Bool) → (cond b (take_queue at tab (queue_of at.frame tab.queues)) (answers (Plain (codes "no-frame"))) cells held).changes ≡ []
+    by : (b : Bool) → (cond b (take_queue at tab (queue_of at.frame tab.queues))
+        (answers (Plain (codes "no-frame"))) cells held).changes ≡ []
     by true = refl
     by false = refl
 
 -- what a document does has none, whether it is there or not
-document_none : (action : PlainDocument → Effect) (cells : SharedCells) (held : Holdings) → ((document : PlainDocument) → (action document cells held).changes ≡ [])
+document_none : (action : PlainDocument → Effect) (cells : SharedCells) (held : Holdings)
+    → ((document : PlainDocument) → (action document cells held).changes ≡ [])
     → (document : Option PlainDocument) → (by_document document action cells held).changes ≡ []
 document_none action cells held none None = refl
 document_none action cells held none (Some document) = none document
 
-pub tells_none : (rules : List Rule) (now : ℕ) (at : Label) (tab : PlainTab) (cells : SharedCells) (held : Holdings) → (tell_access rules now at tab cells held).changes ≡ []
+pub tells_none : (rules : List Rule) (now : ℕ) (at : Label) (tab : PlainTab) (cells : SharedCells)
+    (held : Holdings) → (tell_access rules now at tab cells held).changes ≡ []
 tells_none rules now at tab cells held = document_none _ cells held (λ document. refl) (document_of at.frame tab.frames)
 
 -- nor has what it does with its key
-pub keyed_none : (at : Label) (tab : PlainTab) (action : Keyed → Effect) (cells : SharedCells) (held : Holdings) → ((reader : Keyed) → (action reader cells held).changes ≡ [])
+pub keyed_none : (at : Label) (tab : PlainTab) (action : Keyed → Effect) (cells : SharedCells)
+    (held : Holdings) → ((reader : Keyed) → (action reader cells held).changes ≡ [])
     → (with_key at tab action cells held).changes ≡ []
 keyed_none at tab action cells held none =
     document_none (λ document. by_key at document (key_of_document at.frame tab.frames document) action) cells held
@@ -133,9 +146,11 @@ keyed_none at tab action cells held none =
 
 -- an action that only reads
 abbrev pub HasNone : (PlainSite → PlainTab → Keyed → Effect) → Type 0
-HasNone does = (site : PlainSite) (tab : PlainTab) (reader : Keyed) (cells : SharedCells) (held : Holdings) → (does site tab reader cells held).changes ≡ []
+HasNone does = (site : PlainSite) (tab : PlainTab) (reader : Keyed) (cells : SharedCells) (held : Holdings)
+    → (does site tab reader cells held).changes ≡ []
 
-reads_none : (rules : List Rule) (now : ℕ) (action : DocumentAction) → reads action ≡ true → IfSome (key_action rules now action) HasNone
+reads_none : (rules : List Rule) (now : ℕ) (action : DocumentAction) → reads action ≡ true
+    → IfSome (key_action rules now action) HasNone
 reads_none rules now (Frame parent url sandbox deny head) is = tt
 reads_none rules now (Nav url by_self method head) is = tt
 reads_none rules now Drop is = tt
@@ -156,7 +171,8 @@ reads_none rules now Persisted is = λ site tab reader cells held. refl
 reads_none rules now Estimate is = λ site tab reader cells held. refl
 reads_none rules now (Persist answer) is = absurd (cc is)
 
-pub reading_none : (rules : List Rule) (now : ℕ) (line : PlainAction) → is_reading line ≡ true → IfSome (by_keyed rules now line) HasNone
+pub reading_none : (rules : List Rule) (now : ℕ) (line : PlainAction) → is_reading line ≡ true
+    → IfSome (by_keyed rules now line) HasNone
 reading_none rules now (Tick s) is = tt
 reading_none rules now (Open tab url opener noopener method head) is = tt
 reading_none rules now (Close tab) is = tt
@@ -169,12 +185,14 @@ reading_none rules now (Act at action) is = reads_none rules now action (or_none
     or_none false = refl
 
 -- a clear of an area has a row change where the area has pairs
-pub clears_none : (kind : AreaKind) (key : PlainKey) (pairs : List Pair) → nat_lt 0 (length pairs) ≡ false → durable_in kind (changes_of_write key None None pairs) ≡ []
+pub clears_none : (kind : AreaKind) (key : PlainKey) (pairs : List Pair) → nat_lt 0 (length pairs) ≡ false
+    → durable_in kind (changes_of_write key None None pairs) ≡ []
 clears_none Local key [] none = refl
 clears_none Session key pairs none = refl
 clears_none Local key (pair ∷ pairs) none = absurd (true≢false (sym (lt-ltb 0 (length (pair ∷ pairs)) (omega arith)) ∙ none))
 
-pub clears_some : (key : PlainKey) (pairs : List Pair) → nat_lt 0 (length pairs) ≡ true → AreaClear key ∷ [] ≡ changes_of_write key None None pairs
+pub clears_some : (key : PlainKey) (pairs : List Pair) → nat_lt 0 (length pairs) ≡ true
+    → AreaClear key ∷ [] ≡ changes_of_write key None None pairs
 clears_some key [] some = absurd (cc some)
 clears_some key (pair ∷ pairs) some = refl
 
@@ -185,7 +203,8 @@ pub none_written : (before : List ℕ) → AreWritten [] before before
 none_written before = record { behind = sym (append-nil before); room = All-nil HasRoom }
 
 -- row changes of a site are written as one
-pub site_written : (site : PlainSite) (changes : List PlainChange) (before after : List ℕ) → IsAppended changes before after → AreWritten (change_of site changes) before after
+pub site_written : (site : PlainSite) (changes : List PlainChange) (before after : List ℕ)
+    → IsAppended changes before after → AreWritten (change_of site changes) before after
 site_written site [] before after is = record { behind = is.0; room = All-nil HasRoom }
 site_written site (change ∷ changes) before after is =
     let one : AgentChange = record { site = site; changes = change ∷ changes } in
@@ -196,18 +215,22 @@ site_written site (change ∷ changes) before after is =
 
 -- the state of the agent is told otherwise
 module _ (action : PlainAction) (old seen : AgentState) (same : old ≡ seen) where
-  pub line_none : line_changes (machine old.rules) (world_of old) action ≡ [] → (body : List ℕ) → AreWritten (line_changes (machine seen.rules) (world_of seen) action) body body
+  pub line_none : line_changes (machine old.rules) (world_of old) action ≡ [] → (body : List ℕ)
+      → AreWritten (line_changes (machine seen.rules) (world_of seen) action) body body
   line_none none body =
       subst (λ (o : AgentState). AreWritten (line_changes (machine o.rules) (world_of o) action) body body) same
       (subst (λ made. AreWritten made body body) (sym none) (none_written body))
 
-  pub line_written : (site : PlainSite) (changes : List PlainChange) → line_changes (machine old.rules) (world_of old) action ≡ change_of site changes
-      → (before after : List ℕ) → IsAppended changes before after → AreWritten (line_changes (machine seen.rules) (world_of seen) action) before after
+  pub line_written : (site : PlainSite) (changes : List PlainChange)
+      → line_changes (machine old.rules) (world_of old) action ≡ change_of site changes
+      → (before after : List ℕ) → IsAppended changes before after
+      → AreWritten (line_changes (machine seen.rules) (world_of seen) action) before after
   line_written site changes is before after appended =
       subst (λ (o : AgentState). AreWritten (line_changes (machine o.rules) (world_of o) action) before after) same
       (subst (λ made. AreWritten made before after) (sym is) (site_written site changes before after appended))
 
 -- memory was wanting for a line
-pub line_wanting : {T : Type 0} (action : PlainAction) (old : AgentState) (before after : List ℕ) (result : Result T NoMemory) → IsErr result → IsFront before after → LineWrites action old before after result
+pub line_wanting : {T : Type 0} (action : PlainAction) (old : AgentState) (before after : List ℕ)
+    (result : Result T NoMemory) → IsErr result → IsFront before after → LineWrites action old before after result
 line_wanting action old before after (Ok told) wanting front = absurd (cc wanting)
 line_wanting action old before after (Err wanting) is front = front

@@ -1,7 +1,7 @@
 -- What is kept of a request for storage access, and its row change.
 -- Source: Storage Access API, "Permissions Integration": a permission belongs to a top-level site
 -- and an embedded site.
-use Rattle.std.specs.Prelude.{ℕ, List, [], ◌∷◌, Option, Some, None}
+use Rattle.std.specs.Prelude.{List, [], ◌∷◌, Option, Some, None}
 use Rattle.origin_site.specs.Site.{PlainSite}
 use Rattle.access_grants.specs.Grant.{PlainGrant, kept}
 use Rattle.access_grants.specs.declared.permission.Permission.{Permission}

@@ -1,11 +1,10 @@
--- Which document an action is of, whether it is done with the document's storage key, and whether
--- it only reads.
+-- What an action does that is of a document, whether that is done with the document's storage key,
+-- and whether it only reads.
 -- Source: none; what each action does stands in `agent_model`.
 use Rattle.std.specs.List.{list_any}
 use Rattle.std.specs.Option.{option_to_list}
 use Rattle.std.specs.Prelude.{ℕ, Bool, true, false, List, Option, Some, None, is_some}
 use Rattle.std.specs.Prelude.{option_and_then}
-use Rattle.agent_base.specs.declared.refusals.Label.{Label}
 use Rattle.suffix_list.specs.Suffix.{Rule}
 use Rattle.origin_site.specs.Site.{PlainSite}
 use Rattle.live_state.specs.Tabs.{PlainTab}
@@ -19,15 +18,6 @@ use Rattle.agent_model.specs.Buckets.{get_mode, get_usage, persist}
 use Rattle.agent_model.specs.Cookies.{read_cookies, set_cookie}
 use Rattle.agent_model.specs.Documents.{Keyed}
 use Rattle.agent_model.specs.Done.{Effect}
-
--- the document that an action names
-abbrev pub label_of : PlainAction → Option Label
-label_of (Tick s) = None
-label_of (Open tab url opener noopener method head) = None
-label_of (Close tab) = None
-label_of (Go tab url by_page method head) = None
-label_of (Evict site) = None
-label_of (Act at action) = Some at
 
 -- what an action does that names a document
 abbrev pub document_action : PlainAction → Option DocumentAction

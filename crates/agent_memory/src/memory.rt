@@ -20,7 +20,7 @@ ghost use Rattle.agent_memory.specs.Writes.{LineWrites};
 ghost use Rattle.agent_memory.specs.Written.{AreWritten};
 ghost use Rattle.web_storage.specs.Stored.{held_with};
 ghost use Rattle.site_entries.specs.Seen.{IsGivenAt};
-ghost use Rattle.agent_memory.specs.ActionKinds.{label_of};
+ghost use Rattle.line_events.specs.Events.{label_of};
 
 use crate::body::Body;
 use crate::clock::clock_after;
@@ -29,6 +29,7 @@ use crate::replies::{answer, refused, replied, ticked};
 use access_grants::Grants;
 use agent_base::{Label, NoMemory};
 use cookie_jar::Jar;
+use line_events::label_of;
 use live_state::Live;
 use origin_site::{Address, Site};
 use reply_lines::{Reply, ReplyBody};
@@ -219,6 +220,9 @@ impl<'l> Memory<'l> {
             body.old.bytes body.new.bytes result }
         ensures limit { body.new.limit ≡ body.old.limit }
     {
+        if let Some(at) = label_of(action) {
+            return self.act(at, action, body);
+        }
         match action {
             Action::Tick { s } => Ok(self.tick(*s)),
             Action::Open {
@@ -246,25 +250,7 @@ impl<'l> Memory<'l> {
                 head,
             } => self.go(*tab, url, *by_page, *method, head.as_slice(), body),
             Action::Evict { site } => self.evict(site, body),
-            Action::Frame { at, .. }
-            | Action::Nav { at, .. }
-            | Action::Drop { at }
-            | Action::Click { at }
-            | Action::Fetch { at, .. }
-            | Action::Set { at, .. }
-            | Action::Get { at, .. }
-            | Action::Del { at, .. }
-            | Action::Clear { at, .. }
-            | Action::Len { at, .. }
-            | Action::Key { at, .. }
-            | Action::Events { at }
-            | Action::Cookie { at }
-            | Action::SetCookie { at, .. }
-            | Action::Has { at }
-            | Action::Request { at, .. }
-            | Action::Persisted { at }
-            | Action::Estimate { at }
-            | Action::Persist { at, .. } => self.act(*at, action, body),
+            _ => unreachable!(),
         }
     }
 

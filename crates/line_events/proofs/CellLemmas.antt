@@ -15,7 +15,6 @@ use Rattle.frame_tree.specs.Document.{PlainDocument}
 use Rattle.frame_tree.specs.Keys.{is_first_at, key_of_document, key_of_frame, sites}
 use Rattle.frame_tree.specs.Sandbox.{sandbox_of}
 use Rattle.frame_tree.specs.Tree.{PlainFrame, chain_of, document_of, has_frame}
-use Rattle.std.proofs.lemmas.Bool.Decides.{Decides-eqb}
 use Rattle.std.proofs.lemmas.List.{length-map, take-map}
 use Rattle.origin_site.specs.declared.site.Site.{Site}
 use Rattle.frame_tree.specs.Plain.{plain_chain_site}
@@ -34,7 +33,8 @@ use Rattle.line_events.specs.Cells.{ActNames, FetchNames, FrameNames, IsUsed, Na
 -- ---- documents that are there
 
 pub document_there : (frame : ℕ) (frames : List PlainFrame) → is_some (document_of frame frames) ≡ has_frame frame frames
-document_there frame frames = is_some-map (λ f. f.document) (find (λ f. f.frame == frame) frames) ∙ is_some-find (λ f. f.frame == frame) frames
+document_there frame frames = is_some-map (λ f. f.document) (find (λ f. f.frame == frame) frames)
+    ∙ is_some-find (λ f. f.frame == frame) frames
 
 none_is : {A : Type 0} (found : Option A) → not (is_some found) ≡ is_none found
 none_is None = refl
@@ -46,31 +46,38 @@ free_is frame frames = ap not (sym (document_there frame frames)) ∙ none_is (d
 -- ---- loads of frames that are refused
 
 module _ (ds : List Domain) where
-  taken_names : (b : Bool) (why : TreeFault) (frames : List PlainFrame) → unless_refused ds (if b then Err why else Ok frames) ≡ cond (not b) ds []
+  taken_names : (b : Bool) (why : TreeFault) (frames : List PlainFrame)
+      → unless_refused ds (if b then Err why else Ok frames) ≡ cond (not b) ds []
   taken_names true why frames = refl
   taken_names false why frames = refl
 
-  top_names : (b : Bool) (after : Result (List PlainFrame) TreeFault) → unless_refused ds (if b then Err NoFrame else after) ≡ cond (not b) (unless_refused ds after) []
+  top_names : (b : Bool) (after : Result (List PlainFrame) TreeFault)
+      → unless_refused ds (if b then Err NoFrame else after) ≡ cond (not b) (unless_refused ds after) []
   top_names true after = refl
   top_names false after = refl
 
   -- a frame is added below a document, where its number is free
-  added_names : (rules : List Rule) (at : Label) (parent : ℕ) (url : PlainAddress) (sandbox : Option (List ℕ)) (deny : Bool) (frames : List PlainFrame)
-      → unless_refused ds (frames_added rules at parent url sandbox deny frames) ≡ cond (is_some (document_of parent frames) && is_none (document_of at.frame frames)) ds []
+  added_names : (rules : List Rule) (at : Label) (parent : ℕ) (url : PlainAddress) (sandbox : Option (List ℕ))
+      (deny : Bool) (frames : List PlainFrame)
+      → unless_refused ds (frames_added rules at parent url sandbox deny frames)
+      ≡ cond (is_some (document_of parent frames) && is_none (document_of at.frame frames)) ds []
   added_names rules at parent url sandbox deny frames = by (document_of parent frames)
     where
       by : (above : Option PlainDocument)
-          → unless_refused ds (added_below above rules parent at.frame url (sandbox_of sandbox) deny frames) ≡ cond (is_some above && is_none (document_of at.frame frames)) ds []
+          → unless_refused ds (added_below above rules parent at.frame url (sandbox_of sandbox) deny frames)
+          ≡ cond (is_some above && is_none (document_of at.frame frames)) ds []
       by None = refl
       by (Some above) = taken_names (has_frame at.frame frames) FrameExists _ ∙ ap (λ b. cond b ds []) (free_is at.frame frames)
 
   -- a frame goes to another address, where it is there and is not the top
   navigated_names : (rules : List Rule) (at : Label) (url : PlainAddress) (by_self : Bool) (frames : List PlainFrame)
-      → unless_refused ds (frames_navigated rules at url by_self frames) ≡ cond (not (at.frame == 0) && is_some (document_of at.frame frames)) ds []
+      → unless_refused ds (frames_navigated rules at url by_self frames)
+      ≡ cond (not (at.frame == 0) && is_some (document_of at.frame frames)) ds []
   navigated_names rules at url by_self frames = top_names (at.frame == 0) _ ∙ by (at.frame == 0) (document_of at.frame frames)
     where
       by : (b : Bool) (found : Option PlainDocument)
-          → cond (not b) (unless_refused ds (navigated_from found rules at.frame url (is_granted_nav by_self at.frame frames url) frames)) [] ≡ cond (not b && is_some found) ds []
+          → cond (not b) (unless_refused ds (navigated_from found rules at.frame url
+          (is_granted_nav by_self at.frame frames url) frames)) [] ≡ cond (not b && is_some found) ds []
       by true found = refl
       by false None = refl
       by false (Some before) = refl
@@ -82,75 +89,85 @@ or_false true = refl
 or_false false = refl
 
 -- what is at a site is first party below a frame that is there
-first_is : (frame : ℕ) (frames : List PlainFrame) (target : PlainSite) → has_frame frame frames ≡ true → is_first_at frame frames target ≡ is_first_party (sites (chain_of frame frames)) target
+pub first_is : (frame : ℕ) (frames : List PlainFrame) (target : PlainSite) → has_frame frame frames ≡ true
+    → is_first_at frame frames target ≡ is_first_party (sites (chain_of frame frames)) target
 first_is frame frames target there = ap (λ b. b && is_first_party (sites (chain_of frame frames)) target) there
 
 -- a chain without its last document, by its sites
-pub above_is : (frame : ℕ) (frames : List PlainFrame) (seen : List (Option Site)) → has_frame frame frames ≡ true → sites_of frame frames ≡ Ok (map plain_chain_site seen)
+pub above_is : (frame : ℕ) (frames : List PlainFrame) (seen : List (Option Site))
+    → has_frame frame frames ≡ true → sites_of frame frames ≡ Ok (map plain_chain_site seen)
     → map plain_chain_site (take (length seen - 1) seen) ≡ sites (chain_above frame frames)
 above_is frame frames seen there is =
     let chain = chain_of frame frames in
-    let own : sites chain ≡ map plain_chain_site seen = ok_is (sym (ap (λ b. cond b (Ok (sites chain)) (Err NoFrame)) there) ∙ is) in
-    last_gone plain_chain_site seen ∙ ap (λ known. take (length known - 1) known) (sym own) ∙ sym (last_gone (λ f. f.document.site) chain)
+    let own : sites chain ≡ map plain_chain_site seen =
+    ok_is (sym (ap (λ b. cond b (Ok (sites chain)) (Err NoFrame)) there) ∙ is) in
+    last_gone plain_chain_site seen ∙ ap (λ known. take (length known - 1) known) (sym own)
+    ∙ sym (last_gone (λ f. f.document.site) chain)
   where
-    last_gone : {X Y : Type 0} (f : X → Y) (xs : List X) → map f (take (length xs - 1) xs) ≡ take (length (map f xs) - 1) (map f xs)
+    last_gone : {X Y : Type 0} (f : X → Y) (xs : List X)
+        → map f (take (length xs - 1) xs) ≡ take (length (map f xs) - 1) (map f xs)
     last_gone f xs = sym (take-map f (length xs - 1) xs) ∙ ap (λ n. take (n - 1) (map f xs)) (sym (length-map xs f))
 
     ok_is : {x y : List (Option PlainSite)} → ◌≡◌ {A = Result (List (Option PlainSite)) TreeFault} (Ok x) (Ok y) → x ≡ y
     ok_is same = cc same
 
--- a frame that is not 0 is not the top
-pub not_top : (frame : ℕ) → (frame ≡ 0 → ⊥) → not (frame == 0) ≡ true
-not_top frame apart = by (frame == 0) refl
-  where
-    by : (b : Bool) → (frame == 0) ≡ b → not b ≡ true
-    by true is = absurd (apart ((Decides-eqb frame 0).0 is))
-    by false is = refl
-
 -- ---- each action
 
 module _ (rules : List Rule) (frames : List PlainFrame) where
-  pub frame_none : (frame parent : ℕ) (url : PlainAddress) → (is_some (document_of parent frames) && is_none (document_of frame frames)) ≡ false
+  pub frame_none : (frame parent : ℕ) (url : PlainAddress)
+      → (is_some (document_of parent frames) && is_none (document_of frame frames)) ≡ false
       → FrameNames rules frames frame parent url None
   frame_none frame parent url refused shown site at sandbox deny head same number =
       let ds = consulted_by rules (frame_use rules site parent shown.frames url) in
       added_names ds rules at parent url sandbox deny shown.frames
-      ∙ ap (λ b. cond b ds []) ((λ i. is_some (document_of parent (same i)) && is_none (document_of (number i) (same i))) ∙ refused)
+      ∙ ap (λ b. cond b ds []) ((λ i. is_some (document_of parent (same i))
+      && is_none (document_of (number i) (same i))) ∙ refused)
 
-  pub frame_is : (frame parent : ℕ) (url : PlainAddress) (domain : Option (Bor (List ℕ))) → (is_some (document_of parent frames) && is_none (document_of frame frames)) ≡ true
-      → has_frame parent frames ≡ true → IsUsed rules url (is_first_at parent frames (site_of_address rules url)) domain → FrameNames rules frames frame parent url domain
+  pub frame_is : (frame parent : ℕ) (url : PlainAddress) (domain : Option (Bor (List ℕ)))
+      → (is_some (document_of parent frames) && is_none (document_of frame frames)) ≡ true
+      → has_frame parent frames ≡ true → IsUsed rules url (is_first_at parent frames
+      (site_of_address rules url)) domain → FrameNames rules frames frame parent url domain
   frame_is frame parent url domain done there used shown site at sandbox deny head same number =
       let how = frame_use rules site parent shown.frames url in
       let target = site_of_address rules url in
       added_names (consulted_by rules how) rules at parent url sandbox deny shown.frames
-      ∙ ap (λ b. cond b (consulted_by rules how) []) ((λ i. is_some (document_of parent (same i)) && is_none (document_of (number i) (same i))) ∙ done)
+      ∙ ap (λ b. cond b (consulted_by rules how) [])
+      ((λ i. is_some (document_of parent (same i)) && is_none (document_of (number i) (same i))) ∙ done)
       ∙ used how refl
       (or_false (is_first_party (sites (chain_of parent shown.frames)) target)
       ∙ (λ i. is_first_party (sites (chain_of parent (same i))) target)
       ∙ sym (first_is parent frames target there))
 
-  pub nav_none : (frame : ℕ) (url : PlainAddress) (by_self : Bool) → (not (frame == 0) && is_some (document_of frame frames)) ≡ false → NavNames rules frames frame url by_self None
+  pub nav_none : (frame : ℕ) (url : PlainAddress) (by_self : Bool)
+      → (not (frame == 0) && is_some (document_of frame frames)) ≡ false → NavNames rules frames frame url by_self None
   nav_none frame url by_self refused shown site at method head same number =
       let ds = consulted_by rules (nav_use rules site at.frame shown.frames url by_self method) in
       navigated_names ds rules at url by_self shown.frames
       ∙ ap (λ b. cond b ds []) ((λ i. not (number i == 0) && is_some (document_of (number i) (same i))) ∙ refused)
 
-  pub nav_is : (frame : ℕ) (url : PlainAddress) (by_self : Bool) (domain : Option (Bor (List ℕ))) → (not (frame == 0) && is_some (document_of frame frames)) ≡ true
-      → IsUsed rules url (is_first_party (sites (chain_above frame frames)) (site_of_address rules url) || is_granted_nav by_self frame frames url) domain
+  pub nav_is : (frame : ℕ) (url : PlainAddress) (by_self : Bool) (domain : Option (Bor (List ℕ)))
+      → (not (frame == 0) && is_some (document_of frame frames)) ≡ true
+      → IsUsed rules url (is_first_party (sites (chain_above frame frames)) (site_of_address rules url)
+      || is_granted_nav by_self frame frames url) domain
       → NavNames rules frames frame url by_self domain
   nav_is frame url by_self domain done used shown site at method head same number =
       let how = nav_use rules site at.frame shown.frames url by_self method in
       navigated_names (consulted_by rules how) rules at url by_self shown.frames
-      ∙ ap (λ b. cond b (consulted_by rules how) []) ((λ i. not (number i == 0) && is_some (document_of (number i) (same i))) ∙ done)
+      ∙ ap (λ b. cond b (consulted_by rules how) [])
+      ((λ i. not (number i == 0) && is_some (document_of (number i) (same i))) ∙ done)
       ∙ used how refl
-      (λ i. is_first_party (sites (chain_above (number i) (same i))) (site_of_address rules url) || is_granted_nav by_self (number i) (same i) url)
+      (λ i. is_first_party (sites (chain_above (number i) (same i))) (site_of_address rules url)
+      || is_granted_nav by_self (number i) (same i) url)
 
   pub fetch_none : (frame : ℕ) (url : PlainAddress) → document_of frame frames ≡ None → FetchNames rules frames frame url None
   fetch_none frame url missing shown site at method head same number =
-      ap (where_there (consulted_by rules (fetch_use rules site at.frame shown.frames url method))) ((λ i. document_of (number i) (same i)) ∙ missing)
+      ap (where_there (consulted_by rules (fetch_use rules site at.frame shown.frames url method)))
+      ((λ i. document_of (number i) (same i)) ∙ missing)
 
-  pub fetch_is : (frame : ℕ) (url : PlainAddress) (domain : Option (Bor (List ℕ))) (document : PlainDocument) → document_of frame frames ≡ Some document
-      → has_frame frame frames ≡ true → IsUsed rules url (is_first_at frame frames (site_of_address rules url) || is_granted_to url (Some document)) domain
+  pub fetch_is : (frame : ℕ) (url : PlainAddress) (domain : Option (Bor (List ℕ))) (document : PlainDocument)
+      → document_of frame frames ≡ Some document
+      → has_frame frame frames ≡ true → IsUsed rules url (is_first_at frame frames (site_of_address rules url)
+      || is_granted_to url (Some document)) domain
       → FetchNames rules frames frame url domain
   fetch_is frame url domain document found there used shown site at method head same number =
       let how = fetch_use rules site at.frame shown.frames url method in
@@ -165,10 +182,15 @@ module _ (rules : List Rule) (frames : List PlainFrame) where
     where
       names : (found : Option PlainDocument) → document_of frame frames ≡ found
           → by_script rules site (keyed_at at shown)
-          ≡ by_script rules site (option_and_then (λ document. option_map (λ key. record { at = at; document = document; key = key }) (key_of_document frame frames document)) found)
+          ≡ by_script rules site (option_and_then (λ document. option_map
+          (λ key. record { at = at; document = document; key = key }) (key_of_document frame frames document)) found)
       names found is =
-          (λ i. by_script rules site (option_and_then (λ document. option_map (λ key. record { at = at; document = document; key = key }) (key_of_document (number i) (same i) document)) (document_of (number i) (same i))))
-          ∙ ap (λ o. by_script rules site (option_and_then (λ document. option_map (λ key. record { at = at; document = document; key = key }) (key_of_document frame frames document)) o)) is
+          (λ i. by_script rules site (option_and_then
+          (λ document. option_map (λ key. record { at = at; document = document; key = key })
+          (key_of_document (number i) (same i) document)) (document_of (number i) (same i))))
+          ∙ ap (λ o. by_script rules site
+          (option_and_then (λ document. option_map
+          (λ key. record { at = at; document = document; key = key }) (key_of_document frame frames document)) o)) is
 
       by : (found : Option PlainDocument) → document_of frame frames ≡ found → by_script rules site (keyed_at at shown) ≡ []
       by None is = names None is
@@ -177,12 +199,18 @@ module _ (rules : List Rule) (frames : List PlainFrame) where
           ∙ ap (λ key. by_script rules site (option_map (λ key. record { at = at; document = document; key = key }) key))
           (sym (ap (option_and_then (key_of_document frame frames)) is) ∙ none)
 
-  pub script_is : (frame : ℕ) (document : PlainDocument) (key : PlainKey) (domain : Option (Bor (List ℕ))) → document_of frame frames ≡ Some document
-      → key_of_frame frame frames ≡ Some key → IsUsed rules document.address (not key.bit || document.flag) domain → ScriptNames rules frames frame domain
+  pub script_is : (frame : ℕ) (document : PlainDocument) (key : PlainKey) (domain : Option (Bor (List ℕ)))
+      → document_of frame frames ≡ Some document
+      → key_of_frame frame frames ≡ Some key → IsUsed rules document.address (not key.bit || document.flag)
+      domain → ScriptNames rules frames frame domain
   script_is frame document key domain found own used shown site at same number =
       let keyed : Keyed = record { at = at; document = document; key = key } in
-      (λ i. by_script rules site (option_and_then (λ document. option_map (λ key. record { at = at; document = document; key = key }) (key_of_document (number i) (same i) document)) (document_of (number i) (same i))))
-      ∙ ap (λ o. by_script rules site (option_and_then (λ document. option_map (λ key. record { at = at; document = document; key = key }) (key_of_document frame frames document)) o)) found
+      (λ i. by_script rules site (option_and_then (λ document. option_map
+      (λ key. record { at = at; document = document; key = key })
+      (key_of_document (number i) (same i) document)) (document_of (number i) (same i))))
+      ∙ ap (λ o. by_script rules site
+      (option_and_then (λ document. option_map (λ key. record { at = at; document = document; key = key })
+      (key_of_document frame frames document)) o)) found
       ∙ ap (λ key. by_script rules site (option_map (λ key. record { at = at; document = document; key = key }) key))
       (sym (ap (option_and_then (key_of_document frame frames)) found) ∙ own)
       ∙ used (script_use site keyed) refl refl
@@ -191,8 +219,10 @@ module _ (rules : List Rule) (frames : List PlainFrame) where
 
 module _ (rules : List Rule) (frames : List PlainFrame) (own at : Label) where
   -- the same action, told of a label
-  acted_as : (site : PlainSite) (shown : PlainTab) (domain : Option (Bor (List ℕ))) (done seen : DocumentAction) → Act own done ≡ Act at seen
-      → (at.frame ≡ own.frame → names_in rules site at done shown ≡ domains_of domain) → names_in rules site at seen shown ≡ domains_of domain
+  acted_as : (site : PlainSite) (shown : PlainTab) (domain : Option (Bor (List ℕ)))
+      (done seen : DocumentAction) → Act own done ≡ Act at seen
+      → (at.frame ≡ own.frame → names_in rules site at done shown ≡ domains_of domain)
+      → names_in rules site at seen shown ≡ domains_of domain
   acted_as site shown domain done seen acted names =
       let action : seen ≡ done = cc acted in
       let label : at ≡ own = cc acted in
@@ -200,7 +230,8 @@ module _ (rules : List Rule) (frames : List PlainFrame) (own at : Label) where
 
 module _ (rules : List Rule) (frames : List PlainFrame) (own : Label) (domain : Option (Bor (List ℕ))) where
   pub frame_acts : (parent : ℕ) (url : PlainAddress) (sandbox : Option (List ℕ)) (deny : Bool) (head : List HeadField)
-      → FrameNames rules frames own.frame parent url domain → ActNames rules frames (Act own (Frame parent url sandbox deny head)) domain
+      → FrameNames rules frames own.frame parent url domain
+      → ActNames rules frames (Act own (Frame parent url sandbox deny head)) domain
   frame_acts parent url sandbox deny head names shown site at done same acted =
       acted_as rules frames own at site shown domain _ done acted (names shown site at sandbox deny head same)
 

@@ -1,6 +1,6 @@
 -- The unpartitioned cookies that a use of cookies consults, as a borrowed domain.
 -- Source: that of each use stands in `agent_model`.
-use Rattle.std.specs.Prelude.{◌≡◌, ℕ, Bool, List, map, Option, Some, None, option_to_list}
+use Rattle.std.specs.Prelude.{◌≡◌, ℕ, Bool, List, map, Option, option_to_list}
 use Rattle.std.specs.Borrow.{Bor}
 use Rattle.suffix_list.specs.Suffix.{Rule}
 use Rattle.agent_base.specs.declared.refusals.Label.{Label}
@@ -10,7 +10,7 @@ use Rattle.frame_tree.specs.Tree.{PlainFrame}
 use Rattle.live_state.specs.Tabs.{PlainTab}
 use Rattle.script_actions.specs.declared.words.Method.{Method}
 use Rattle.script_actions.specs.Action.{DocumentAction, Fetch, Frame, HeadField, Nav}
-use Rattle.script_actions.specs.Action.{PlainAction, Tick, Open, Close, Go, Evict, Act}
+use Rattle.script_actions.specs.Action.{PlainAction, Act}
 use Rattle.agent_model.specs.Consults.{by_script, keyed_at, names_in}
 use Rattle.agent_model.specs.CookieCells.{Domain}
 use Rattle.agent_model.specs.CookieUse.{CookieUse, consulted_by, uses_own}
@@ -64,12 +64,3 @@ ActNames rules frames action domain =
     (shown : PlainTab) (site : PlainSite) (at : Label) (done : DocumentAction)
     → shown.frames ≡ frames → action ≡ Act at done
     → names_in rules site at done shown ≡ domains_of domain
-
--- the document that a line names, if it names one
-abbrev pub label_of : PlainAction → Option Label
-label_of (Tick s) = None
-label_of (Open tab url opener noopener method head) = None
-label_of (Close tab) = None
-label_of (Go tab url by_page method head) = None
-label_of (Evict site) = None
-label_of (Act at action) = Some at

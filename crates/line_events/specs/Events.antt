@@ -4,6 +4,7 @@
 use Rattle.std.specs.Prelude.{◌≡◌, ℕ, Bool, List, [], ◌∷◌, map, Option, Some, None, option_and_then}
 use Rattle.std.specs.Prelude.{option_map, option_to_list, string_bytes, if◌then◌else◌}
 use Rattle.suffix_list.specs.Suffix.{Rule}
+use Rattle.agent_base.specs.declared.refusals.Label.{Label}
 use Rattle.origin_site.specs.Address.{PlainAddress}
 use Rattle.origin_site.specs.Site.{PlainSite, site_of_address}
 use Rattle.origin_site.specs.Plain.{plain_site}
@@ -41,6 +42,15 @@ pub record ShowsTabs (tabs : List PlainTab) (world : AgentWorld) : Type 0 where
   pub partitions : (site : PlainSite) → HasTabs tabs (world.partition site)
 
 -- ---- the main event
+
+-- the document that a line names, if it names one
+abbrev pub label_of : PlainAction → Option Label
+label_of (Tick s) = None
+label_of (Open tab url opener noopener method head) = None
+label_of (Close tab) = None
+label_of (Go tab url by_page method head) = None
+label_of (Evict site) = None
+label_of (Act at action) = Some at
 
 -- who starts a load: the page of this tab, which has to be open, or the user
 abbrev pub starter_in : List PlainTab → Option ℕ → Option Starter

@@ -1,21 +1,16 @@
 //! The unpartitioned cookies that an action of a document consults.
-ghost use Rattle.std.specs.Prelude.{◌≡◌, ◌&&◌, IfOk, Some, is_none, is_some, true};
-ghost use Rattle.origin_site.specs.Plain.{plain_address, plain_site};
-ghost use Rattle.origin_site.specs.Site.{site_of_address};
-ghost use Rattle.storage_key.specs.Context.{context_of};
-ghost use Rattle.frame_tree.specs.Keys.{sites};
-ghost use Rattle.frame_tree.specs.Plain.{plain_document};
-ghost use Rattle.frame_tree.specs.Tree.{document_of, has_frame};
+ghost use Rattle.std.specs.Prelude.{◌≡◌, ◌&&◌, ◌==◌, IfOk, is_none, is_some, not};
+ghost use Rattle.origin_site.specs.Plain.{plain_address};
+ghost use Rattle.frame_tree.specs.Tree.{document_of};
 ghost use Rattle.script_actions.specs.Plain.{action_of};
-ghost use Rattle.agent_model.specs.CookieUses as spec;
 ghost use Rattle.line_events.specs.Cells.{ActNames, FetchNames, FrameNames, IsUsed, NavNames, ScriptNames};
 
+use crate::requests::{context_above, is_granted_nav, is_granted_to, target_of};
 use agent_base::NoMemory;
-use frame_tree::{Document, Tab};
-use origin_site::{Address, Site, domain_of, same_origin, site_of};
+use frame_tree::Tab;
+use origin_site::{Address, domain_of};
 use script_actions::Action;
 use std::alloc::Global;
-use storage_key::Context;
 use suffix_list::SuffixList;
 
 /// The domain whose unpartitioned cookies an action of a document consults, if it consults any.
@@ -77,16 +72,13 @@ fn of_navigation<'a>(
     ensures cells { IfOk result
         (NavNames list.now.rules tab.now frame (plain_address url.now) by_self) }
 {
-    let Some(document) = tab.document(frame) else {
-        return Ok(None);
-    };
-    if frame == 0 {
+    if !can_be_navigated(tab, frame) {
         return Ok(None);
     }
     let target = target_of(alloc, list, url)?;
-    let first = is_first_above(tab, frame, &target)?;
-    let granted = is_granted_nav(alloc, document, url, by_self)?;
-    Ok(used(list, url, first | granted))
+    let context = context_above(tab, frame, &target)?;
+    let granted = is_granted_nav(alloc, tab, frame, url, by_self)?;
+    Ok(used(list, url, context.first | granted))
 }
 
 // Of a request of a document.
@@ -137,60 +129,9 @@ fn can_be_added(tab: &Tab, frame: u8, parent: u8) -> bool
     tab.document(parent).is_some() && tab.document(frame).is_none()
 }
 
-// Whether a load below the parent of a frame is first party.
-fn is_first_above(tab: &Tab, frame: u8, target: &Site) -> Result<bool, NoMemory>
-    requires there { has_frame frame tab.now ≡ true }
-    ensures first { IfOk result (λ first. first
-        ≡ (context_of (sites (spec.chain_above frame tab.now)) (plain_site target.now)).first) }
+// Whether a frame can go to another address: that is there, and is not the top.
+fn can_be_navigated(tab: &Tab, frame: u8) -> bool
+    ensures { result ≡ (not (frame == 0) && is_some (document_of frame tab.now)) }
 {
-    match tab.chain(frame) {
-        Ok(chain) => {
-            let sites = chain.as_slice();
-            let above = &sites[..sites.len().saturating_sub(1)];
-            Ok(Context::of(above, target).first)
-        }
-        Err(_) => Err(NoMemory),
-    }
-}
-
-// Whether access is granted to a request of a document.
-fn is_granted_to(alloc: Global, document: &Document, url: &Address) -> Result<bool, NoMemory>
-    ensures granted { let own = Some (plain_document document.now) in
-        IfOk result (λ is. is ≡ spec.is_granted_to (plain_address url.now) own) }
-{
-    if !document.flag {
-        return Ok(false);
-    }
-    match &document.origin {
-        Some(origin) => Ok(same_origin(origin, &url.origin(alloc)?)),
-        None => Ok(false),
-    }
-}
-
-// Whether access is granted to the load of a frame that goes to another address, from this
-// document.
-fn is_granted_nav(
-    alloc: Global,
-    document: &Document,
-    url: &Address,
-    by_self: bool,
-) -> Result<bool, NoMemory>
-    ensures granted { let own = Some (plain_document document.now) in
-        IfOk result (λ is. is
-        ≡ (by_self && spec.is_granted_to (plain_address url.now) own)) }
-{
-    if by_self {
-        is_granted_to(alloc, document, url)
-    } else {
-        Ok(false)
-    }
-}
-
-/// The site that a load reaches.
-pub fn target_of(alloc: Global, list: &SuffixList, url: &Address) -> Result<Site, NoMemory>
-    ensures site { let target = site_of_address list.now.rules (plain_address url.now) in
-        IfOk result (λ site. plain_site site ≡ target) }
-{
-    let origin = url.origin(alloc)?;
-    site_of(alloc, &origin, list)
+    frame != 0 && tab.document(frame).is_some()
 }

@@ -1,16 +1,16 @@
 //! The main event of a line: its site, and the unpartitioned cookies that it consults.
-ghost use Rattle.std.specs.Prelude.{◌≡◌, Bool, IfOk, List, Some, is_some, map, option_map, string_bytes, true};
+ghost use Rattle.std.specs.Prelude.{◌≡◌, Bool, IfOk, List, Some, is_some, option_map, string_bytes};
 ghost use Rattle.origin_site.specs.Plain.{plain_address, plain_site};
 ghost use Rattle.suffix_list.specs.Suffix.{Rule};
 ghost use Rattle.script_actions.specs.declared.words.Method.{Method};
 ghost use Rattle.script_actions.specs.Action as plain;
 ghost use Rattle.script_actions.specs.Plain.{action_of};
 ghost use Rattle.agent_model.specs.Lines.{Starter, is_same_site};
-ghost use Rattle.line_events.specs.Events.{IsArrival, IsMain, page_of, starter_in};
-ghost use Rattle.line_events.specs.Cells.{label_of};
+ghost use Rattle.line_events.specs.Events.{IsArrival, IsMain, label_of, page_of, starter_in};
 
-use crate::cells::{consulted, target_of};
+use crate::cells::consulted;
 use crate::places::place;
+use crate::requests::target_of;
 use agent_base::{Label, NoMemory};
 use live_state::Live;
 use origin_site::{Address, Site, same_site};
@@ -38,6 +38,9 @@ pub fn main_event(
 ) -> Result<Option<MainEvent>, NoMemory>
     ensures event { IfOk result (IsMain list.now.rules live.now.tabs (action_of action.now)) }
 {
+    if let Some(at) = label_of(action) {
+        return of_act(alloc, list, live, at, action);
+    }
     match action {
         Action::Tick { .. } => Ok(None),
         Action::Open {
@@ -58,6 +61,20 @@ pub fn main_event(
             same_site: false,
             domain: None,
         })),
+        _ => unreachable!(),
+    }
+}
+
+/// The document that a line names, if it names one.
+pub fn label_of(action: &Action) -> Option<Label>
+    ensures label { result ≡ label_of (action_of action.now) }
+{
+    match action {
+        Action::Tick { .. }
+        | Action::Open { .. }
+        | Action::Close { .. }
+        | Action::Go { .. }
+        | Action::Evict { .. } => None,
         Action::Frame { at, .. }
         | Action::Nav { at, .. }
         | Action::Drop { at }
@@ -76,7 +93,7 @@ pub fn main_event(
         | Action::Request { at, .. }
         | Action::Persisted { at }
         | Action::Estimate { at }
-        | Action::Persist { at, .. } => of_act(alloc, list, live, *at, action),
+        | Action::Persist { at, .. } => Some(*at),
     }
 }
 

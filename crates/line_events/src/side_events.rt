@@ -6,8 +6,8 @@ ghost use Rattle.script_actions.specs.Plain.{action_of};
 ghost use Rattle.line_events.specs.Events.{IsSide, place_in};
 ghost use Rattle.line_events.specs.Sides.{ClosesSide, CopiesSide, LeavesSide};
 
-use crate::cells::target_of;
 use crate::places::{is_at, place};
+use crate::requests::target_of;
 use agent_base::NoMemory;
 use live_state::Live;
 use local_items::SiteEvent;

@@ -22,7 +22,8 @@ pub rows_taken : (at : ℕ) (changes : List PlainChange) (d : Saved) (count : �
 rows_taken at [] d count more valid = refl
 rows_taken at (change ∷ changes) d count more valid =
     let behind = at + length (change_bytes change) in
-    ap {B = Result Counted ℕ} (λ b. cond b (after_pieces (edited change d) count (row_pieces behind changes ++ more)) (Err at)) valid.0
+    ap {B = Result Counted ℕ} (λ b. cond b (after_pieces (edited change d) count
+    (row_pieces behind changes ++ more)) (Err at)) valid.0
     ∙ rows_taken behind changes (edited change d) count more valid.1
     ∙ ap (λ e. after_pieces (after_changes e changes) count more) (sym (valid_done d change valid.0))
 

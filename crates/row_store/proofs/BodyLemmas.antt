@@ -15,7 +15,8 @@ module _ (rules : List Rule) (snapshot : Bool) (size : ℕ) where
   few_within (suc most) p = at (is_over p) (few_within most (next_piece rules snapshot size p).1)
     where
       at : (b : Bool) → length (pieces_within most rules snapshot size (next_piece rules snapshot size p).1) ≤ most
-          → length (cond b [] ((next_piece rules snapshot size p).0 ∷ pieces_within most rules snapshot size (next_piece rules snapshot size p).1)) ≤ suc most
+          → length (cond b [] ((next_piece rules snapshot size p).0
+          ∷ pieces_within most rules snapshot size (next_piece rules snapshot size p).1)) ≤ suc most
       at true ih = omega arith
       at false ih = omega (arith, ih)
 
@@ -57,15 +58,19 @@ module _ (rules : List Rule) (snapshot : Bool) (size : ℕ) where
       by false h = subst (λ k. k ≤ size) (fault_of at o h) within
   first_within (Fault at) pieces d n o within more h = subst (λ k. k ≤ size) (fault_of at o h) within
 
-  fault_within : (most : ℕ) (p : PlainProgress) (d : Saved) (n o : ℕ) → after_pieces d n (pieces_within most rules snapshot size p) ≡ Err o → o ≤ size
+  fault_within : (most : ℕ) (p : PlainProgress) (d : Saved) (n o : ℕ)
+      → after_pieces d n (pieces_within most rules snapshot size p) ≡ Err o → o ≤ size
   fault_within zero p d n o h = absurd (no_fault (d, n) o h)
   fault_within (suc most) p d n o h = at (is_over p) (λ e m. fault_within most (next_piece rules snapshot size p).1 e m o) h
     where
-      at : (b : Bool) → ((e : Saved) (m : ℕ) → after_pieces e m (pieces_within most rules snapshot size (next_piece rules snapshot size p).1) ≡ Err o → o ≤ size)
-          → after_pieces d n (cond b [] ((next_piece rules snapshot size p).0 ∷ pieces_within most rules snapshot size (next_piece rules snapshot size p).1)) ≡ Err o → o ≤ size
+      at : (b : Bool) → ((e : Saved) (m : ℕ) → after_pieces e m
+          (pieces_within most rules snapshot size (next_piece rules snapshot size p).1) ≡ Err o → o ≤ size)
+          → after_pieces d n (cond b [] ((next_piece rules snapshot size p).0
+          ∷ pieces_within most rules snapshot size (next_piece rules snapshot size p).1)) ≡ Err o → o ≤ size
       at true more h = absurd (no_fault (d, n) o h)
       at false more h =
-          first_within (next_piece rules snapshot size p).0 (pieces_within most rules snapshot size (next_piece rules snapshot size p).1) d n o (piece_within p) more h
+          first_within (next_piece rules snapshot size p).0
+          (pieces_within most rules snapshot size (next_piece rules snapshot size p).1) d n o (piece_within p) more h
 
 -- a body has at most one piece more than bytes
 pub few_pieces : (rules : List Rule) (snapshot : Bool) (body : List ℕ) → length (pieces_of rules snapshot body) ≤ length body + 1
@@ -73,8 +78,10 @@ few_pieces rules snapshot body =
     let few = few_within rules snapshot (length body) (suc (length body)) (record { left = 0; rest = body }) in omega (arith, few)
 
 -- the first fault is within the body
-pub fault_in_body : (rules : List Rule) (snapshot : Bool) (body : List ℕ) (d : Saved) (o : ℕ) → after_pieces d 0 (pieces_of rules snapshot body) ≡ Err o → o ≤ length body
-fault_in_body rules snapshot body d o h = fault_within rules snapshot (length body) (suc (length body)) (record { left = 0; rest = body }) d 0 o h
+pub fault_in_body : (rules : List Rule) (snapshot : Bool) (body : List ℕ) (d : Saved) (o : ℕ)
+    → after_pieces d 0 (pieces_of rules snapshot body) ≡ Err o → o ≤ length body
+fault_in_body rules snapshot body d o h = fault_within rules snapshot (length body) (suc (length body))
+    (record { left = 0; rest = body }) d 0 o h
 
 -- what a body means, by the pieces that it has under the rules, from the state from which it is read
 pub meaning : (rules by : List Rule) (d e : Saved) (snapshot : Bool) (body : List ℕ) → by ≡ rules → e ≡ from snapshot d

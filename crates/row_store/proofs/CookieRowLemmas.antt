@@ -31,7 +31,8 @@ use Rattle.row_store.proofs.AreaRowLemmas.{absent_before}
 -- ---- cells of a state
 
 -- a cell with other cookies
-pub cookies_with : (q cell : PlainCell) (cookies : Cookies) (e : Saved) → cookies_at q (with_cookies cell cookies e) ≡ cond (eq_by_cmp cell_order q cell) cookies (cookies_at q e)
+pub cookies_with : (q cell : PlainCell) (cookies : Cookies) (e : Saved)
+    → cookies_at q (with_cookies cell cookies e) ≡ cond (eq_by_cmp cell_order q cell) cookies (cookies_at q e)
 cookies_with (OwnCell a) (OwnCell b) cookies e = shared_with a (OwnCell b) cookies e.cells
 cookies_with (OwnCell a) (PartitionCell top bit b) cookies e = refl
 cookies_with (PartitionCell top bit a) (OwnCell b) cookies e = refl
@@ -39,15 +40,19 @@ cookies_with (PartitionCell top bit a) (PartitionCell above inner b) cookies e =
     partitioned_with (record { top = top; bit = bit; domain = a }) (PartitionCell above inner b) cookies e.under.cookies
 
 -- a cell that is set to what it has
-pub same_cookies : (cell : PlainCell) (cookies : Cookies) (e : Saved) → cookies_at cell e ≡ cookies → e ≡ with_cookies cell cookies e
-same_cookies (OwnCell domain) cookies e is = ap (λ cells. record e { cells = cells }) (sym (set_known domain_order domain_order_total domain_order_same domain cookies e.cells is))
+pub same_cookies : (cell : PlainCell) (cookies : Cookies) (e : Saved) → cookies_at cell e ≡ cookies
+    → e ≡ with_cookies cell cookies e
+same_cookies (OwnCell domain) cookies e is = ap (λ cells. record e { cells = cells })
+    (sym (set_known domain_order domain_order_total domain_order_same domain cookies e.cells is))
 same_cookies (PartitionCell top bit domain) cookies e is =
     let key : PartitionedKey = record { top = top; bit = bit; domain = domain } in
     ap (λ cells. record e { under = record (e.under) { cookies = cells } })
     (sym (set_known partitioned_order partitioned_order_total partitioned_order_same key cookies e.under.cookies is))
 
-cookies_twice : (cell : PlainCell) (xs ys : Cookies) (e : Saved) → with_cookies cell ys (with_cookies cell xs e) ≡ with_cookies cell ys e
-cookies_twice (OwnCell domain) xs ys e = ap (λ cells. record e { cells = cells }) (set_twice domain_order domain_order_total domain_order_same domain xs ys e.cells)
+cookies_twice : (cell : PlainCell) (xs ys : Cookies) (e : Saved)
+    → with_cookies cell ys (with_cookies cell xs e) ≡ with_cookies cell ys e
+cookies_twice (OwnCell domain) xs ys e = ap (λ cells. record e { cells = cells })
+    (set_twice domain_order domain_order_total domain_order_same domain xs ys e.cells)
 cookies_twice (PartitionCell top bit domain) xs ys e =
     let key : PartitionedKey = record { top = top; bit = bit; domain = domain } in
     ap (λ cells. record e { under = record (e.under) { cookies = cells } })
@@ -66,18 +71,21 @@ new_cookie cookie front rest once =
 
 module _ (cell : PlainCell) where
   -- fewer cookies keep the limits
-  fewer_fit : (front rest : Cookies) → keeps_limits (kind_of cell) (front ++ rest) ≡ true → keeps_limits (kind_of cell) front ≡ true
+  fewer_fit : (front rest : Cookies) → keeps_limits (kind_of cell) (front ++ rest) ≡ true
+      → keeps_limits (kind_of cell) front ≡ true
   fewer_fit front rest within =
       let long = length-append front rest in
       let heavy = sum_by-append (counted (kind_of cell)) front rest in
       fits_less (kind_of cell) _ _ _ _ within (omega (arith, long)) (omega (arith, heavy))
 
-  insert_valid : (cookie : PlainCookie) (front rest : Cookies) (e : Saved) → cookies_at cell e ≡ front → is_kept_cookie cookie ≡ true
+  insert_valid : (cookie : PlainCookie) (front rest : Cookies) (e : Saved) → cookies_at cell e ≡ front
+      → is_kept_cookie cookie ≡ true
       → copies cookie (front ++ cookie ∷ rest) ≤ 1 → keeps_limits (kind_of cell) (front ++ cookie ∷ rest) ≡ true
       → is_valid (CookieInsert cell (length front) cookie) e ≡ true
   insert_valid cookie front rest e is kept once within =
       let whole : (front ++ cookie ∷ []) ++ rest ≡ front ++ cookie ∷ rest = append_assoc front (cookie ∷ []) rest in
-      let fits : keeps_limits (kind_of cell) (front ++ cookie ∷ []) ≡ true = fewer_fit (front ++ cookie ∷ []) rest (ap (keeps_limits (kind_of cell)) whole ∙ within) in
+      let fits : keeps_limits (kind_of cell) (front ++ cookie ∷ []) ≡ true =
+      fewer_fit (front ++ cookie ∷ []) rest (ap (keeps_limits (kind_of cell)) whole ∙ within) in
       let end : insert front (length front) cookie ≡ front ++ cookie ∷ [] = insert_end front cookie in
       let place : nat_le (length front) (length front) ≡ true = le-leb (length front) (length front) (omega arith) in
       let none : (copies cookie front == 0) ≡ true = eq-eqb (copies cookie front) 0 (new_cookie cookie front rest once) in
@@ -85,10 +93,12 @@ module _ (cell : PlainCell) where
       and_from _ _ place (and_from _ _ none (ap (keeps_limits (kind_of cell)) end ∙ fits)) in
       and_from (is_kept_cookie cookie) _ kept (ap (λ cs. row_fits (kind_of cell) cs (RowInsert (length front) cookie)) is ∙ row)
 
-  pub cookies_lead : (front rest : Cookies) (place : ℕ) (e : Saved) → length front ≡ place → cookies_at cell e ≡ front → list_all is_kept_cookie rest ≡ true
+  pub cookies_lead : (front rest : Cookies) (place : ℕ) (e : Saved) → length front ≡ place
+      → cookies_at cell e ≡ front → list_all is_kept_cookie rest ≡ true
       → ((c : PlainCookie) → copies c (front ++ rest) ≤ 1) → keeps_limits (kind_of cell) (front ++ rest) ≡ true
       → Leads e (cookie_rows cell place rest) (with_cookies cell (front ++ rest) e)
-  cookies_lead front [] place e long is kept once within = stays e _ (same_cookies cell (front ++ []) e (is ∙ sym (append-nil front)))
+  cookies_lead front [] place e long is kept once within =
+      stays e _ (same_cookies cell (front ++ []) e (is ∙ sym (append-nil front)))
   cookies_lead front (c ∷ cs) place e long is kept once within =
       let both = and_parts (is_kept_cookie c) (list_all is_kept_cookie cs) kept in
       let whole : (front ++ c ∷ []) ++ cs ≡ front ++ c ∷ cs = append_assoc front (c ∷ []) cs in
@@ -118,15 +128,19 @@ celled d cell e = with_cookies cell (cookies_at cell d) e
 abbrev pub IsFreeCell : PlainCell → Saved → Type 0
 IsFreeCell cell e = cookies_at cell e ≡ []
 
-pub cell_leads : (d : Saved) (cell : PlainCell) (e : Saved) → IsKeptCell (cookies_at cell d) → keeps_limits (kind_of cell) (cookies_at cell d) ≡ true → IsFreeCell cell e
+pub cell_leads : (d : Saved) (cell : PlainCell) (e : Saved) → IsKeptCell (cookies_at cell d)
+    → keeps_limits (kind_of cell) (cookies_at cell d) ≡ true → IsFreeCell cell e
     → Leads e (cell_rows d cell) (celled d cell e)
 cell_leads d cell e kept within free = cookies_lead cell [] (cookies_at cell d) 0 e refl free kept.0 kept.1 within
 
-pub celled_cookies : (d : Saved) (q cell : PlainCell) (e : Saved) → cookies_at q (celled d cell e) ≡ cond (eq_by_cmp cell_order q cell) (cookies_at cell d) (cookies_at q e)
+pub celled_cookies : (d : Saved) (q cell : PlainCell) (e : Saved)
+    → cookies_at q (celled d cell e) ≡ cond (eq_by_cmp cell_order q cell) (cookies_at cell d) (cookies_at q e)
 celled_cookies d q cell e = cookies_with q cell (cookies_at cell d) e
 
-pub free_cell : (d : Saved) (q cell : PlainCell) (e : Saved) → eq_by_cmp cell_order q cell ≡ false → IsFreeCell cell e → IsFreeCell q e → IsFreeCell q (celled d cell e)
-free_cell d q cell e apart here free = celled_cookies d q cell e ∙ ap (λ b. cond b (cookies_at cell d) (cookies_at q e)) apart ∙ free
+pub free_cell : (d : Saved) (q cell : PlainCell) (e : Saved) → eq_by_cmp cell_order q cell ≡ false
+    → IsFreeCell cell e → IsFreeCell q e → IsFreeCell q (celled d cell e)
+free_cell d q cell e apart here free = celled_cookies d q cell e
+    ∙ ap (λ b. cond b (cookies_at cell d) (cookies_at q e)) apart ∙ free
 
 -- ---- permissions
 
@@ -135,7 +149,8 @@ abbrev pub with_grants : List PlainGrant → Saved → Saved
 with_grants rows e = record e { under = record (e.under) { grants = rows } }
 
 -- a permission of a new pair comes last
-kept_last : (row : PlainGrant) (front rest : List PlainGrant) → HasDistinctPairs (front ++ row ∷ rest) → kept row front ≡ front ++ row ∷ []
+kept_last : (row : PlainGrant) (front rest : List PlainGrant) → HasDistinctPairs (front ++ row ∷ rest)
+    → kept row front ≡ front ++ row ∷ []
 kept_last row front rest apart =
     let new : has_row row front ≡ false = absent_before same_pair same_pair-equiv pair_of front row rest apart in
     ap (λ b. cond b (map (λ other. cond (is_of row.top row.site other) row other) front) (front ++ row ∷ [])) new

@@ -61,15 +61,18 @@ all_filtered P p (x ∷ xs) all = at (p x) (all_filtered P p xs all.1)
     at false later = later
 
 -- what gives nothing may be left out
-flat_filtered : {X Y : Type 0} (f : X → List Y) (p : X → Bool) → ((x : X) → p x ≡ false → f x ≡ []) → (xs : List X) → flat_map f (filter p xs) ≡ flat_map f xs
+flat_filtered : {X Y : Type 0} (f : X → List Y) (p : X → Bool) → ((x : X) → p x ≡ false → f x ≡ [])
+    → (xs : List X) → flat_map f (filter p xs) ≡ flat_map f xs
 flat_filtered f p none [] = refl
 flat_filtered f p none (x ∷ xs) = at (p x) refl (flat_filtered f p none xs)
   where
-    at : (b : Bool) → p x ≡ b → flat_map f (filter p xs) ≡ flat_map f xs → flat_map f (cond b (x ∷ filter p xs) (filter p xs)) ≡ f x ++ flat_map f xs
+    at : (b : Bool) → p x ≡ b → flat_map f (filter p xs) ≡ flat_map f xs
+        → flat_map f (cond b (x ∷ filter p xs) (filter p xs)) ≡ f x ++ flat_map f xs
     at true is later = ap (λ l. f x ++ l) later
     at false is later = later ∙ ap (λ l. l ++ flat_map f xs) (sym (none x is))
 
-pub map_flat : {X Y Z : Type 0} (g : Y → Z) (f : X → List Y) (xs : List X) → flat_map (λ x. map g (f x)) xs ≡ map g (flat_map f xs)
+pub map_flat : {X Y Z : Type 0} (g : Y → Z) (f : X → List Y) (xs : List X)
+    → flat_map (λ x. map g (f x)) xs ≡ map g (flat_map f xs)
 map_flat g f [] = refl
 map_flat g f (x ∷ xs) = ap (λ l. map g (f x) ++ l) (map_flat g f xs) ∙ sym (map-append g (f x) (flat_map f xs))
 
@@ -97,7 +100,8 @@ module _ {K : Type 0} (R : K → K → Ordering) (o : IsTotalOrder R) (same : Is
   abbrev Cells : Type 0
   Cells = FinMap R (Full PlainCookie)
 
-  put_first : {X : Type 0} (k : K) (v : X) (es : List (K × X)) → AllByRecursion (λ q. R k q ≡ Less) (map (λ e. e.0) es) → put R k v es ≡ (k, v) ∷ es
+  put_first : {X : Type 0} (k : K) (v : X) (es : List (K × X))
+      → AllByRecursion (λ q. R k q ≡ Less) (map (λ e. e.0) es) → put R k v es ≡ (k, v) ∷ es
   put_first k v [] below = refl
   put_first k v (e ∷ es) below = ap (λ r. by_order r ((k, v) ∷ e ∷ es) ((e.0, v) ∷ es) (e ∷ put R k v es)) below.0
 
@@ -109,9 +113,11 @@ module _ {K : Type 0} (R : K → K → Ordering) (o : IsTotalOrder R) (same : Is
       → finite.keys (set_cell R k xs m) ≡ more_key k xs (finite.keys m)
   unfolding set_cell
   keys_more m k [] below =
-      ap finite.keys (absent.remove_absent R o same m k (not_some (finite.get m k) (contains_key-keys m k ∙ none_in k (finite.keys m) below)))
+      ap finite.keys (absent.remove_absent R o same m k
+      (not_some (finite.get m k) (contains_key-keys m k ∙ none_in k (finite.keys m) below)))
   keys_more m k (x ∷ xs) below =
-      ap (map (λ e. e.0)) (entries-insert o m k (record { first = x; rest = xs }) ∙ put_first k (record { first = x; rest = xs }) (entries m) below)
+      ap (map (λ e. e.0)) (entries-insert o m k (record { first = x; rest = xs })
+      ∙ put_first k (record { first = x; rest = xs }) (entries m) below)
 
   abbrev no_cells : Cells
   no_cells = finite.empty
@@ -120,7 +126,8 @@ module _ {K : Type 0} (R : K → K → Ordering) (o : IsTotalOrder R) (same : Is
   no_keys = no_items (entries no_cells) (sym (len-entries no_cells) ∙ len-empty R (Full PlainCookie))
 
   -- a key below all is below each
-  below_each : {X : Type 0} (q : K) (es : List (K × X)) → T (below_all R q es) → AllByRecursion (λ k. R q k ≡ Less) (map (λ e. e.0) es)
+  below_each : {X : Type 0} (q : K) (es : List (K × X)) → T (below_all R q es)
+      → AllByRecursion (λ k. R q k ≡ Less) (map (λ e. e.0) es)
   below_each q [] below = tt
   below_each q (e ∷ es) below =
       let parts = lt_parts (is_lt (R q e.0)) (below_all R q es) below in
@@ -131,7 +138,8 @@ module _ {K : Type 0} (R : K → K → Ordering) (o : IsTotalOrder R) (same : Is
   keeps es k = has_some (kept (list_of (find R k es)))
 
   -- an entry says nothing of greater keys
-  keeps_alike : (e : K × Full PlainCookie) (es : List (K × Full PlainCookie)) (ks : List K) → AllByRecursion (λ k. R e.0 k ≡ Less) ks
+  keeps_alike : (e : K × Full PlainCookie) (es : List (K × Full PlainCookie)) (ks : List K)
+      → AllByRecursion (λ k. R e.0 k ≡ Less) ks
       → filter (keeps (e ∷ es)) ks ≡ filter (keeps es) ks
   keeps_alike e es [] below = refl
   keeps_alike e es (k ∷ ks) below =
@@ -141,7 +149,8 @@ module _ {K : Type 0} (R : K → K → Ordering) (o : IsTotalOrder R) (same : Is
       λ i. cond (one i) (k ∷ later i) (later i)
 
   module _ (made : List (K × Full PlainCookie) → Cells) (none : made [] ≡ finite.empty)
-      (more : (e : K × Full PlainCookie) (es : List (K × Full PlainCookie)) → made (e ∷ es) ≡ set_cell R e.0 (kept (e.1.first ∷ e.1.rest)) (made es)) where
+      (more : (e : K × Full PlainCookie) (es : List (K × Full PlainCookie))
+      → made (e ∷ es) ≡ set_cell R e.0 (kept (e.1.first ∷ e.1.rest)) (made es)) where
     get_first : (q : K) → get_cell R (made []) q ≡ []
     unfolding get_cell
     get_first q = ap (λ m. list_of (finite.get m q)) none ∙ ap list_of (get-empty R q)
@@ -163,7 +172,8 @@ module _ {K : Type 0} (R : K → K → Ordering) (o : IsTotalOrder R) (same : Is
     unfolding get_cell
     get_made m q = made_found (entries m) q ∙ ap (λ found. kept (list_of found)) (sym (get-entries m q))
 
-    made_keys : (es : List (K × Full PlainCookie)) → T (is_sorted R es) → finite.keys (made es) ≡ filter (keeps es) (map (λ e. e.0) es)
+    made_keys : (es : List (K × Full PlainCookie)) → T (is_sorted R es)
+        → finite.keys (made es) ≡ filter (keeps es) (map (λ e. e.0) es)
     made_keys [] sorted = ap finite.keys none ∙ no_keys
     made_keys (e ∷ es) sorted = at (made_keys es (lt_parts (below_all R e.0 es) (is_sorted R es) sorted).1)
       where
@@ -186,7 +196,8 @@ module _ {K : Type 0} (R : K → K → Ordering) (o : IsTotalOrder R) (same : Is
         at : finite.keys (made es) ≡ filter (keeps es) ks → finite.keys (made (e ∷ es)) ≡ filter (keeps (e ∷ es)) (e.0 ∷ ks)
         at later =
             ap finite.keys (more e es)
-            ∙ keys_more (made es) e.0 these (subst (λ l. AllByRecursion (λ q. R e.0 q ≡ Less) l) (sym later) (all_filtered (λ q. R e.0 q ≡ Less) (keeps es) ks below))
+            ∙ keys_more (made es) e.0 these (subst (λ l. AllByRecursion (λ q. R e.0 q ≡ Less) l) (sym later)
+            (all_filtered (λ q. R e.0 q ≡ Less) (keeps es) ks below))
             ∙ ap (more_key e.0 these) (later ∙ sym (keeps_alike e es ks below))
             ∙ first these refl
 
@@ -207,19 +218,24 @@ none_parted : kept_entries [] ≡ finite.empty
 unfolding no_partitioned_cells
 none_parted = refl
 
-pub get_kept_own : (m : CookieCells) (domain : Domain) → get_cell domain_order (kept_own_cells m) domain ≡ kept (get_cell domain_order m domain)
-get_kept_own m domain = get_made domain_order domain_order_total domain_order_same kept_own_entries none_own (λ e es. refl) m domain
+pub get_kept_own : (m : CookieCells) (domain : Domain)
+    → get_cell domain_order (kept_own_cells m) domain ≡ kept (get_cell domain_order m domain)
+get_kept_own m domain = get_made domain_order domain_order_total domain_order_same kept_own_entries none_own
+    (λ e es. refl) m domain
 
 -- what is kept of a cell
 pub cookies_kept : (cell : PlainCell) (d : Saved) → cookies_at cell (kept_of d) ≡ kept (cookies_at cell d)
 cookies_kept (OwnCell domain) d = get_kept_own d.cells domain
 cookies_kept (PartitionCell top bit domain) d = get_kept d.under.cookies (record { top = top; bit = bit; domain = domain })
 
-own_keys : (m : CookieCells) → finite.keys (kept_own_cells m) ≡ filter (λ domain. has_some (kept (get_cell domain_order m domain))) (finite.keys m)
+own_keys : (m : CookieCells) → finite.keys (kept_own_cells m)
+    ≡ filter (λ domain. has_some (kept (get_cell domain_order m domain))) (finite.keys m)
 own_keys m = keys_made domain_order domain_order_total domain_order_same kept_own_entries none_own (λ e es. refl) m
 
-parted_keys : (m : PartitionedCells) → finite.keys (kept_cells m) ≡ filter (λ key. has_some (kept (get_cell partitioned_order m key))) (finite.keys m)
-parted_keys m = keys_made partitioned_order partitioned_order_total partitioned_order_same kept_entries none_parted (λ e es. refl) m
+parted_keys : (m : PartitionedCells) → finite.keys (kept_cells m)
+    ≡ filter (λ key. has_some (kept (get_cell partitioned_order m key))) (finite.keys m)
+parted_keys m = keys_made partitioned_order partitioned_order_total partitioned_order_same kept_entries
+    none_parted (λ e es. refl) m
 
 -- all is kept of a state whose cells are kept ones
 pub valid_kept : (d : Saved) → IsValid d → kept_of d ≡ d
@@ -233,7 +249,8 @@ valid_kept d valid = λ i. record {
         get_kept_own d.cells domain ∙ kept_same (get_cell domain_order d.cells domain) (valid (OwnCell domain)).0)
 
     parted : kept_cells d.under.cookies ≡ d.under.cookies
-    parted = kept_all d.under.cookies (λ key. kept_same (get_cell partitioned_order d.under.cookies key) (valid (PartitionCell key.top key.bit key.domain)).0)
+    parted = kept_all d.under.cookies (λ key. kept_same (get_cell partitioned_order d.under.cookies key)
+        (valid (PartitionCell key.top key.bit key.domain)).0)
 
 -- ---- cells by their texts, without some of them
 
@@ -256,7 +273,8 @@ far_behind : (x y : PartitionedKey) (us : List PartitionedKey) → comes_before 
 far_behind x y [] first later = tt
 far_behind x y (u ∷ us) first later = (text_order.chain u y x later.0 first, far_behind x y us first later.1)
 
-behind_more : (y x : PartitionedKey) (us : List PartitionedKey) → comes_before x y ≡ false → AreBehind y us → AreBehind y (in_cell_order us x)
+behind_more : (y x : PartitionedKey) (us : List PartitionedKey) → comes_before x y ≡ false → AreBehind y us
+    → AreBehind y (in_cell_order us x)
 behind_more y x [] is all = (is, tt)
 behind_more y x (u ∷ us) is all = at (comes_before x u) (behind_more y x us is all.1)
   where
@@ -273,7 +291,8 @@ rise_more (y ∷ ys) x up = at (comes_before x y) refl (rise_more ys x up.1)
     at false is later = (behind_more y x ys is up.0, later)
 
 -- a cell that stands before another stands before those behind that one
-before_each : (x y : PartitionedKey) (us : List PartitionedKey) → comes_before x y ≡ true → AreBehind y us → AllByRecursion (λ u. comes_before x u ≡ true) us
+before_each : (x y : PartitionedKey) (us : List PartitionedKey) → comes_before x y ≡ true → AreBehind y us
+    → AllByRecursion (λ u. comes_before x u ≡ true) us
 before_each x y [] less behind = tt
 before_each x y (u ∷ us) less behind = (at (comes_before x u) refl, before_each x y us less behind.1)
   where
@@ -281,42 +300,52 @@ before_each x y (u ∷ us) less behind = (at (comes_before x u) refl, before_eac
     at true is = is
     at false is = absurd (true≢false (sym less ∙ text_order.chain x u y is behind.0))
 
-put_ahead : (x : PartitionedKey) (us : List PartitionedKey) → AllByRecursion (λ u. comes_before x u ≡ true) us → in_cell_order us x ≡ x ∷ us
+put_ahead : (x : PartitionedKey) (us : List PartitionedKey) → AllByRecursion (λ u. comes_before x u ≡ true) us
+    → in_cell_order us x ≡ x ∷ us
 put_ahead x [] all = refl
 put_ahead x (u ∷ us) all = ap (λ b. cond b (x ∷ u ∷ us) (u ∷ in_cell_order us x)) all.0
 
 module _ (p : PartitionedKey → Bool) where
-  one_kept : (ys : List PartitionedKey) (x : PartitionedKey) → Rise ys → p x ≡ true → filter p (in_cell_order ys x) ≡ in_cell_order (filter p ys) x
+  one_kept : (ys : List PartitionedKey) (x : PartitionedKey) → Rise ys → p x ≡ true
+      → filter p (in_cell_order ys x) ≡ in_cell_order (filter p ys) x
   one_kept [] x up is = kept_head p x [] is
   one_kept (y ∷ ys) x up is = at (comes_before x y) refl (one_kept ys x up.1 is)
     where
-      behind : filter p (in_cell_order ys x) ≡ in_cell_order (filter p ys) x → comes_before x y ≡ false → (b : Bool) → p y ≡ b → filter p (y ∷ in_cell_order ys x) ≡ in_cell_order (filter p (y ∷ ys)) x
+      behind : filter p (in_cell_order ys x) ≡ in_cell_order (filter p ys) x → comes_before x y ≡ false
+          → (b : Bool) → p y ≡ b → filter p (y ∷ in_cell_order ys x) ≡ in_cell_order (filter p (y ∷ ys)) x
       behind later less true here =
           kept_head p y (in_cell_order ys x) here ∙ ap (λ l. y ∷ l) later
           ∙ sym (ap (λ b. cond b (x ∷ y ∷ filter p ys) (y ∷ in_cell_order (filter p ys) x)) less)
           ∙ ap (λ l. in_cell_order l x) (sym (kept_head p y ys here))
-      behind later less false here = left_out p y (in_cell_order ys x) here ∙ later ∙ ap (λ l. in_cell_order l x) (sym (left_out p y ys here))
+      behind later less false here = left_out p y (in_cell_order ys x) here ∙ later
+          ∙ ap (λ l. in_cell_order l x) (sym (left_out p y ys here))
 
-      at : (b : Bool) → comes_before x y ≡ b → filter p (in_cell_order ys x) ≡ in_cell_order (filter p ys) x → filter p (cond b (x ∷ y ∷ ys) (y ∷ in_cell_order ys x)) ≡ in_cell_order (filter p (y ∷ ys)) x
+      at : (b : Bool) → comes_before x y ≡ b → filter p (in_cell_order ys x) ≡ in_cell_order (filter p ys) x
+          → filter p (cond b (x ∷ y ∷ ys) (y ∷ in_cell_order ys x)) ≡ in_cell_order (filter p (y ∷ ys)) x
       at true less later =
           kept_head p x (y ∷ ys) is
-          ∙ sym (put_ahead x (filter p (y ∷ ys)) (all_filtered (λ u. comes_before x u ≡ true) p (y ∷ ys) (less, before_each x y ys less up.0)))
+          ∙ sym (put_ahead x (filter p (y ∷ ys)) (all_filtered (λ u. comes_before x u ≡ true) p (y ∷ ys)
+          (less, before_each x y ys less up.0)))
       at false less later = behind later less (p y) refl
 
   one_left_out : (ys : List PartitionedKey) (x : PartitionedKey) → p x ≡ false → filter p (in_cell_order ys x) ≡ filter p ys
   one_left_out [] x is = left_out p x [] is
   one_left_out (y ∷ ys) x is = at (comes_before x y) (one_left_out ys x is)
     where
-      at : (b : Bool) → filter p (in_cell_order ys x) ≡ filter p ys → filter p (cond b (x ∷ y ∷ ys) (y ∷ in_cell_order ys x)) ≡ filter p (y ∷ ys)
+      at : (b : Bool) → filter p (in_cell_order ys x) ≡ filter p ys
+          → filter p (cond b (x ∷ y ∷ ys) (y ∷ in_cell_order ys x)) ≡ filter p (y ∷ ys)
       at true later = left_out p x (y ∷ ys) is
       at false later = λ i. cond (p y) (y ∷ later i) (later i)
 
-  all_kept : (done xs : List PartitionedKey) → Rise done → fold in_cell_order (filter p done) (filter p xs) ≡ filter p (fold in_cell_order done xs)
+  all_kept : (done xs : List PartitionedKey) → Rise done
+      → fold in_cell_order (filter p done) (filter p xs) ≡ filter p (fold in_cell_order done xs)
   all_kept done [] up = refl
   all_kept done (x ∷ xs) up = at (p x) refl (all_kept (in_cell_order done x) xs (rise_more done x up))
     where
-      at : (b : Bool) → p x ≡ b → fold in_cell_order (filter p (in_cell_order done x)) (filter p xs) ≡ filter p (fold in_cell_order (in_cell_order done x) xs)
-          → fold in_cell_order (filter p done) (cond b (x ∷ filter p xs) (filter p xs)) ≡ filter p (fold in_cell_order (in_cell_order done x) xs)
+      at : (b : Bool) → p x ≡ b → fold in_cell_order (filter p (in_cell_order done x)) (filter p xs)
+          ≡ filter p (fold in_cell_order (in_cell_order done x) xs)
+          → fold in_cell_order (filter p done) (cond b (x ∷ filter p xs) (filter p xs))
+          ≡ filter p (fold in_cell_order (in_cell_order done x) xs)
       at true is later = ap (λ l. fold in_cell_order l (filter p xs)) (sym (one_kept done x up is)) ∙ later
       at false is later = ap (λ l. fold in_cell_order l (filter p xs)) (sym (one_left_out done x is)) ∙ later
 
@@ -326,7 +355,8 @@ module _ (p : PartitionedKey → Bool) where
 
 -- ---- what is listed
 
-rows_kept : (cell : PlainCell) (place : ℕ) (cs : Cookies) → cookie_rows cell place (map kept_cookie cs) ≡ map kept_change (cookie_rows cell place cs)
+rows_kept : (cell : PlainCell) (place : ℕ) (cs : Cookies)
+    → cookie_rows cell place (map kept_cookie cs) ≡ map kept_change (cookie_rows cell place cs)
 rows_kept cell place [] = refl
 rows_kept cell place (c ∷ cs) = ap (λ l. CookieInsert cell place (kept_cookie c) ∷ l) (rows_kept cell (place + 1) cs)
 
@@ -354,9 +384,11 @@ module _ (d : Saved) where
   parted_has key = has_some (kept (get_cell partitioned_order d.under.cookies key))
 
   -- the row changes of cells, of which those that keep nothing may be left out
-  pub cells_kept : flat_map (cell_rows (kept_of d)) (stored_cells (kept_of d)) ≡ map kept_change (flat_map persistent_rows (stored_cells d))
+  pub cells_kept : flat_map (cell_rows (kept_of d)) (stored_cells (kept_of d))
+      ≡ map kept_change (flat_map persistent_rows (stored_cells d))
   cells_kept =
-      flat_map-append f (map own (finite.keys (kept_own_cells d.cells))) (map parted (cells_by_text (finite.keys (kept_cells d.under.cookies))))
+      flat_map-append f (map own (finite.keys (kept_own_cells d.cells)))
+      (map parted (cells_by_text (finite.keys (kept_cells d.under.cookies))))
       ∙ (λ i. here i ++ there i)
       ∙ sym (flat_map-append f (map own (finite.keys d.cells)) (map parted (cells_by_text (finite.keys d.under.cookies))))
       ∙ (λ i. flat_map (λ cell. cell_kept cell i) (stored_cells d))
@@ -372,9 +404,12 @@ module _ (d : Saved) where
           ∙ flat_filtered (λ domain. f (own domain)) own_has (λ domain none. none_kept (own domain) none) (finite.keys d.cells)
           ∙ sym (flat_map-map f own (finite.keys d.cells))
 
-      there : flat_map f (map parted (cells_by_text (finite.keys (kept_cells d.under.cookies)))) ≡ flat_map f (map parted (cells_by_text (finite.keys d.under.cookies)))
+      there : flat_map f (map parted (cells_by_text (finite.keys (kept_cells d.under.cookies))))
+          ≡ flat_map f (map parted (cells_by_text (finite.keys d.under.cookies)))
       there =
           flat_map-map f parted (cells_by_text (finite.keys (kept_cells d.under.cookies)))
-          ∙ ap (flat_map (λ key. f (parted key))) (ap cells_by_text (parted_keys d.under.cookies) ∙ some_by_text parted_has (finite.keys d.under.cookies))
-          ∙ flat_filtered (λ key. f (parted key)) parted_has (λ key none. none_kept (parted key) none) (cells_by_text (finite.keys d.under.cookies))
+          ∙ ap (flat_map (λ key. f (parted key))) (ap cells_by_text (parted_keys d.under.cookies)
+          ∙ some_by_text parted_has (finite.keys d.under.cookies))
+          ∙ flat_filtered (λ key. f (parted key)) parted_has (λ key none. none_kept (parted key) none)
+          (cells_by_text (finite.keys d.under.cookies))
           ∙ sym (flat_map-map f parted (cells_by_text (finite.keys d.under.cookies)))

@@ -24,14 +24,16 @@ pub stays : (e f : Saved) → e ≡ f → Leads e [] f
 stays e f is = record { valid = tt; after = is }
 
 -- a row change, and others
-pub first : (e : Saved) (change : PlainChange) (changes : List PlainChange) (f : Saved) → is_valid change e ≡ true → Leads (edited change e) changes f → Leads e (change ∷ changes) f
+pub first : (e : Saved) (change : PlainChange) (changes : List PlainChange) (f : Saved)
+    → is_valid change e ≡ true → Leads (edited change e) changes f → Leads e (change ∷ changes) f
 first e change changes f valid later = record {
   valid = (valid, later.valid);
   after = ap (λ d. after_changes d changes) (valid_done e change valid) ∙ later.after;
 }
 
 -- row changes, and others behind them
-pub then : (e : Saved) (xs : List PlainChange) (f : Saved) (ys : List PlainChange) (g : Saved) → Leads e xs f → Leads f ys g → Leads e (xs ++ ys) g
+pub then : (e : Saved) (xs : List PlainChange) (f : Saved) (ys : List PlainChange) (g : Saved) → Leads e xs f
+    → Leads f ys g → Leads e (xs ++ ys) g
 then e xs f ys g one two = record {
   valid = valid_append e xs ys one.valid (subst (λ d. AreValid d ys) (sym one.after) two.valid);
   after = fold-append after_change e xs ys ∙ ap (λ d. after_changes d ys) one.after ∙ two.after;
@@ -51,7 +53,8 @@ pub any_times : {K : Type 0} (test : K → Bool) (ks : List K) → list_any test
 any_times test [] = refl
 any_times test (k ∷ ks) = at (test k) (any_times test ks)
   where
-    at : (b : Bool) → list_any test ks ≡ nat_lt 0 (times test ks) → (b || list_any test ks) ≡ nat_lt 0 (cond b 1 0 + times test ks)
+    at : (b : Bool) → list_any test ks ≡ nat_lt 0 (times test ks)
+        → (b || list_any test ks) ≡ nat_lt 0 (cond b 1 0 + times test ks)
     at true later = grind arith
     at false later = later ∙ ap (nat_lt 0) (let same : times test ks ≡ 0 + times test ks = omega arith in same)
 
@@ -74,20 +77,23 @@ module _ {K : Type 0} (R : K → K → Ordering) (o : IsTotalOrder R) (same : Is
   head_free k ks e are = are.free k (ap (λ b. b || list_any (eq_by_cmp R k) ks) ((eq_by_cmp_equiv o).refl k))
 
   -- a key that is to come is another one
-  apart : (q k : K) (ks : List K) → times (eq_by_cmp R q) (k ∷ ks) ≤ 1 → list_any (eq_by_cmp R q) ks ≡ true → eq_by_cmp R q k ≡ false
+  apart : (q k : K) (ks : List K) → times (eq_by_cmp R q) (k ∷ ks) ≤ 1 → list_any (eq_by_cmp R q) ks ≡ true
+      → eq_by_cmp R q k ≡ false
   apart q k ks once any = at (eq_by_cmp R q k) once
     where
       some : nat_lt 0 (times (eq_by_cmp R q) ks) ≡ true
       some = sym (any_times (eq_by_cmp R q) ks) ∙ any
 
       at : (b : Bool) → cond b 1 0 + times (eq_by_cmp R q) ks ≤ 1 → b ≡ false
-      at true few = absurd (let lt : 0 < times (eq_by_cmp R q) ks = ltb-true 0 (times (eq_by_cmp R q) ks) some in omega (arith, few, lt))
+      at true few = absurd (let lt : 0 < times (eq_by_cmp R q) ks =
+          ltb-true 0 (times (eq_by_cmp R q) ks) some in omega (arith, few, lt))
       at false few = refl
 
   tail_free : (k : K) (ks : List K) (e : Saved) → AreFree (k ∷ ks) e → AreFree ks (done k e)
   tail_free k ks e are = record {
     once = λ q. fewer q (eq_by_cmp R q k) (are.once q);
-    free = λ q any. other q k e (apart q k ks (are.once q) any) (head_free k ks e are) (are.free q (or_right (eq_by_cmp R q k) _ any));
+    free = λ q any. other q k e (apart q k ks (are.once q) any) (head_free k ks e are)
+        (are.free q (or_right (eq_by_cmp R q k) _ any));
   }
     where
       fewer : (q : K) (b : Bool) → cond b 1 0 + times (eq_by_cmp R q) ks ≤ 1 → times (eq_by_cmp R q) ks ≤ 1
@@ -96,19 +102,22 @@ module _ {K : Type 0} (R : K → K → Ordering) (o : IsTotalOrder R) (same : Is
   pub all_lead : (ks : List K) (e : Saved) → AreFree ks e → Leads e (flat_map rows ks) (all_done ks e)
   all_lead [] e are = stays e e refl
   all_lead (k ∷ ks) e are =
-      then e (rows k) (done k e) (flat_map rows ks) (all_done ks (done k e)) (one k e (head_free k ks e are)) (all_lead ks (done k e) (tail_free k ks e are))
+      then e (rows k) (done k e) (flat_map rows ks) (all_done ks (done k e)) (one k e (head_free k ks e are))
+      (all_lead ks (done k e) (tail_free k ks e are))
 
   -- what is seen of a state at a key: at a key that is done it is what is wanted
   module _ {X : Type 0} (seen : K → Saved → X) (wanted : K → X)
       (seen_one : (q k : K) (e : Saved) → IsFree k e → seen q (done k e) ≡ cond (eq_by_cmp R q k) (wanted k) (seen q e)) where
-    pub all_seen : (q : K) (ks : List K) (e : Saved) → AreFree ks e → seen q (all_done ks e) ≡ cond (list_any (eq_by_cmp R q) ks) (wanted q) (seen q e)
+    pub all_seen : (q : K) (ks : List K) (e : Saved) → AreFree ks e
+        → seen q (all_done ks e) ≡ cond (list_any (eq_by_cmp R q) ks) (wanted q) (seen q e)
     all_seen q [] e are = refl
     all_seen q (k ∷ ks) e are =
         all_seen q ks (done k e) (tail_free k ks e are)
         ∙ ap (cond (list_any (eq_by_cmp R q) ks) (wanted q)) (seen_one q k e (head_free k ks e are))
         ∙ at (eq_by_cmp R q k) refl (list_any (eq_by_cmp R q) ks)
       where
-        at : (b : Bool) → eq_by_cmp R q k ≡ b → (a : Bool) → cond a (wanted q) (cond b (wanted k) (seen q e)) ≡ cond (b || a) (wanted q) (seen q e)
+        at : (b : Bool) → eq_by_cmp R q k ≡ b → (a : Bool)
+            → cond a (wanted q) (cond b (wanted k) (seen q e)) ≡ cond (b || a) (wanted q) (seen q e)
         at true tie true = refl
         at true tie false = ap wanted (sym (tied R o same q k tie))
         at false tie a = refl

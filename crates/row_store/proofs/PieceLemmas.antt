@@ -49,12 +49,14 @@ module _ (change : PlainChange) (old new : Parts) where
   done_saved is = is.saved ∙ ap (λ b. cond b (edited change (saved_of old)) (saved_of old)) (sym is.valid)
 
   -- and keeps the parts standing, where it has a spelling
-  pub done_standing : (rules : List Rule) → ChangesKeepValid → RowsStayRead → IsSpelled rules change → IsEdited change old new true → IsStanding rules old → IsStanding rules new
+  pub done_standing : (rules : List Rule) → ChangesKeepValid → RowsStayRead → IsSpelled rules change
+      → IsEdited change old new true → IsStanding rules old → IsStanding rules new
   done_standing rules law read spelled is s = record {
     valid = subst IsValid (sym is.saved) (law (saved_of old) change s.valid);
     read = subst (IsReadSaved rules) (sym is.saved) (read rules (saved_of old) change spelled s.read);
     storable = subst IsStorable (sym (done_saved is)) (edits_keep_storable.1 (saved_of old) change (sym is.valid) s.storable);
-    spelled = subst (IsSpelledState rules) (sym (done_saved is)) ((edits_keep_spelled rules).1 (saved_of old) change spelled s.spelled);
+    spelled = subst (IsSpelledState rules) (sym (done_saved is))
+        ((edits_keep_spelled rules).1 (saved_of old) change spelled s.spelled);
     sessions = is.sessions s.sessions;
   }
 
@@ -66,9 +68,11 @@ module _ (change : PlainChange) (old new : Parts) where
   passed_standing rules is = stays_standing rules old new (record { saved = passed_saved is; sessions = is.sessions })
 
 -- parts stand after each answer to a row change that has a spelling
-pub edit_standing : {E : Type 0} (rules : List Rule) (change : PlainChange) (old new : Parts) (r : Result Bool E) → ChangesKeepValid → RowsStayRead → IsSpelled rules change
+pub edit_standing : {E : Type 0} (rules : List Rule) (change : PlainChange) (old new : Parts)
+    (r : Result Bool E) → ChangesKeepValid → RowsStayRead → IsSpelled rules change
     → IfOk r (λ valid. IsEdited change old new valid) → OnErr r (IsUndone old new) → IsStanding rules old → IsStanding rules new
-edit_standing rules change old new (Ok true) law read spelled is stays s = done_standing change old new rules law read spelled is s
+edit_standing rules change old new (Ok true) law read spelled is stays s =
+    done_standing change old new rules law read spelled is s
 edit_standing rules change old new (Ok false) law read spelled is stays s = passed_standing change old new rules is s
 edit_standing rules change old new (Err why) law read spelled is stays s = stays_standing rules old new stays s
 
@@ -81,7 +85,8 @@ module _ (at : ℕ) (change : PlainChange) (old new : Parts) where
       record {
         after = λ count pieces.
             ap (λ b. cond b (after_pieces (edited change (saved_of old)) count pieces) (Err at)) (sym is.valid)
-            ∙ ap (λ d. after_pieces d count pieces) (sym (done_saved change old new is)) ∙ ap (λ n. after_pieces (saved_of new) n pieces) (as_many count);
+            ∙ ap (λ d. after_pieces d count pieces) (sym (done_saved change old new is))
+            ∙ ap (λ n. after_pieces (saved_of new) n pieces) (as_many count);
         standing = λ rules spelled s. done_standing change old new rules law read spelled is s;
         one = omega arith;
       }
@@ -106,7 +111,8 @@ over [] is = refl
 over (first ∷ rest) is = let no : ◌≡◌ {A = Option PlainPiece} (Some first) None = is in cc
 
 -- where each piece is spelled, the first is
-pub front_spelled : (rules : List Rule) (pieces : List PlainPiece) (piece : PlainPiece) → slice_get pieces 0 ≡ Some piece → All (IsSpelledPiece rules) pieces → IsSpelledPiece rules piece
+pub front_spelled : (rules : List Rule) (pieces : List PlainPiece) (piece : PlainPiece)
+    → slice_get pieces 0 ≡ Some piece → All (IsSpelledPiece rules) pieces → IsSpelledPiece rules piece
 front_spelled rules pieces piece is spelled =
     All-head (IsSpelledPiece rules) piece (drop 1 pieces) (subst (All (IsSpelledPiece rules)) (front pieces piece is) spelled)
 
@@ -118,10 +124,12 @@ empty_kept = (refl, λ c. omega arith)
 nothing_valid : IsValid nothing_saved
 unfolding nothing_saved no_rows
 nothing_valid (OwnCell domain) = subst IsKeptCell (sym (shared_at domain [])) empty_kept
-nothing_valid (PartitionCell top bit domain) = subst IsKeptCell (sym (partitioned_at (record { top = top; bit = bit; domain = domain }) [])) empty_kept
+nothing_valid (PartitionCell top bit domain) = subst IsKeptCell
+    (sym (partitioned_at (record { top = top; bit = bit; domain = domain }) [])) empty_kept
 
 -- parts of which nothing is durable
-pub nothing_standing : (rules : List Rule) (parts : Parts) → saved_of parts ≡ nothing_saved → HasNoSession parts.storage → IsStanding rules parts
+pub nothing_standing : (rules : List Rule) (parts : Parts) → saved_of parts ≡ nothing_saved
+    → HasNoSession parts.storage → IsStanding rules parts
 nothing_standing rules parts is none = record {
   valid = subst IsValid (sym is) nothing_valid;
   read = subst (IsReadSaved rules) (sym is) (nothing_read rules);

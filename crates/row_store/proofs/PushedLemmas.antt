@@ -41,7 +41,8 @@ place_taken : {X : Type 0} (xs : List X) (i : ℕ) → take (i + 1) xs ≡ take 
 place_taken xs i = let next : i + 1 ≡ suc i = omega arith in ap (λ n. take n xs) next ∙ take_place xs i
 
 -- cookies behind others
-cookies_behind : (cell : PlainCell) (from : ℕ) (xs ys : Cookies) → cookie_rows cell from (xs ++ ys) ≡ cookie_rows cell from xs ++ cookie_rows cell (from + length xs) ys
+cookies_behind : (cell : PlainCell) (from : ℕ) (xs ys : Cookies)
+    → cookie_rows cell from (xs ++ ys) ≡ cookie_rows cell from xs ++ cookie_rows cell (from + length xs) ys
 cookies_behind cell from [] ys = let same : from ≡ from + 0 = omega arith in ap (λ n. cookie_rows cell n ys) same
 cookies_behind cell from (x ∷ xs) ys =
     let same : (from + 1) + length xs ≡ from + length (x ∷ xs) = omega arith in
@@ -54,13 +55,16 @@ pub place_next : (test : PlainCookie → Bool) (xs : Cookies) (i place next : �
 place_next test xs i place next before more =
     let whole : length (filter test (take (i + 1) xs)) ≡ length (filter test (take i xs) ++ filter test (take 1 (drop i xs))) =
     ap (λ l. length l) (ap (filter test) (place_taken xs i) ∙ filter-append test (take i xs) (take 1 (drop i xs))) in
-    let parts : length (filter test (take i xs) ++ filter test (take 1 (drop i xs))) ≡ length (filter test (take i xs)) + length (filter test (take 1 (drop i xs))) = length-append (filter test (take i xs)) (filter test (take 1 (drop i xs))) in
+    let parts : length (filter test (take i xs) ++ filter test (take 1 (drop i xs)))
+    ≡ length (filter test (take i xs)) + length (filter test (take 1 (drop i xs))) =
+    length-append (filter test (take i xs)) (filter test (take 1 (drop i xs))) in
     omega (arith, before, more, whole, parts)
 
 module _ {S : Type 0} (adds : S → List PlainChange → S → Type 0)
     (then : (s t u : S) (xs ys : List PlainChange) → adds s xs t → adds t ys u → adds s (xs ++ ys) u) where
   -- a loop's step: what one item more adds
-  pub item_more : {X Y : Type 0} (f : Y → List PlainChange) (v : X → Y) (xs : List X) (i : ℕ) (x : X) (s t u : S) → take (i + 1) xs ≡ take i xs ++ x ∷ []
+  pub item_more : {X Y : Type 0} (f : Y → List PlainChange) (v : X → Y) (xs : List X) (i : ℕ) (x : X)
+      (s t u : S) → take (i + 1) xs ≡ take i xs ++ x ∷ []
       → adds s (flat_map f (map v (take i xs))) t → adds t (f (v x)) u → adds s (flat_map f (map v (take (i + 1) xs))) u
   item_more f v xs i x s t u next before more =
       subst (λ rows. adds s rows u)
@@ -72,7 +76,8 @@ module _ {S : Type 0} (adds : S → List PlainChange → S → Type 0)
       (then s t u _ _ before more)
 
   -- the same of items that add one row change each
-  pub row_more : {X : Type 0} (f : X → PlainChange) (xs : List X) (i : ℕ) (x : X) (s t u : S) → take (i + 1) xs ≡ take i xs ++ x ∷ []
+  pub row_more : {X : Type 0} (f : X → PlainChange) (xs : List X) (i : ℕ) (x : X) (s t u : S)
+      → take (i + 1) xs ≡ take i xs ++ x ∷ []
       → adds s (map f (take i xs)) t → adds t (f x ∷ []) u → adds s (map f (take (i + 1) xs)) u
   row_more f xs i x s t u next before more =
       subst (λ rows. adds s rows u) (sym (ap (map f) next ∙ map-append f (take i xs) (x ∷ []))) (then s t u _ _ before more)
@@ -81,11 +86,14 @@ module _ {S : Type 0} (adds : S → List PlainChange → S → Type 0)
   pub place_more : {X : Type 0} (f : X → PlainChange) (xs : List X) (i : ℕ) (s t u : S)
       → adds s (map f (take i xs)) t → adds t (map f (take 1 (drop i xs))) u → adds s (map f (take (i + 1) xs)) u
   place_more f xs i s t u before more =
-      subst (λ rows. adds s rows u) (sym (ap (map f) (place_taken xs i) ∙ map-append f (take i xs) (take 1 (drop i xs)))) (then s t u _ _ before more)
+      subst (λ rows. adds s rows u) (sym (ap (map f) (place_taken xs i)
+      ∙ map-append f (take i xs) (take 1 (drop i xs)))) (then s t u _ _ before more)
 
   -- and of cookies that pass a test, each at its place among them
-  pub cookies_more : (test : PlainCookie → Bool) (cell : PlainCell) (xs : Cookies) (i place : ℕ) (s t u : S) → place ≡ length (filter test (take i xs))
-      → adds s (cookie_rows cell 0 (filter test (take i xs))) t → adds t (cookie_rows cell place (filter test (take 1 (drop i xs)))) u
+  pub cookies_more : (test : PlainCookie → Bool) (cell : PlainCell) (xs : Cookies) (i place : ℕ) (s t u : S)
+      → place ≡ length (filter test (take i xs))
+      → adds s (cookie_rows cell 0 (filter test (take i xs))) t
+      → adds t (cookie_rows cell place (filter test (take 1 (drop i xs)))) u
       → adds s (cookie_rows cell 0 (filter test (take (i + 1) xs))) u
   cookies_more test cell xs i place s t u is before more =
       let start : 0 + length (filter test (take i xs)) ≡ place = omega (arith, is) in
@@ -111,14 +119,16 @@ none_found (y ∷ ys) (suc i) is = none_found ys i is
 -- ---- all of it
 
 -- the cookies of a cell are those of its key
-pub cookies_are : (cell : PlainCell) (entries : cookies.Entries) → cookies_at cell (cells_alone entries) ≡ cells.cookies_at cell entries
+pub cookies_are : (cell : PlainCell) (entries : cookies.Entries)
+    → cookies_at cell (cells_alone entries) ≡ cells.cookies_at cell entries
 cookies_are (OwnCell domain) entries = shared_at domain entries
 cookies_are (PartitionCell top bit domain) entries = partitioned_at (record { top = top; bit = bit; domain = domain }) entries
 
 -- the same of parts
 pub saved_cookies : (cell : PlainCell) (parts : Parts) → cookies_at cell (saved_of parts) ≡ cells.cookies_at cell parts.cookies
 saved_cookies (OwnCell domain) parts = shared_at domain parts.cookies
-saved_cookies (PartitionCell top bit domain) parts = partitioned_at (record { top = top; bit = bit; domain = domain }) parts.cookies
+saved_cookies (PartitionCell top bit domain) parts =
+    partitioned_at (record { top = top; bit = bit; domain = domain }) parts.cookies
 
 every : {X : Type 0} (xs : List X) → filter (λ x. true) xs ≡ xs
 every [] = refl
@@ -145,13 +155,16 @@ module _ (areas : storage.Entries) (entries : cookies.Entries) (grants : PlainGr
   -- cookies are those of all stored cells
   pub cells_listed : (these : Which) → cookie_rows_in these entries ≡ flat_map (chosen_rows these) (stored_cells whole)
   cells_listed these =
-      sym (flat_map-append (cell_rows_in these entries) (cells_in kind.Own entries) (in_order_of_texts (cells_in kind.Partition entries)))
-      ∙ ap (λ l. flat_map (cell_rows_in these entries) (cells_in kind.Own entries ++ l)) (parted_by_text (finite.keys (cookies.partitioned_in entries)))
+      sym (flat_map-append (cell_rows_in these entries) (cells_in kind.Own entries)
+      (in_order_of_texts (cells_in kind.Partition entries)))
+      ∙ ap (λ l. flat_map (cell_rows_in these entries) (cells_in kind.Own entries ++ l))
+      (parted_by_text (finite.keys (cookies.partitioned_in entries)))
       ∙ (λ i. flat_map (λ cell. cell_same these cell i) (stored_cells whole))
 
   -- areas with modes, all cookies and permissions, one behind the other, are all that is listed
   pub all_listed : all_rows which.All areas entries grants ≡ listed whole
   all_listed = λ i.
       areas_listed i
-      ++ (cells_listed which.All ∙ (λ j. flat_map (λ cell. cookie_rows cell 0 (every (cookies_at cell whole) j)) (stored_cells whole))) i
+      ++ (cells_listed which.All ∙ (λ j. flat_map (λ cell. cookie_rows cell 0
+      (every (cookies_at cell whole) j)) (stored_cells whole))) i
       ++ map (λ row. Grant row) grants.rows

@@ -64,7 +64,8 @@ absent_cell (Some f) is = cc
 
 abbrev has_cookies : Saved → PlainCell → Bool
 has_cookies d (OwnCell domain) = finite.contains_key d.cells domain
-has_cookies d (PartitionCell top bit domain) = finite.contains_key d.under.cookies (record { top = top; bit = bit; domain = domain })
+has_cookies d (PartitionCell top bit domain) = finite.contains_key d.under.cookies
+    (record { top = top; bit = bit; domain = domain })
 
 abbrev own : Domain → PlainCell
 own domain = OwnCell domain
@@ -85,7 +86,8 @@ times_cells d (PartitionCell top bit domain) =
     let key : PartitionedKey = record { top = top; bit = bit; domain = domain } in
     let test = eq_by_cmp cell_order (PartitionCell top bit domain) in
     let keys = cells_by_text (finite.keys d.under.cookies) in
-    let here : times test (map own (finite.keys d.cells)) ≡ 0 = times-map test own (finite.keys d.cells) ∙ times-none (finite.keys d.cells) in
+    let here : times test (map own (finite.keys d.cells)) ≡ 0 =
+    times-map test own (finite.keys d.cells) ∙ times-none (finite.keys d.cells) in
     let there : times test (map partition keys) ≡ as_number (finite.contains_key d.under.cookies key) =
     times-map test partition keys ∙ times_cells_by_text (eq_by_cmp partitioned_order key) (finite.keys d.under.cookies)
     ∙ times_keys partitioned_order partitioned_order_total partitioned_order_same key d.under.cookies in
@@ -94,7 +96,8 @@ times_cells d (PartitionCell top bit domain) =
 absent_cookies : (d : Saved) (q : PlainCell) → has_cookies d q ≡ false → cookies_at q d ≡ []
 unfolding get_cell
 absent_cookies d (OwnCell domain) is = absent_cell (finite.get d.cells domain) is
-absent_cookies d (PartitionCell top bit domain) is = absent_cell (finite.get d.under.cookies (record { top = top; bit = bit; domain = domain })) is
+absent_cookies d (PartitionCell top bit domain) is =
+    absent_cell (finite.get d.under.cookies (record { top = top; bit = bit; domain = domain })) is
 
 absent_pairs : (d : Saved) (q : PlainKey) → finite.contains_key d.under.areas q ≡ false → pairs_at q d ≡ []
 unfolding get_cell
@@ -108,12 +111,14 @@ mode_leaves (OwnCell domain) key false e = refl
 mode_leaves (PartitionCell top bit domain) key true e = refl
 mode_leaves (PartitionCell top bit domain) key false e = refl
 
-pairs_leave : (q : PlainCell) (d : Saved) (key : PlainKey) (e : Saved) → cookies_at q (with_pairs key (pairs_at key d) e) ≡ cookies_at q e
+pairs_leave : (q : PlainCell) (d : Saved) (key : PlainKey) (e : Saved)
+    → cookies_at q (with_pairs key (pairs_at key d) e) ≡ cookies_at q e
 pairs_leave (OwnCell domain) d key e = refl
 pairs_leave (PartitionCell top bit domain) d key e = refl
 
 key_leaves : (d : Saved) (q : PlainCell) (key : PlainKey) (e : Saved) → cookies_at q (keyed d key e) ≡ cookies_at q e
-key_leaves d q key e = mode_leaves q key (finite.contains_key d.under.persistent key) (with_pairs key (pairs_at key d) e) ∙ pairs_leave q d key e
+key_leaves d q key e = mode_leaves q key (finite.contains_key d.under.persistent key)
+    (with_pairs key (pairs_at key d) e) ∙ pairs_leave q d key e
 
 key_grants : (d : Saved) (key : PlainKey) (e : Saved) → (keyed d key e).under.grants ≡ e.under.grants
 key_grants d key e = at (finite.contains_key d.under.persistent key)
@@ -150,16 +155,19 @@ module _ (d : Saved) (storable : IsStorable d) where
   abbrev with_cells : Saved
   with_cells = fold (λ f cell. celled d cell f) with_keys (stored_cells d)
 
-  keys_free : AreFree key_order key_order_total key_order_same (key_rows d) (keyed d) IsFreeKey key_one (free_other d) (stored_keys d) nothing_saved
+  keys_free : AreFree key_order key_order_total key_order_same (key_rows d) (keyed d) IsFreeKey key_one
+      (free_other d) (stored_keys d) nothing_saved
   keys_free = record {
     once = λ q. at_most_one _ _ (times_stored d q);
     free = λ q any. record { pairs = none_stored q; mode = no_mode q };
   }
 
   keys_lead : Leads nothing_saved (flat_map (key_rows d) (stored_keys d)) with_keys
-  keys_lead = all_lead key_order key_order_total key_order_same (key_rows d) (keyed d) IsFreeKey key_one (free_other d) (stored_keys d) nothing_saved keys_free
+  keys_lead = all_lead key_order key_order_total key_order_same (key_rows d) (keyed d) IsFreeKey key_one
+      (free_other d) (stored_keys d) nothing_saved keys_free
 
-  is_stored : (q : PlainKey) → list_any (eq_by_cmp key_order q) (stored_keys d) ≡ (finite.contains_key d.under.areas q || finite.contains_key d.under.persistent q)
+  is_stored : (q : PlainKey) → list_any (eq_by_cmp key_order q) (stored_keys d)
+      ≡ (finite.contains_key d.under.areas q || finite.contains_key d.under.persistent q)
   is_stored q = any_number (eq_by_cmp key_order q) (stored_keys d) _ (times_stored d q)
 
   key_pairs : (q : PlainKey) → pairs_at q with_keys ≡ pairs_at q d
@@ -169,7 +177,8 @@ module _ (d : Saved) (storable : IsStorable d) where
       ∙ ap (λ b. cond b (pairs_at q d) (pairs_at q nothing_saved)) (is_stored q)
       ∙ at (finite.contains_key d.under.areas q) refl (finite.contains_key d.under.persistent q)
     where
-      at : (a : Bool) → finite.contains_key d.under.areas q ≡ a → (b : Bool) → cond (a || b) (pairs_at q d) (pairs_at q nothing_saved) ≡ pairs_at q d
+      at : (a : Bool) → finite.contains_key d.under.areas q ≡ a → (b : Bool)
+          → cond (a || b) (pairs_at q d) (pairs_at q nothing_saved) ≡ pairs_at q d
       at true is b = refl
       at false is true = refl
       at false is false = none_stored q ∙ sym (absent_pairs d q is)
@@ -177,8 +186,10 @@ module _ (d : Saved) (storable : IsStorable d) where
   key_modes : (q : PlainKey) → finite.contains_key with_keys.under.persistent q ≡ finite.contains_key d.under.persistent q
   key_modes q =
       all_seen key_order key_order_total key_order_same (key_rows d) (keyed d) IsFreeKey key_one (free_other d)
-      (λ key e. finite.contains_key e.under.persistent key) (λ key. finite.contains_key d.under.persistent key) (keyed_mode d) q (stored_keys d) nothing_saved keys_free
-      ∙ ap (λ b. cond b (finite.contains_key d.under.persistent q) (finite.contains_key nothing_saved.under.persistent q)) (is_stored q)
+      (λ key e. finite.contains_key e.under.persistent key)
+      (λ key. finite.contains_key d.under.persistent key) (keyed_mode d) q (stored_keys d) nothing_saved keys_free
+      ∙ ap (λ b. cond b (finite.contains_key d.under.persistent q)
+      (finite.contains_key nothing_saved.under.persistent q)) (is_stored q)
       ∙ at (finite.contains_key d.under.areas q) (finite.contains_key d.under.persistent q)
     where
       at : (a b : Bool) → cond (a || b) b (finite.contains_key nothing_saved.under.persistent q) ≡ b
@@ -189,20 +200,23 @@ module _ (d : Saved) (storable : IsStorable d) where
   keys_leave : (q : PlainCell) → cookies_at q with_keys ≡ []
   keys_leave q = all_keep (keyed d) (cookies_at q) (key_leaves d q) (stored_keys d) nothing_saved ∙ no_cookie q
 
-  cells_free : AreFree cell_order cell_order_total cell_order_same (cell_rows d) (celled d) IsFreeCell cell_one (free_cell d) (stored_cells d) with_keys
+  cells_free : AreFree cell_order cell_order_total cell_order_same (cell_rows d) (celled d)
+      IsFreeCell cell_one (free_cell d) (stored_cells d) with_keys
   cells_free = record {
     once = λ q. at_most_one _ _ (times_cells d q);
     free = λ q any. keys_leave q;
   }
 
   cells_lead : Leads with_keys (flat_map (cell_rows d) (stored_cells d)) with_cells
-  cells_lead = all_lead cell_order cell_order_total cell_order_same (cell_rows d) (celled d) IsFreeCell cell_one (free_cell d) (stored_cells d) with_keys cells_free
+  cells_lead = all_lead cell_order cell_order_total cell_order_same (cell_rows d) (celled d)
+      IsFreeCell cell_one (free_cell d) (stored_cells d) with_keys cells_free
 
   cell_cookies : (q : PlainCell) → cookies_at q with_cells ≡ cookies_at q d
   cell_cookies q =
       all_seen cell_order cell_order_total cell_order_same (cell_rows d) (celled d) IsFreeCell cell_one (free_cell d)
       cookies_at (λ cell. cookies_at cell d) (λ p cell e free. celled_cookies d p cell e) q (stored_cells d) with_keys cells_free
-      ∙ ap (λ b. cond b (cookies_at q d) (cookies_at q with_keys)) (any_number (eq_by_cmp cell_order q) (stored_cells d) _ (times_cells d q))
+      ∙ ap (λ b. cond b (cookies_at q d) (cookies_at q with_keys))
+      (any_number (eq_by_cmp cell_order q) (stored_cells d) _ (times_cells d q))
       ∙ at (has_cookies d q) refl
     where
       at : (b : Bool) → has_cookies d q ≡ b → cond b (cookies_at q d) (cookies_at q with_keys) ≡ cookies_at q d
@@ -221,7 +235,8 @@ module _ (d : Saved) (storable : IsStorable d) where
       ∙ same_keys _ _ key_modes
 
   partitions_again : with_cells.under.cookies ≡ d.under.cookies
-  partitions_again = same_cells partitioned_order partitioned_order_total partitioned_order_same _ _ (λ key. cell_cookies (partition key))
+  partitions_again = same_cells partitioned_order partitioned_order_total partitioned_order_same _ _
+      (λ key. cell_cookies (partition key))
 
   cells_again : with_cells.cells ≡ d.cells
   cells_again = same_cells domain_order domain_order_total domain_order_same _ _ (λ domain. cell_cookies (OwnCell domain))
@@ -248,8 +263,10 @@ module _ (d : Saved) (storable : IsStorable d) where
       let keys = flat_map (key_rows d) (stored_keys d) in
       let cells = flat_map (cell_rows d) (stored_cells d) in
       let grants = map (λ row. Grant row) d.under.grants in
-      then nothing_saved (keys ++ cells) with_cells grants d (then nothing_saved keys with_keys cells with_cells keys_lead cells_lead)
-      (to with_cells grants (with_grants d.under.grants with_cells) d (grants_lead [] d.under.grants with_cells none_granted storable.grants) again)
+      then nothing_saved (keys ++ cells) with_cells grants d
+      (then nothing_saved keys with_keys cells with_cells keys_lead cells_lead)
+      (to with_cells grants (with_grants d.under.grants with_cells) d
+      (grants_lead [] d.under.grants with_cells none_granted storable.grants) again)
 
 pub snapshots_mean : SnapshotsMean
 unfolding body_means

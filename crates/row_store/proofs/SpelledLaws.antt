@@ -54,25 +54,30 @@ module _ (rules : List Rule) where
   replaced name value pair = cond (has_name name pair) (record pair { value = value }) pair
 
   -- a pair, or its name with another value
-  replaced_spelled : (key : PlainKey) (name value : List ℕ) → IsSpelled rules (AreaPut key name value) → (pair : Pair) (b : Bool) → IsPairOf key pair
+  replaced_spelled : (key : PlainKey) (name value : List ℕ) → IsSpelled rules (AreaPut key name value)
+      → (pair : Pair) (b : Bool) → IsPairOf key pair
       → IsPairOf key (cond b (record pair { value = value }) pair)
   replaced_spelled key name value new pair true is = (is.0, is.1, new.2)
   replaced_spelled key name value new pair false is = is
 
-  put_spelled : (key : PlainKey) (name value : List ℕ) (pairs : List Pair) → IsSpelled rules (AreaPut key name value) → All (IsPairOf key) pairs
+  put_spelled : (key : PlainKey) (name value : List ℕ) (pairs : List Pair)
+      → IsSpelled rules (AreaPut key name value) → All (IsPairOf key) pairs
       → All (IsPairOf key) (area_put name value pairs)
   put_spelled key name value pairs new all = at (is_some (area_get name pairs))
     where
-      at : (b : Bool) → All (IsPairOf key) (cond b (map (replaced name value) pairs) (pairs ++ record { name = name; value = value } ∷ []))
+      at : (b : Bool) → All (IsPairOf key) (cond b (map (replaced name value) pairs)
+          (pairs ++ record { name = name; value = value } ∷ []))
       at true =
           All-map (IsPairOf key) (replaced name value) pairs
-          (All-weaker (IsPairOf key) (λ pair. IsPairOf key (replaced name value pair)) (λ pair is. replaced_spelled key name value new pair (has_name name pair) is) pairs all)
+          (All-weaker (IsPairOf key) (λ pair. IsPairOf key (replaced name value pair))
+          (λ pair is. replaced_spelled key name value new pair (has_name name pair) is) pairs all)
       at false = All-push (IsPairOf key) pairs (record { name = name; value = value }) all new
 
   -- ---- the cookies of a cell
 
   -- a cookie that has a spelling at a place has one at another
-  placed_at : (cell : PlainCell) (place other : ℕ) (cookie : PlainCookie) → other ≤ 255 → IsPlaced rules cell place cookie → IsPlaced rules cell other cookie
+  placed_at : (cell : PlainCell) (place other : ℕ) (cookie : PlainCookie) → other ≤ 255
+      → IsPlaced rules cell place cookie → IsPlaced rules cell other cookie
   placed_at cell place other cookie low is = (is.0, omega (arith, low), is.2, is.3)
 
   -- a change of a cell puts such a cookie, if any
@@ -81,13 +86,15 @@ module _ (rules : List Rule) where
   PutsSpelled cell (RowReplace place cookie) = IsCookieOf cell cookie
   PutsSpelled cell (RowRemove place) = Unit {0}
 
-  edit_spelled : (cell : PlainCell) (cs : Cookies) (row : CookieRow) → PutsSpelled cell row → All (IsCookieOf cell) cs → All (IsCookieOf cell) (row_edit cs row)
+  edit_spelled : (cell : PlainCell) (cs : Cookies) (row : CookieRow) → PutsSpelled cell row
+      → All (IsCookieOf cell) cs → All (IsCookieOf cell) (row_edit cs row)
   edit_spelled cell cs (RowInsert place c) new all =
       All-append (IsCookieOf cell) (take place cs) (c ∷ drop place cs) (All-take (IsCookieOf cell) place cs all)
       (All-cons (IsCookieOf cell) c (drop place cs) new (All-drop (IsCookieOf cell) place cs all))
   edit_spelled cell cs (RowReplace place c) new all = All-set (IsCookieOf cell) cs place c new all
   edit_spelled cell cs (RowRemove place) new all =
-      All-append (IsCookieOf cell) (take place cs) (drop (suc place) cs) (All-take (IsCookieOf cell) place cs all) (All-drop (IsCookieOf cell) (suc place) cs all)
+      All-append (IsCookieOf cell) (take place cs) (drop (suc place) cs)
+      (All-take (IsCookieOf cell) place cs all) (All-drop (IsCookieOf cell) (suc place) cs all)
 
   -- ---- permissions
 
@@ -98,21 +105,25 @@ module _ (rules : List Rule) where
   kept_spelled : (row : PlainGrant) (rows : List PlainGrant) → IsRowOf row → All IsRowOf rows → All IsRowOf (kept row rows)
   kept_spelled row rows new all = at (has_row row rows)
     where
-      at : (b : Bool) → All IsRowOf (cond b (map (λ other. cond (is_of row.top row.site other) row other) rows) (rows ++ row ∷ []))
+      at : (b : Bool) → All IsRowOf (cond b (map (λ other. cond (is_of row.top row.site other) row other)
+          rows) (rows ++ row ∷ []))
       at true =
           All-map IsRowOf (λ other. cond (is_of row.top row.site other) row other) rows
-          (All-weaker IsRowOf (λ other. IsRowOf (cond (is_of row.top row.site other) row other)) (λ other is. either_row row other (is_of row.top row.site other) new is) rows all)
+          (All-weaker IsRowOf (λ other. IsRowOf (cond (is_of row.top row.site other) row other))
+          (λ other is. either_row row other (is_of row.top row.site other) new is) rows all)
       at false = All-push IsRowOf rows row all new
 
   -- ---- states
 
   module _ (d : Saved) (spelled : IsSpelledState rules d) where
     -- other pairs of one key
-    pairs_spelled : (key : PlainKey) (pairs : List Pair) → All (IsPairOf key) pairs → IsSpelledState rules (with_pairs key pairs d)
+    pairs_spelled : (key : PlainKey) (pairs : List Pair) → All (IsPairOf key) pairs
+        → IsSpelledState rules (with_pairs key pairs d)
     pairs_spelled key pairs all = record {
       pairs = λ q. subst (All (IsPairOf q)) (sym (pairs_with q key pairs d)) (at q (eq_by_cmp key_order q key) refl);
       modes = spelled.modes;
-      cookies = λ cell. subst (All (IsCookieOf cell)) (sym (same_limits cell d (with_pairs key pairs d) refl refl)) (spelled.cookies cell);
+      cookies = λ cell. subst (All (IsCookieOf cell))
+          (sym (same_limits cell d (with_pairs key pairs d) refl refl)) (spelled.cookies cell);
       grants = spelled.grants;
     }
       where
@@ -125,7 +136,8 @@ module _ (rules : List Rule) where
     same_modes (PartitionCell top bit domain) cookies = refl
 
     -- other cookies in one cell
-    cookies_spelled : (cell : PlainCell) (cookies : Cookies) → All (IsCookieOf cell) cookies → IsSpelledState rules (with_cookies cell cookies d)
+    cookies_spelled : (cell : PlainCell) (cookies : Cookies) → All (IsCookieOf cell) cookies
+        → IsSpelledState rules (with_cookies cell cookies d)
     cookies_spelled cell cookies all = record {
       pairs = λ q. subst (All (IsPairOf q)) (sym (with_same_pairs cell q cookies d)) (spelled.pairs q);
       modes = λ q is. spelled.modes q (subst (λ keys. finite.contains_key keys q ≡ true) (same_modes cell cookies) is);
@@ -138,36 +150,46 @@ module _ (rules : List Rule) where
         at q false tie = spelled.cookies q
 
     row_spelled : (cell : PlainCell) (row : CookieRow) → PutsSpelled cell row → IsSpelledState rules (edited_in cell row d)
-    row_spelled cell row new = cookies_spelled cell (row_edit (cookies_at cell d) row) (edit_spelled cell (cookies_at cell d) row new (spelled.cookies cell))
+    row_spelled cell row new = cookies_spelled cell (row_edit (cookies_at cell d) row)
+        (edit_spelled cell (cookies_at cell d) row new (spelled.cookies cell))
 
     -- one more persistent bucket
     mode_spelled : (key : PlainKey) → IsSpelled rules (SetMode key) → IsSpelledState rules (edited (SetMode key) d)
     mode_spelled key new = record {
       pairs = spelled.pairs;
-      modes = λ q is. at q (eq_by_cmp key_order q key) refl (sym (ap is_some (get-insert key_order_total d.under.persistent key tt q)) ∙ is);
-      cookies = λ cell. subst (All (IsCookieOf cell)) (sym (same_limits cell d (edited (SetMode key) d) refl refl)) (spelled.cookies cell);
+      modes = λ q is. at q (eq_by_cmp key_order q key) refl
+          (sym (ap is_some (get-insert key_order_total d.under.persistent key tt q)) ∙ is);
+      cookies = λ cell. subst (All (IsCookieOf cell))
+          (sym (same_limits cell d (edited (SetMode key) d) refl refl)) (spelled.cookies cell);
       grants = spelled.grants;
     }
       where
-        at : (q : PlainKey) (b : Bool) → eq_by_cmp key_order q key ≡ b → is_some (cond b (Some tt) (finite.get d.under.persistent q)) ≡ true → IsSpelled rules (SetMode q)
-        at q true tie is = subst (λ k. IsSpelled rules (SetMode k)) (sym (tied key_order key_order_total key_order_same q key tie)) new
+        at : (q : PlainKey) (b : Bool) → eq_by_cmp key_order q key ≡ b
+            → is_some (cond b (Some tt) (finite.get d.under.persistent q)) ≡ true → IsSpelled rules (SetMode q)
+        at q true tie is = subst (λ k. IsSpelled rules (SetMode k))
+            (sym (tied key_order key_order_total key_order_same q key tie)) new
         at q false tie is = spelled.modes q is
 
     grant_spelled : (row : PlainGrant) → IsRowOf row → IsSpelledState rules (edited (Grant row) d)
     grant_spelled row new = record {
       pairs = spelled.pairs;
       modes = spelled.modes;
-      cookies = λ cell. subst (All (IsCookieOf cell)) (sym (same_limits cell d (edited (Grant row) d) refl refl)) (spelled.cookies cell);
+      cookies = λ cell. subst (All (IsCookieOf cell))
+          (sym (same_limits cell d (edited (Grant row) d) refl refl)) (spelled.cookies cell);
       grants = kept_spelled row d.under.grants new spelled.grants;
     }
 
     edited_spelled : (change : PlainChange) → IsSpelled rules change → IsSpelledState rules (edited change d)
-    edited_spelled (AreaPut key name value) is = pairs_spelled key (area_put name value (pairs_at key d)) (put_spelled key name value (pairs_at key d) is (spelled.pairs key))
-    edited_spelled (AreaRemove key name) is = pairs_spelled key _ (All-filter (λ pair. not (has_name name pair)) (IsPairOf key) (pairs_at key d) (spelled.pairs key))
+    edited_spelled (AreaPut key name value) is = pairs_spelled key (area_put name value (pairs_at key d))
+        (put_spelled key name value (pairs_at key d) is (spelled.pairs key))
+    edited_spelled (AreaRemove key name) is = pairs_spelled key _
+        (All-filter (λ pair. not (has_name name pair)) (IsPairOf key) (pairs_at key d) (spelled.pairs key))
     edited_spelled (AreaClear key) is = pairs_spelled key [] (All-nil (IsPairOf key))
     edited_spelled (SetMode key) is = mode_spelled key is
-    edited_spelled (CookieInsert cell place cookie) is = row_spelled cell (RowInsert place cookie) (placed_at cell place 0 cookie (omega arith) is)
-    edited_spelled (CookieReplace cell place cookie) is = row_spelled cell (RowReplace place cookie) (placed_at cell place 0 cookie (omega arith) is)
+    edited_spelled (CookieInsert cell place cookie) is =
+        row_spelled cell (RowInsert place cookie) (placed_at cell place 0 cookie (omega arith) is)
+    edited_spelled (CookieReplace cell place cookie) is =
+        row_spelled cell (RowReplace place cookie) (placed_at cell place 0 cookie (omega arith) is)
     edited_spelled (CookieRemove cell place) is = row_spelled cell (RowRemove place) tt
     edited_spelled (Grant row) is = grant_spelled row is
 
@@ -185,7 +207,8 @@ module _ (rules : List Rule) where
   abbrev IsListed : PlainChange → Type 0
   IsListed change = IsSpelled rules change
 
-  cookie_rows_spelled : (cell : PlainCell) (place : ℕ) (cs : Cookies) → place + length cs ≤ 256 → All (IsCookieOf cell) cs → All IsListed (cookie_rows cell place cs)
+  cookie_rows_spelled : (cell : PlainCell) (place : ℕ) (cs : Cookies) → place + length cs ≤ 256
+      → All (IsCookieOf cell) cs → All IsListed (cookie_rows cell place cs)
   cookie_rows_spelled cell place [] few all = All-nil IsListed
   cookie_rows_spelled cell place (c ∷ cs) few all =
       All-cons IsListed (CookieInsert cell place c) (cookie_rows cell (place + 1) cs)
@@ -193,7 +216,8 @@ module _ (rules : List Rule) where
       (cookie_rows_spelled cell (place + 1) cs (omega (arith, few)) (All-tail (IsCookieOf cell) c cs all))
 
   module _ (d : Saved) (storable : IsStorable d) (spelled : IsSpelledState rules d) where
-    mode_rows_spelled : (key : PlainKey) (b : Bool) → finite.contains_key d.under.persistent key ≡ b → All IsListed (mode_rows key b)
+    mode_rows_spelled : (key : PlainKey) (b : Bool) → finite.contains_key d.under.persistent key ≡ b
+        → All IsListed (mode_rows key b)
     mode_rows_spelled key true is = All-cons IsListed (SetMode key) [] (spelled.modes key is) (All-nil IsListed)
     mode_rows_spelled key false is = All-nil IsListed
 
@@ -214,7 +238,8 @@ module _ (rules : List Rule) where
         let cells = flat_map (cell_rows d) (stored_cells d) in
         let rows = map (λ row. Grant row) d.under.grants in
         All-append IsListed (keys ++ cells) rows
-        (All-append IsListed keys cells (each_made IsListed (key_rows d) (stored_keys d) key_rows_spelled) (each_made IsListed (cell_rows d) (stored_cells d) cell_rows_spelled))
+        (All-append IsListed keys cells (each_made IsListed (key_rows d) (stored_keys d) key_rows_spelled)
+        (each_made IsListed (cell_rows d) (stored_cells d) cell_rows_spelled))
         (All-map IsListed (λ row. Grant row) d.under.grants spelled.grants)
 
 pub edits_keep_spelled : EditsKeepSpelled

@@ -14,7 +14,8 @@ module _ (rules : List Rule) (change : PlainChange) (bytes : List ℕ) (are : by
   reads spelled = ap (change_at rules) (are ∙ sym (append-nil (change_bytes change))) ∙ again rules change [] spelled
 
   -- the bytes say a row change
-  pub something_said : (said : PlainChange) (rest : List ℕ) (same : Bool) → IsOneSpelling → AreBytes bytes → change_at rules bytes ≡ Some (said, rest)
+  pub something_said : (said : PlainChange) (rest : List ℕ) (same : Bool) → IsOneSpelling → AreBytes bytes
+      → change_at rules bytes ≡ Some (said, rest)
       → IsTrue same ↔ (said ≡ change) → IsTrue same ↔ IsSpelled rules change
   something_said said rest same once fits says test = (
     λ yes. subst (IsSpelled rules) (test.0 yes) (once rules bytes said rest fits says).0,
@@ -23,4 +24,8 @@ module _ (rules : List Rule) (change : PlainChange) (bytes : List ℕ) (are : by
 
   -- they say nothing
   pub nothing_said : change_at rules bytes ≡ None → IsTrue false ↔ IsSpelled rules change
-  nothing_said says = (λ no. let is : false ≡ true = no in cc, λ spelled. absurd (none-some (change, []) (sym says ∙ reads spelled)))
+  nothing_said says = (
+    λ no. let is : false ≡ true =
+        no in cc,
+    λ spelled. absurd (none-some (change, []) (sym says ∙ reads spelled)),
+  )

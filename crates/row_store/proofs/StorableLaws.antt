@@ -56,14 +56,16 @@ any_name name (p ∷ ps) = ap (λ b. has_name name p || b) (any_name name ps)
 put_apart : (name value : List ℕ) (pairs : List Pair) → HasDistinctNames pairs → HasDistinctNames (area_put name value pairs)
 put_apart name value pairs apart = at (is_some (area_get name pairs)) refl
   where
-    at : (b : Bool) → is_some (area_get name pairs) ≡ b → HasDistinctNames (cond b (replaced name value pairs) (pairs ++ record { name = name; value = value } ∷ []))
+    at : (b : Bool) → is_some (area_get name pairs) ≡ b
+        → HasDistinctNames (cond b (replaced name value pairs) (pairs ++ record { name = name; value = value } ∷ []))
     at true is = subst (IsDistinct bytes_eq) (sym (names_replaced name value pairs)) apart
     at false is =
         let new : list_any (bytes_eq name) (map name_of pairs) ≡ false = any_name name pairs ∙ sym (found_any name pairs) ∙ is in
         subst (IsDistinct bytes_eq) (sym (map-append name_of pairs (record { name = name; value = value } ∷ [])))
         (IsDistinct-push bytes_equiv (map name_of pairs) name apart new)
 
-left_apart : (test : Pair → Bool) (name : List ℕ) (pairs : List Pair) → AllByRecursion (λ y. bytes_eq name y ≡ false) (map name_of pairs)
+left_apart : (test : Pair → Bool) (name : List ℕ) (pairs : List Pair)
+    → AllByRecursion (λ y. bytes_eq name y ≡ false) (map name_of pairs)
     → AllByRecursion (λ y. bytes_eq name y ≡ false) (map name_of (filter test pairs))
 left_apart test name [] all = tt
 left_apart test name (p ∷ ps) all = at (test p) (left_apart test name ps all.1)
@@ -79,7 +81,8 @@ filter_apart test (p ∷ ps) apart =
     at (test p) (left_apart test p.name ps (IsDistinct-head bytes_eq p.name (map name_of ps) apart))
     (filter_apart test ps (IsDistinct-tail bytes_eq p.name (map name_of ps) apart))
   where
-    at : (b : Bool) → AllByRecursion (λ y. bytes_eq p.name y ≡ false) (map name_of (filter test ps)) → HasDistinctNames (filter test ps)
+    at : (b : Bool) → AllByRecursion (λ y. bytes_eq p.name y ≡ false) (map name_of (filter test ps))
+        → HasDistinctNames (filter test ps)
         → HasDistinctNames (cond b (p ∷ filter test ps) (filter test ps))
     at true here later = IsDistinct-cons bytes_eq p.name (map name_of (filter test ps)) here later
     at false here later = later
@@ -88,7 +91,8 @@ filter_light : (test : Pair → Bool) (pairs : List Pair) → area_weight (filte
 filter_light test [] = omega arith
 filter_light test (p ∷ ps) = at (test p) (filter_light test ps)
   where
-    at : (b : Bool) → area_weight (filter test ps) ≤ area_weight ps → area_weight (cond b (p ∷ filter test ps) (filter test ps)) ≤ area_weight (p ∷ ps)
+    at : (b : Bool) → area_weight (filter test ps) ≤ area_weight ps
+        → area_weight (cond b (p ∷ filter test ps) (filter test ps)) ≤ area_weight (p ∷ ps)
     at true later = omega (arith, later, sum_by-cons pair_weight p ps, sum_by-cons pair_weight p (filter test ps))
     at false later = omega (arith, later, sum_by-cons pair_weight p ps)
 
@@ -102,7 +106,8 @@ no_limit : (k : CellKind) → keeps_limits k [] ≡ true
 no_limit kind.Own = refl
 no_limit kind.Partition = refl
 
-removed_fits : (k : CellKind) (cs : Cookies) (place : ℕ) → place < length cs → keeps_limits k cs ≡ true → keeps_limits k (remove cs place) ≡ true
+removed_fits : (k : CellKind) (cs : Cookies) (place : ℕ) → place < length cs → keeps_limits k cs ≡ true
+    → keeps_limits k (remove cs place) ≡ true
 removed_fits k [] place below within = absurd (omega (arith, below))
 removed_fits k (c ∷ cs) place below within =
     let long = length-remove (c ∷ cs) place below in
@@ -110,7 +115,8 @@ removed_fits k (c ∷ cs) place below within =
     fits_less k _ _ _ _ within (omega (arith, long)) (omega (arith, heavy))
 
 -- a valid row change of a cell keeps its limits
-edit_fits : (k : CellKind) (cs : Cookies) (row : CookieRow) → row_fits k cs row ≡ true → keeps_limits k cs ≡ true → keeps_limits k (row_edit cs row) ≡ true
+edit_fits : (k : CellKind) (cs : Cookies) (row : CookieRow) → row_fits k cs row ≡ true
+    → keeps_limits k cs ≡ true → keeps_limits k (row_edit cs row) ≡ true
 edit_fits k cs (RowInsert place c) fits within = (and_parts _ _ (and_parts _ _ fits).1).1
 edit_fits k cs (RowReplace place c) fits within = (and_parts _ _ (and_parts _ _ fits).1).1
 edit_fits k cs (RowRemove place) fits within = removed_fits k cs place (ltb-true place (length cs) fits) within
@@ -118,22 +124,27 @@ edit_fits k cs (RowRemove place) fits within = removed_fits k cs place (ltb-true
 -- ---- states
 
 -- each cell is one as it outlives a restart
-kept_after : (d : Saved) (change : PlainChange) → is_valid change d ≡ true → IsStorable d → (cell : PlainCell) → IsKeptCell (cookies_at cell (edited change d))
-kept_after d change valid storable cell = subst (λ e. IsKeptCell (cookies_at cell e)) (valid_done d change valid) (change_keeps d change cell (storable.cells cell))
+kept_after : (d : Saved) (change : PlainChange) → is_valid change d ≡ true → IsStorable d → (cell : PlainCell)
+    → IsKeptCell (cookies_at cell (edited change d))
+kept_after d change valid storable cell = subst (λ e. IsKeptCell (cookies_at cell e))
+    (valid_done d change valid) (change_keeps d change cell (storable.cells cell))
 
-pub same_limits : (cell : PlainCell) (d e : Saved) → e.cells ≡ d.cells → e.under.cookies ≡ d.under.cookies → cookies_at cell e ≡ cookies_at cell d
+pub same_limits : (cell : PlainCell) (d e : Saved) → e.cells ≡ d.cells → e.under.cookies ≡ d.under.cookies
+    → cookies_at cell e ≡ cookies_at cell d
 same_limits (OwnCell domain) d e own partition = ap (λ cells. cookies_at (OwnCell domain) (record d { cells = cells })) own
 same_limits (PartitionCell top bit domain) d e own partition =
     ap (λ cells. cookies_at (PartitionCell top bit domain) (record d { under = record (d.under) { cookies = cells } })) partition
 
 -- other pairs of one key
-pairs_storable : (change : PlainChange) (key : PlainKey) (pairs : List Pair) (d : Saved) → edited change d ≡ with_pairs key pairs d → is_valid change d ≡ true → IsStorable d
+pairs_storable : (change : PlainChange) (key : PlainKey) (pairs : List Pair) (d : Saved)
+    → edited change d ≡ with_pairs key pairs d → is_valid change d ≡ true → IsStorable d
     → HasDistinctNames pairs → area_weight pairs ≤ quota → IsStorable (edited change d)
 pairs_storable change key pairs d is valid storable apart light = record {
   names = λ q. subst HasDistinctNames (sym (there q)) (name_at q (eq_by_cmp key_order q key));
   weights = λ q. subst (λ ps. area_weight ps ≤ quota) (sym (there q)) (weight_at q (eq_by_cmp key_order q key));
   cells = kept_after d change valid storable;
-  limits = λ cell. ap (keeps_limits (kind_of cell)) (same_limits cell d (edited change d) (ap (λ e. e.cells) is) (ap (λ e. e.under.cookies) is)) ∙ storable.limits cell;
+  limits = λ cell. ap (keeps_limits (kind_of cell))
+      (same_limits cell d (edited change d) (ap (λ e. e.cells) is) (ap (λ e. e.under.cookies) is)) ∙ storable.limits cell;
   grants = subst HasDistinctPairs (sym (ap (λ e. e.under.grants) is)) storable.grants;
 }
   where
@@ -148,22 +159,26 @@ pairs_storable change key pairs d is valid storable apart light = record {
     weight_at q true = light
     weight_at q false = storable.weights q
 
-pub with_same_pairs : (cell : PlainCell) (q : PlainKey) (cookies : Cookies) (d : Saved) → pairs_at q (with_cookies cell cookies d) ≡ pairs_at q d
+pub with_same_pairs : (cell : PlainCell) (q : PlainKey) (cookies : Cookies) (d : Saved)
+    → pairs_at q (with_cookies cell cookies d) ≡ pairs_at q d
 with_same_pairs (OwnCell domain) q cookies d = refl
 with_same_pairs (PartitionCell top bit domain) q cookies d = refl
 
-pub with_same_grants : (cell : PlainCell) (cookies : Cookies) (d : Saved) → (with_cookies cell cookies d).under.grants ≡ d.under.grants
+pub with_same_grants : (cell : PlainCell) (cookies : Cookies) (d : Saved)
+    → (with_cookies cell cookies d).under.grants ≡ d.under.grants
 with_same_grants (OwnCell domain) cookies d = refl
 with_same_grants (PartitionCell top bit domain) cookies d = refl
 
 -- a row change of a cell
-cell_storable : (change : PlainChange) (cell : PlainCell) (row : CookieRow) (d : Saved) → edited change d ≡ edited_in cell row d → is_valid change d ≡ true
+cell_storable : (change : PlainChange) (cell : PlainCell) (row : CookieRow) (d : Saved)
+    → edited change d ≡ edited_in cell row d → is_valid change d ≡ true
     → is_valid_in cell row d ≡ true → IsStorable d → IsStorable (edited change d)
 cell_storable change cell row d is valid fits storable = record {
   names = λ q. subst HasDistinctNames (sym (pairs q)) (storable.names q);
   weights = λ q. subst (λ ps. area_weight ps ≤ quota) (sym (pairs q)) (storable.weights q);
   cells = kept_after d change valid storable;
-  limits = λ q. ap (keeps_limits (kind_of q)) (ap (cookies_at q) is ∙ cookies_with q cell cookies d) ∙ limit_at q (eq_by_cmp cell_order q cell) refl;
+  limits = λ q. ap (keeps_limits (kind_of q)) (ap (cookies_at q) is ∙ cookies_with q cell cookies d)
+      ∙ limit_at q (eq_by_cmp cell_order q cell) refl;
   grants = subst HasDistinctPairs (sym (ap (λ e. e.under.grants) is ∙ with_same_grants cell cookies d)) storable.grants;
 }
   where
@@ -173,7 +188,8 @@ cell_storable change cell row d is valid fits storable = record {
     pairs : (q : PlainKey) → pairs_at q (edited change d) ≡ pairs_at q d
     pairs q = ap (pairs_at q) is ∙ with_same_pairs cell q _ d
 
-    limit_at : (q : PlainCell) (b : Bool) → eq_by_cmp cell_order q cell ≡ b → keeps_limits (kind_of q) (cond b cookies (cookies_at q d)) ≡ true
+    limit_at : (q : PlainCell) (b : Bool) → eq_by_cmp cell_order q cell ≡ b
+        → keeps_limits (kind_of q) (cond b cookies (cookies_at q d)) ≡ true
     limit_at q true tie =
         ap (λ k. keeps_limits (kind_of k) cookies) (equal_keys q cell tie)
         ∙ edit_fits (kind_of cell) (cookies_at cell d) row (and_parts (puts_kept row) _ fits).1 (storable.limits cell)
@@ -189,17 +205,22 @@ edit_storable d (AreaRemove key name) valid storable =
     let before = storable.weights key in
     pairs_storable (AreaRemove key name) key (area_remove name (pairs_at key d)) d refl valid storable
     (filter_apart test (pairs_at key d) (storable.names key)) (omega (arith, lighter, before))
-edit_storable d (AreaClear key) valid storable = pairs_storable (AreaClear key) key [] d refl valid storable none_apart (omega arith)
+edit_storable d (AreaClear key) valid storable = pairs_storable (AreaClear key)
+    key [] d refl valid storable none_apart (omega arith)
 edit_storable d (SetMode key) valid storable = record {
   names = storable.names;
   weights = storable.weights;
   cells = kept_after d (SetMode key) valid storable;
-  limits = λ cell. ap (keeps_limits (kind_of cell)) (same_limits cell d (edited (SetMode key) d) refl refl) ∙ storable.limits cell;
+  limits = λ cell. ap (keeps_limits (kind_of cell)) (same_limits cell d (edited (SetMode key) d) refl refl)
+      ∙ storable.limits cell;
   grants = storable.grants;
 }
-edit_storable d (CookieInsert cell place cookie) valid storable = cell_storable (CookieInsert cell place cookie) cell (RowInsert place cookie) d refl valid valid storable
-edit_storable d (CookieReplace cell place cookie) valid storable = cell_storable (CookieReplace cell place cookie) cell (RowReplace place cookie) d refl valid valid storable
-edit_storable d (CookieRemove cell place) valid storable = cell_storable (CookieRemove cell place) cell (RowRemove place) d refl valid valid storable
+edit_storable d (CookieInsert cell place cookie) valid storable =
+    cell_storable (CookieInsert cell place cookie) cell (RowInsert place cookie) d refl valid valid storable
+edit_storable d (CookieReplace cell place cookie) valid storable =
+    cell_storable (CookieReplace cell place cookie) cell (RowReplace place cookie) d refl valid valid storable
+edit_storable d (CookieRemove cell place) valid storable =
+    cell_storable (CookieRemove cell place) cell (RowRemove place) d refl valid valid storable
 edit_storable d (Grant row) valid storable = record {
   names = storable.names;
   weights = storable.weights;

@@ -26,44 +26,41 @@ as_number b = cond b 1 0
 swap : (a b n : ℕ) → a + (b + n) ≡ b + (a + n)
 swap a b n = omega arith
 
-times_in : (test : PlainKey → Bool) (keys : List PlainKey) (key : PlainKey) → times test (in_text_order keys key) ≡ as_number (test key) + times test keys
-times_in test [] key = refl
-times_in test (other ∷ others) key = at (is_lt (key_text_order key other)) (times_in test others key)
-  where
-    at : (b : Bool) → times test (in_text_order others key) ≡ as_number (test key) + times test others
-        → times test (cond b (key ∷ other ∷ others) (other ∷ in_text_order others key)) ≡ as_number (test key) + times test (other ∷ others)
-    at true later = refl
-    at false later = ap (λ (n : ℕ). as_number (test other) + n) later ∙ swap (as_number (test other)) (as_number (test key)) (times test others)
+-- a list in an order, with one more that goes in front of the first that it is before
+module _ {K : Type 0} (is_before : K → K → Bool) (insert : List K → K → List K) (alone : (key : K) → insert [] key ≡ key ∷ [])
+    (goes : (key other : K) (others : List K) → insert (other ∷ others) key
+    ≡ cond (is_before key other) (key ∷ other ∷ others) (other ∷ insert others key))
+    (test : K → Bool) where
+  times_in : (keys : List K) (key : K) → times test (insert keys key) ≡ as_number (test key) + times test keys
+  times_in [] key = ap (times test) (alone key)
+  times_in (other ∷ others) key = ap (times test) (goes key other others) ∙ at (is_before key other) (times_in others key)
+    where
+      at : (b : Bool) → times test (insert others key) ≡ as_number (test key) + times test others
+          → times test (cond b (key ∷ other ∷ others) (other ∷ insert others key))
+          ≡ as_number (test key) + times test (other ∷ others)
+      at true later = refl
+      at false later = ap (λ (n : ℕ). as_number (test other) + n) later
+          ∙ swap (as_number (test other)) (as_number (test key)) (times test others)
 
-times_fold : (test : PlainKey → Bool) (before keys : List PlainKey) → times test (fold in_text_order before keys) ≡ times test before + times test keys
-times_fold test before [] = omega arith
-times_fold test before (key ∷ keys) =
-    let one = times_in test before key in
-    let more = times_fold test (in_text_order before key) keys in
-    omega (arith, one, more)
+  times_fold : (front keys : List K) → times test (fold insert front keys) ≡ times test front + times test keys
+  times_fold front [] = omega arith
+  times_fold front (key ∷ keys) =
+      let one = times_in front key in
+      let more = times_fold (insert front key) keys in
+      omega (arith, one, more)
 
--- as often as before
+  -- as often as before
+  times_ordered : (keys : List K) → times test (fold insert [] keys) ≡ times test keys
+  times_ordered keys = times_fold [] keys ∙ omega arith
+
 pub times_by_text : (test : PlainKey → Bool) (keys : List PlainKey) → times test (by_text keys) ≡ times test keys
-times_by_text test keys = times_fold test [] keys ∙ omega arith
+times_by_text test keys = times_ordered (λ key other. is_lt (key_text_order key other)) in_text_order
+    (λ key. refl) (λ key other others. refl) test keys
 
-cell_in : (test : PartitionedKey → Bool) (cells : List PartitionedKey) (cell : PartitionedKey) → times test (in_cell_order cells cell) ≡ as_number (test cell) + times test cells
-cell_in test [] cell = refl
-cell_in test (other ∷ others) cell = at (is_lt (cell_text_order cell other)) (cell_in test others cell)
-  where
-    at : (b : Bool) → times test (in_cell_order others cell) ≡ as_number (test cell) + times test others
-        → times test (cond b (cell ∷ other ∷ others) (other ∷ in_cell_order others cell)) ≡ as_number (test cell) + times test (other ∷ others)
-    at true later = refl
-    at false later = ap (λ (n : ℕ). as_number (test other) + n) later ∙ swap (as_number (test other)) (as_number (test cell)) (times test others)
-
-cell_fold : (test : PartitionedKey → Bool) (before cells : List PartitionedKey) → times test (fold in_cell_order before cells) ≡ times test before + times test cells
-cell_fold test before [] = omega arith
-cell_fold test before (cell ∷ cells) =
-    let one = cell_in test before cell in
-    let more = cell_fold test (in_cell_order before cell) cells in
-    omega (arith, one, more)
-
-pub times_cells_by_text : (test : PartitionedKey → Bool) (cells : List PartitionedKey) → times test (cells_by_text cells) ≡ times test cells
-times_cells_by_text test cells = cell_fold test [] cells ∙ omega arith
+pub times_cells_by_text : (test : PartitionedKey → Bool) (cells : List PartitionedKey)
+    → times test (cells_by_text cells) ≡ times test cells
+times_cells_by_text test cells = times_ordered (λ cell other. is_lt (cell_text_order cell other))
+    in_cell_order (λ cell. refl) (λ cell other others. refl) test cells
 
 -- ---- lists
 
@@ -92,14 +89,17 @@ less Greater is = cc
 
 module _ {K : Type 0} (R : K → K → Ordering) (o : IsTotalOrder R) (same : IsAntisymmetric R) where
   -- a key below all of these is none of them
-  below_none : {X : Type 0} (q : K) (es : List (K × X)) → T (finite.Entries.below_all R q es) → times (eq_by_cmp R q) (map (λ e. e.0) es) ≡ 0
+  below_none : {X : Type 0} (q : K) (es : List (K × X)) → T (finite.Entries.below_all R q es)
+      → times (eq_by_cmp R q) (map (λ e. e.0) es) ≡ 0
   below_none q [] below = refl
   below_none q (e ∷ es) below =
       let parts = lt_parts (is_lt (R q e.0)) (finite.Entries.below_all R q es) below in
       let none = below_none q es parts.1 in
-      ap {B = ℕ} (λ b. as_number b + times (eq_by_cmp R q) (map (λ f. f.0) es)) (less (R q e.0) parts.0) ∙ ap (λ (n : ℕ). 0 + n) none
+      ap {B = ℕ} (λ b. as_number b + times (eq_by_cmp R q) (map (λ f. f.0) es)) (less (R q e.0) parts.0)
+      ∙ ap (λ (n : ℕ). 0 + n) none
 
-  times_entries : {X : Type 0} (q : K) (es : List (K × X)) → T (is_sorted R es) → times (eq_by_cmp R q) (map (λ e. e.0) es) ≡ as_number (is_some (find R q es))
+  times_entries : {X : Type 0} (q : K) (es : List (K × X)) → T (is_sorted R es)
+      → times (eq_by_cmp R q) (map (λ e. e.0) es) ≡ as_number (is_some (find R q es))
   times_entries q [] sorted = refl
   times_entries q (e ∷ es) sorted = at (eq_by_cmp R q e.0) refl (times_entries q es (lt_parts _ (is_sorted R es) sorted).1)
     where
@@ -109,18 +109,23 @@ module _ {K : Type 0} (R : K → K → Ordering) (o : IsTotalOrder R) (same : Is
       below : T (finite.Entries.below_all R e.0 es)
       below = subst T (sym (lt_parts _ (is_sorted R es) sorted).0) tt
 
-      at : (b : Bool) → eq_by_cmp R q e.0 ≡ b → times (eq_by_cmp R q) rest ≡ as_number (is_some (find R q es)) → as_number b + times (eq_by_cmp R q) rest ≡ as_number (is_some (cond b (Some e.1) (find R q es)))
+      at : (b : Bool) → eq_by_cmp R q e.0 ≡ b → times (eq_by_cmp R q) rest ≡ as_number (is_some (find R q es))
+          → as_number b + times (eq_by_cmp R q) rest ≡ as_number (is_some (cond b (Some e.1) (find R q es)))
       at true tie later =
-          let none : times (eq_by_cmp R q) rest ≡ 0 = subst (λ k. times (eq_by_cmp R k) rest ≡ 0) (sym (tied R o same q e.0 tie)) (below_none e.0 es below) in
+          let none : times (eq_by_cmp R q) rest ≡ 0 =
+          subst (λ k. times (eq_by_cmp R k) rest ≡ 0) (sym (tied R o same q e.0 tie)) (below_none e.0 es below) in
           ap (λ (n : ℕ). 1 + n) none
       at false tie later = omega (arith, later)
 
   -- a key of a map stands once among its keys
-  pub times_keys : {X : Type 0} (q : K) (m : FinMap R X) → times (eq_by_cmp R q) (finite.keys m) ≡ as_number (finite.contains_key m q)
-  times_keys q m = times_entries q (finite.entries m) (entries_sorted m) ∙ ap (λ found. as_number (is_some found)) (sym (get-entries m q))
+  pub times_keys : {X : Type 0} (q : K) (m : FinMap R X)
+      → times (eq_by_cmp R q) (finite.keys m) ≡ as_number (finite.contains_key m q)
+  times_keys q m = times_entries q (finite.entries m) (entries_sorted m)
+      ∙ ap (λ found. as_number (is_some found)) (sym (get-entries m q))
 
   -- a test that keys pass alike
-  pub times-filter : (p : K → Bool) (q : K) (ks : List K) → times (eq_by_cmp R q) (filter p ks) ≡ cond (p q) (times (eq_by_cmp R q) ks) 0
+  pub times-filter : (p : K → Bool) (q : K) (ks : List K)
+      → times (eq_by_cmp R q) (filter p ks) ≡ cond (p q) (times (eq_by_cmp R q) ks) 0
   times-filter p q [] = at (p q)
     where
       at : (b : Bool) → ◌≡◌ {A = ℕ} 0 (cond b 0 0)
@@ -140,7 +145,8 @@ module _ {K : Type 0} (R : K → K → Ordering) (o : IsTotalOrder R) (same : Is
       at true is true tie later =
           let here : p q ≡ true = ap p (tied R o same q k tie) ∙ is in
           rw (tie, here) (ap (λ (n : ℕ). 1 + n) (later ∙ ap {B = ℕ} (λ b. cond b more 0) here))
-      at true is false tie later = rw tie (let z : 0 + times (eq_by_cmp R q) (filter p ks) ≡ times (eq_by_cmp R q) (filter p ks) = omega arith in z ∙ later ∙ none (p q))
+      at true is false tie later = rw tie (let z : 0 + times (eq_by_cmp R q) (filter p ks)
+          ≡ times (eq_by_cmp R q) (filter p ks) = omega arith in z ∙ later ∙ none (p q))
       at false is true tie later =
           let here : p q ≡ false = ap p (tied R o same q k tie) ∙ is in
           later ∙ ap {B = ℕ} (λ b. cond b more 0) here ∙ sym (ap {B = ℕ} (λ b. cond b (1 + more) 0) here)
@@ -154,7 +160,8 @@ either false true = refl
 either false false = refl
 
 -- a key stands once where it has an area or a persistent bucket, and nowhere else
-pub times_stored : (d : Saved) (q : PlainKey) → times (eq_by_cmp key_order q) (stored_keys d) ≡ as_number (finite.contains_key d.under.areas q || finite.contains_key d.under.persistent q)
+pub times_stored : (d : Saved) (q : PlainKey) → times (eq_by_cmp key_order q) (stored_keys d)
+    ≡ as_number (finite.contains_key d.under.areas q || finite.contains_key d.under.persistent q)
 times_stored d q =
     let of_areas = finite.keys d.under.areas in
     let of_modes = finite.keys d.under.persistent in
@@ -163,9 +170,11 @@ times_stored d q =
     let a = finite.contains_key d.under.areas q in
     times_by_text test (of_areas ++ filter has_no_area of_modes)
     ∙ times-append test of_areas (filter has_no_area of_modes)
-    ∙ ap (λ (n : ℕ). n + times test (filter has_no_area of_modes)) (times_keys key_order key_order_total key_order_same q d.under.areas)
+    ∙ ap (λ (n : ℕ). n + times test (filter has_no_area of_modes))
+    (times_keys key_order key_order_total key_order_same q d.under.areas)
     ∙ ap (λ (n : ℕ). as_number a + n)
-    (times-filter key_order key_order_total key_order_same has_no_area q of_modes ∙ ap (λ (n : ℕ). cond (not a) n 0) (times_keys key_order key_order_total key_order_same q d.under.persistent))
+    (times-filter key_order key_order_total key_order_same has_no_area q of_modes
+    ∙ ap (λ (n : ℕ). cond (not a) n 0) (times_keys key_order key_order_total key_order_same q d.under.persistent))
     ∙ either a (finite.contains_key d.under.persistent q)
 
 number_some : (b : Bool) → nat_lt 0 (as_number b) ≡ b

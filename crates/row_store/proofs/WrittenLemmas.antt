@@ -73,7 +73,8 @@ module _ (first second third : List PlainChange) where
       let outer = both HasTexts (first ++ second) third (recursion_from_All HasTexts _ has) in
       let inner = both HasTexts first second outer.0 in
       All-append HasTexts (first ++ map kept_change second) third
-      (All-append HasTexts first (map kept_change second) (All-from_recursion HasTexts first inner.0) (All-from_recursion HasTexts _ (texts_kept second inner.1)))
+      (All-append HasTexts first (map kept_change second) (All-from_recursion HasTexts first inner.0)
+      (All-from_recursion HasTexts _ (texts_kept second inner.1)))
       (All-from_recursion HasTexts third outer.1)
 
 -- ---- row changes without a cookie stay
@@ -97,31 +98,42 @@ areas_stay areas =
   where
     key_stays : (key : PlainKey) → map kept_change (key_rows_in areas key) ≡ key_rows_in areas key
     key_stays key =
-        map-append kept_change (pair_rows key (pairs_at key (areas_alone areas))) (mode_rows key (finite.contains_key (areas_alone areas).under.persistent key))
-        ∙ (λ i. pairs_stay key (pairs_at key (areas_alone areas)) i ++ mode_stays key (finite.contains_key (areas_alone areas).under.persistent key) i)
+        map-append kept_change (pair_rows key (pairs_at key (areas_alone areas)))
+        (mode_rows key (finite.contains_key (areas_alone areas).under.persistent key))
+        ∙ (λ i. pairs_stay key (pairs_at key (areas_alone areas)) i
+        ++ mode_stays key (finite.contains_key (areas_alone areas).under.persistent key) i)
 
 module _ (areas : storage.Entries) (entries : cookies.Entries) (grants : PlainGrants) where
-  kept_listed : area_rows areas ++ map kept_change (cookie_rows_in which.Persistent entries) ++ map (λ row. Grant row) grants.rows ≡ listed (kept_of (saved_in areas entries grants))
+  kept_listed : area_rows areas ++ map kept_change (cookie_rows_in which.Persistent entries)
+      ++ map (λ row. Grant row) grants.rows ≡ listed (kept_of (saved_in areas entries grants))
   kept_listed = λ i.
       areas_listed areas entries grants i
-      ++ (ap (map kept_change) (cells_listed areas entries grants which.Persistent) ∙ sym (cells_kept (saved_in areas entries grants))) i
+      ++ (ap (map kept_change) (cells_listed areas entries grants which.Persistent)
+      ∙ sym (cells_kept (saved_in areas entries grants))) i
       ++ map (λ row. Grant row) grants.rows
 
   -- the persistent cookies as they stand are written as what outlives a restart of all
-  pub body_kept : (body : List ℕ) → IsWritten [] (all_rows which.Persistent areas entries grants) body → IsWritten [] (listed (kept_of (saved_in areas entries grants))) body
+  pub body_kept : (body : List ℕ) → IsWritten [] (all_rows which.Persistent areas entries grants) body
+      → IsWritten [] (listed (kept_of (saved_in areas entries grants))) body
   body_kept body written = subst (λ rows. IsWritten [] rows body) kept_listed (record {
-    bytes = written.bytes ∙ bytes_between (area_rows areas) (cookie_rows_in which.Persistent entries) (map (λ row. Grant row) grants.rows);
-    texts = texts_between (area_rows areas) (cookie_rows_in which.Persistent entries) (map (λ row. Grant row) grants.rows) written.texts;
+    bytes = written.bytes ∙ bytes_between (area_rows areas) (cookie_rows_in which.Persistent entries)
+        (map (λ row. Grant row) grants.rows);
+    texts = texts_between (area_rows areas) (cookie_rows_in which.Persistent entries)
+        (map (λ row. Grant row) grants.rows) written.texts;
   })
 
   -- and listed as what outlives a restart of all
-  pub rows_kept : map kept_change (all_rows which.Persistent areas entries grants) ≡ listed (kept_of (saved_in areas entries grants))
+  pub rows_kept : map kept_change (all_rows which.Persistent areas entries grants)
+      ≡ listed (kept_of (saved_in areas entries grants))
   rows_kept =
       map-append kept_change (area_rows areas ++ cookie_rows_in which.Persistent entries) (map (λ row. Grant row) grants.rows)
       ∙ (λ i. (map-append kept_change (area_rows areas) (cookie_rows_in which.Persistent entries)
-      ∙ ap (λ l. l ++ map kept_change (cookie_rows_in which.Persistent entries)) (areas_stay areas)) i ++ grants_stay grants.rows i)
+      ∙ ap (λ l. l ++ map kept_change (cookie_rows_in which.Persistent entries)) (areas_stay areas)) i
+      ++ grants_stay grants.rows i)
       ∙ kept_listed
 
-  pub listed_kept : (before rows : List Change) → before ≡ [] → IsListed before (map kept_change (all_rows which.Persistent areas entries grants)) rows
+  pub listed_kept : (before rows : List Change) → before ≡ []
+      → IsListed before (map kept_change (all_rows which.Persistent areas entries grants)) rows
       → map plain_change rows ≡ listed (kept_of (saved_in areas entries grants))
-  listed_kept before rows none is = is ∙ ap (λ b. map plain_change b ++ map kept_change (all_rows which.Persistent areas entries grants)) none ∙ rows_kept
+  listed_kept before rows none is = is ∙ ap (λ b. map plain_change b
+      ++ map kept_change (all_rows which.Persistent areas entries grants)) none ∙ rows_kept

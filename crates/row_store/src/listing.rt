@@ -1,5 +1,5 @@
 //! The row changes of a snapshot, one after another.
-ghost use Rattle.std.specs.Prelude.{◌≡◌, OnOk, drop, map, take};
+ghost use Rattle.std.specs.Prelude.{OnOk, drop, map, take};
 ghost use Rattle.access_grants.specs.Plain.{plain_grant};
 ghost use Rattle.storage_key.specs.Plain.{plain_key};
 ghost use Rattle.row_changes.specs.Change as plain;

@@ -39,25 +39,34 @@ module _ (rules : List Rule) (site : PlainSite) where
 
   entries_append : (touched : List Domain) (w : AgentWorld) (ls ks : List PlainAction)
       → local_entries (machine rules) site touched w (ls ++ ks)
-      ≡ local_entries (machine rules) site touched w ls ++ local_entries (machine rules) site (touched_after (machine rules) site touched w ls) (world_after (machine rules) w ls) ks
+      ≡ local_entries (machine rules) site touched w ls
+      ++ local_entries (machine rules) site (touched_after (machine rules) site touched w ls)
+      (world_after (machine rules) w ls) ks
   entries_append touched w [] ks = refl
   entries_append touched w (l ∷ ls) ks =
-      ap (λ es. line_entries (machine rules) site touched w l ++ es) (entries_append (line_touched (machine rules) site touched w l) (world_step (machine rules) w l) ls ks)
+      ap (λ es. line_entries (machine rules) site touched w l ++ es)
+      (entries_append (line_touched (machine rules) site touched w l) (world_step (machine rules) w l) ls ks)
       ∙ sym (append_assoc (line_entries (machine rules) site touched w l) _ _)
 
   touched_append : (touched : List Domain) (w : AgentWorld) (ls ks : List PlainAction)
       → touched_after (machine rules) site touched w (ls ++ ks)
       ≡ touched_after (machine rules) site (touched_after (machine rules) site touched w ls) (world_after (machine rules) w ls) ks
   touched_append touched w [] ks = refl
-  touched_append touched w (l ∷ ls) ks = touched_append (line_touched (machine rules) site touched w l) (world_step (machine rules) w l) ls ks
+  touched_append touched w (l ∷ ls) ks = touched_append (line_touched (machine rules) site touched w l)
+      (world_step (machine rules) w l) ls ks
 
-  tally_append : (told more : List AgentReply) (made new : List (DurableChange PlainSite PlainChange)) → tally_of rules site (told ++ more) (made ++ new) ≡ both (tally_of rules site told made) (tally_of rules site more new)
+  tally_append : (told more : List AgentReply) (made new : List (DurableChange PlainSite PlainChange))
+      → tally_of rules site (told ++ more) (made ++ new) ≡ both (tally_of rules site told made) (tally_of rules site more new)
   tally_append told more made new =
-      let replies_sum = ap length (of_site_append (machine rules) site told more) ∙ length-append (of_site (machine rules) site told) (of_site (machine rules) site more) in
-      let changes_sum = ap length (changes_append (machine rules) site made new) ∙ length-append (changes_of_site (machine rules) site made) (changes_of_site (machine rules) site new) in
+      let replies_sum = ap length (of_site_append (machine rules) site told more)
+      ∙ length-append (of_site (machine rules) site told) (of_site (machine rules) site more) in
+      let changes_sum = ap length (changes_append (machine rules) site made new)
+      ∙ length-append (changes_of_site (machine rules) site made) (changes_of_site (machine rules) site new) in
       λ i. record { replies = replies_sum i; changes = changes_sum i }
 
-  lines_append : (w : AgentWorld) (ls ks : List PlainAction) → lines_tally rules site w (ls ++ ks) ≡ both (lines_tally rules site w ls) (lines_tally rules site (world_after (machine rules) w ls) ks)
+  lines_append : (w : AgentWorld) (ls ks : List PlainAction)
+      → lines_tally rules site w (ls ++ ks) ≡ both (lines_tally rules site w ls)
+      (lines_tally rules site (world_after (machine rules) w ls) ks)
   lines_append w ls ks =
       (λ i. tally_of rules site (replies_append (machine rules) w ls ks i) (all_changes_append (machine rules) w ls ks i))
       ∙ tally_append (replies (machine rules) w ls) _ (all_changes (machine rules) w ls) _
@@ -70,23 +79,29 @@ module _ (rules : List Rule) (site : PlainSite) where
   items_append : (touched : List Domain) (x : AgentOpening) (ss : List (Stretch PlainAction)) (es : List (Epoch PlainAction))
       → let o = opening_after (machine rules) keeping x ss in
       local_items (machine rules) keeping site touched x.rest x.state (epochs ss ++ es)
-      ≡ local_items (machine rules) keeping site touched x.rest x.state (epochs ss) ++ local_items (machine rules) keeping site (closed_touched rules site touched x ss) o.rest o.state es
+      ≡ local_items (machine rules) keeping site touched x.rest x.state (epochs ss)
+      ++ local_items (machine rules) keeping site (closed_touched rules site touched x ss) o.rest o.state es
   items_append touched x [] es = refl
   items_append touched x (s ∷ ss) es =
       let w = begins (machine rules) keeping x in
       let here = happenings (local_entries (machine rules) site touched w (tried s.epoch)) in
       let restart : AgentItem =
-      Restarts ((machine rules).moment (world_after (machine rules) w s.epoch.executed).rest) (length (of_site (machine rules) site (acknowledged_replies (machine rules) w s.epoch)))
+      Restarts ((machine rules).moment (world_after (machine rules) w s.epoch.executed).rest)
+      (length (of_site (machine rules) site (acknowledged_replies (machine rules) w s.epoch)))
       (length (changes_of_site (machine rules) site (kept_changes (machine rules) w s.epoch))) in
-      ap (λ is. here ++ restart ∷ is) (items_append (touched_after (machine rules) site touched w (tried s.epoch)) (next_opening (machine rules) keeping x s) ss es)
+      ap (λ is. here ++ restart ∷ is)
+      (items_append (touched_after (machine rules) site touched w (tried s.epoch))
+      (next_opening (machine rules) keeping x s) ss es)
       ∙ sym (append_assoc here _ _)
 
   touched_more : (touched : List Domain) (x : AgentOpening) (ss : List (Stretch PlainAction)) (s : Stretch PlainAction)
       → closed_touched rules site touched x (ss ++ s ∷ [])
-      ≡ touched_after (machine rules) site (closed_touched rules site touched x ss) (begins (machine rules) keeping (opening_after (machine rules) keeping x ss)) (tried s.epoch)
+      ≡ touched_after (machine rules) site (closed_touched rules site touched x ss)
+      (begins (machine rules) keeping (opening_after (machine rules) keeping x ss)) (tried s.epoch)
   touched_more touched x [] s = refl
   touched_more touched x (t ∷ ss) s =
-      touched_more (touched_after (machine rules) site touched (begins (machine rules) keeping x) (tried t.epoch)) (next_opening (machine rules) keeping x t) ss s
+      touched_more (touched_after (machine rules) site touched (begins (machine rules) keeping x)
+      (tried t.epoch)) (next_opening (machine rules) keeping x t) ss s
 
   -- ---- a course
 
@@ -118,37 +133,52 @@ module _ (rules : List Rule) (site : PlainSite) where
     left = has_own site (touched_after (machine rules) site before w (executed_lines r))
 
     -- one line more
-    open_more : (l : PlainAction) → open_items (executed_lines (wait r l)) ≡ open_items (executed_lines r) ++ happenings (line_entries (machine rules) site (touched_by site left) (world_on rules x r) l)
+    open_more : (l : PlainAction) → open_items (executed_lines (wait r l)) ≡ open_items (executed_lines r)
+        ++ happenings (line_entries (machine rules) site (touched_by site left) (world_on rules x r) l)
     open_more l =
         let v = world_on rules x r in
         let others = touched_after (machine rules) site before w (executed_lines r) in
         ap open_items (sym (append_assoc r.answered r.waiting (l ∷ [])))
         ∙ ap happenings (entries_append before w (executed_lines r) (l ∷ []))
-        ∙ happenings_append (local_entries (machine rules) site before w (executed_lines r)) (line_entries (machine rules) site others v l ++ [])
-        ∙ ap (λ es. open_items (executed_lines r) ++ happenings es) (append-nil (line_entries (machine rules) site others v l) ∙ entries_same rules site others (touched_by site left) (sym (own_kept site left)) v l)
+        ∙ happenings_append (local_entries (machine rules) site before w (executed_lines r))
+        (line_entries (machine rules) site others v l ++ [])
+        ∙ ap (λ es. open_items (executed_lines r) ++ happenings es)
+        (append-nil (line_entries (machine rules) site others v l)
+        ∙ entries_same rules site others (touched_by site left) (sym (own_kept site left)) v l)
 
     left_more : (l : PlainAction)
         → has_own site (touched_after (machine rules) site before w (executed_lines (wait r l)))
         ≡ has_own site (line_touched (machine rules) site (touched_by site left) (world_on rules x r) l)
     left_more l =
         let others = touched_after (machine rules) site before w (executed_lines r) in
-        ap (λ ls. has_own site (touched_after (machine rules) site before w ls)) (sym (append_assoc r.answered r.waiting (l ∷ [])))
+        ap (λ ls. has_own site (touched_after (machine rules) site before w ls))
+        (sym (append_assoc r.answered r.waiting (l ∷ [])))
         ∙ ap (has_own site) (touched_append before w (executed_lines r) (l ∷ []))
         ∙ touched_same rules site others (touched_by site left) (sym (own_kept site left)) (world_on rules x r) l
 
     waiting_more : (l : PlainAction)
         → lines_tally rules site (world_after (machine rules) w r.answered) (r.waiting ++ l ∷ [])
-        ≡ both (lines_tally rules site (world_after (machine rules) w r.answered) r.waiting) (line_tally rules site (world_on rules x r) l)
+        ≡ both (lines_tally rules site (world_after (machine rules) w r.answered) r.waiting)
+        (line_tally rules site (world_on rules x r) l)
     waiting_more l =
         let v = world_after (machine rules) w r.answered in
         lines_append v r.waiting (l ∷ [])
-        ∙ ap (both (lines_tally rules site v r.waiting)) (one_line (world_after (machine rules) v r.waiting) l ∙ ap (λ u. line_tally rules site u l) (sym (world_append (machine rules) w r.answered r.waiting)))
+        ∙ ap (both (lines_tally rules site v r.waiting))
+        (one_line (world_after (machine rules) v r.waiting) l
+        ∙ ap (λ u. line_tally rules site u l) (sym (world_append (machine rules) w r.answered r.waiting)))
 
     line_grows : (l : PlainAction) → collected_on rules site x (wait r l) ≡ with_line rules site (world_on rules x r) l c
     unfolding collected_on
     line_grows l =
-        let items = ap (λ is. closed_items ++ is) (open_more l) ∙ sym (append_assoc closed_items (open_items (executed_lines r)) _) in
-        λ i. record { items = items i; changed = left_more l i; answered = lines_tally rules site w r.answered; waiting = waiting_more l i }
+        let items = ap (λ is. closed_items ++ is) (open_more l)
+        ∙ sym (append_assoc closed_items (open_items (executed_lines r)) _) in
+        λ i. record {
+          items = items i;
+          changed = left_more l i;
+          answered =
+              lines_tally rules site w r.answered;
+          waiting = waiting_more l i;
+        }
 
     commit_grows : collected_on rules site x (answer_all r) ≡ with_commit c
     unfolding collected_on
@@ -183,27 +213,40 @@ module _ (rules : List Rule) (site : PlainSite) where
           let number : kept ≡ length (all_changes (machine rules) w r.answered) = omega (arith, is) in
           ap (λ ls. take kept (all_changes (machine rules) w ls)) all_tried
           ∙ ap (λ n. take n (all_changes (machine rules) w (executed_lines r))) number
-          ∙ ap (take (length (all_changes (machine rules) w r.answered))) (all_changes_append (machine rules) w r.answered r.waiting)
+          ∙ ap (take (length (all_changes (machine rules) w r.answered)))
+          (all_changes_append (machine rules) w r.answered r.waiting)
           ∙ take-append_seam (all_changes (machine rules) w r.answered) _
 
-      closes : local_items (machine rules) keeping site before o.rest o.state (e ∷ []) ≡ open_items (executed_lines r) ++ closing now c ∷ []
+      closes : local_items (machine rules) keeping site before o.rest o.state (e ∷ [])
+          ≡ open_items (executed_lines r) ++ closing now c ∷ []
       unfolding collected_on machine
       closes = λ i.
           open_items (all_tried i)
-          ++ Restarts now (length (of_site (machine rules) site (told i))) (length (changes_of_site (machine rules) site (made i))) ∷ []
+          ++ Restarts now (length (of_site (machine rules) site (told i)))
+          (length (changes_of_site (machine rules) site (made i))) ∷ []
 
-      closed_more : local_items (machine rules) keeping site [] x.rest x.state (epochs r.closed ++ e ∷ []) ≡ (with_restart now c).items
+      closed_more : local_items (machine rules) keeping site [] x.rest x.state (epochs r.closed ++ e ∷ [])
+          ≡ (with_restart now c).items
       unfolding collected_on
-      closed_more = items_append [] x r.closed (e ∷ []) ∙ ap (λ is. closed_items ++ is) closes ∙ sym (append_assoc closed_items (open_items (executed_lines r)) _)
+      closed_more = items_append [] x r.closed (e ∷ []) ∙ ap (λ is. closed_items ++ is) closes
+          ∙ sym (append_assoc closed_items (open_items (executed_lines r)) _)
 
       restart_grows : collected_on rules site x (reopen r kept) ≡ with_restart now c
       unfolding collected_on
       restart_grows =
           let items =
           append-nil (local_items (machine rules) keeping site [] x.rest x.state (epochs (r.closed ++ stretch_of r kept ∷ [])))
-          ∙ ap (local_items (machine rules) keeping site [] x.rest x.state) (epochs_more r.closed (stretch_of r kept)) ∙ closed_more in
-          let changed = ap (has_own site) (touched_more [] x r.closed (stretch_of r kept)) ∙ ap (λ ls. has_own site (touched_after (machine rules) site before w ls)) all_tried in
-          λ i. record { items = items i; changed = changed i; answered = record { replies = 0; changes = 0 }; waiting = record { replies = 0; changes = 0 } }
+          ∙ ap (local_items (machine rules) keeping site [] x.rest x.state)
+          (epochs_more r.closed (stretch_of r kept)) ∙ closed_more in
+          let changed = ap (has_own site) (touched_more [] x r.closed (stretch_of r kept))
+          ∙ ap (λ ls. has_own site (touched_after (machine rules) site before w ls)) all_tried in
+          λ i. record {
+            items = items i;
+            changed = changed i;
+            answered =
+                record { replies = 0; changes = 0 };
+            waiting = record { replies = 0; changes = 0 };
+          }
 
     waits : (collected_on rules site x r).waiting
         ≡ tally_of rules site (stands (machine rules) keeping o r).held (stands (machine rules) keeping o r).pending
@@ -232,4 +275,5 @@ waits_as_held rules site x r = waits rules site x r
 
 pub holds_more : HoldsMore
 unfolding holding
-holds_more rules site a l = tally_append rules site a.held (line_reply (machine rules) a.world l ∷ []) a.pending (line_changes (machine rules) a.world l)
+holds_more rules site a l = tally_append rules site a.held (line_reply (machine rules) a.world l ∷ [])
+    a.pending (line_changes (machine rules) a.world l)

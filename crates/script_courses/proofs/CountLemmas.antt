@@ -47,17 +47,29 @@ module _ (rules : List Rule) (site : PlainSite) where
 
   few_replies : (told : List AgentReply) → length (of_site (machine rules) site told) ≤ length told
   few_replies [] = omega arith
-  few_replies (one ∷ told) = omega (arith, length-append (reply_of_site (machine rules) site one.site one.reply) (of_site (machine rules) site told), one_reply one.site one.reply, few_replies told)
+  few_replies (one ∷ told) = omega (
+    arith,
+    length-append (reply_of_site (machine rules) site one.site one.reply)
+        (of_site (machine rules) site told),
+    one_reply one.site one.reply,
+    few_replies told,
+  )
 
   one_change : (b : Bool) (made : DurableChange PlainSite PlainChange) → length (when_of_site (machine rules) b made) ≤ 1
   one_change true made = omega arith
   one_change false made = omega arith
 
-  few_changes : (made : List (DurableChange PlainSite PlainChange)) → length (changes_of_site (machine rules) site made) ≤ length made
+  few_changes : (made : List (DurableChange PlainSite PlainChange))
+      → length (changes_of_site (machine rules) site made) ≤ length made
   few_changes [] = omega arith
   few_changes (one ∷ made) =
       let own = when_of_site (machine rules) ((machine rules).same_site site one.site) one in
-      omega (arith, length-append own (changes_of_site (machine rules) site made), one_change ((machine rules).same_site site one.site) one, few_changes made)
+      omega (
+        arith,
+        length-append own (changes_of_site (machine rules) site made),
+        one_change ((machine rules).same_site site one.site) one,
+        few_changes made,
+      )
 
   -- of some lines
   replies_few : (w : AgentWorld) (ls : List PlainAction) → (lines_tally rules site w ls).replies ≤ length ls
@@ -70,13 +82,20 @@ module _ (rules : List Rule) (site : PlainSite) where
   take_few : {A : Type 0} (n : ℕ) (xs : List A) → length (take n xs) ≤ length xs
   take_few n xs = omega (arith, length-take n xs)
 
-  epoch_few : (w : AgentWorld) (e : Epoch PlainAction) → length (of_site (machine rules) site (acknowledged_replies (machine rules) w e)) ≤ length e.executed
+  epoch_few : (w : AgentWorld) (e : Epoch PlainAction)
+      → length (of_site (machine rules) site (acknowledged_replies (machine rules) w e)) ≤ length e.executed
   unfolding acknowledged_replies
   epoch_few w e =
       let told = replies (machine rules) w e.executed in
-      omega (arith, few_replies (take e.acknowledged told), take_few e.acknowledged told, length_replies (machine rules) w e.executed)
+      omega (
+        arith,
+        few_replies (take e.acknowledged told),
+        take_few e.acknowledged told,
+        length_replies (machine rules) w e.executed,
+      )
 
-  closed_few : (x : AgentOpening) (ss : List (Stretch PlainAction)) → length (world_replies (machine rules) keeping site x.rest x.state (epochs ss)) ≤ length (closed_steps ss)
+  closed_few : (x : AgentOpening) (ss : List (Stretch PlainAction))
+      → length (world_replies (machine rules) keeping site x.rest x.state (epochs ss)) ≤ length (closed_steps ss)
   closed_few x [] = omega arith
   closed_few x (s ∷ ss) =
       let w : AgentWorld = restarted keeping x.rest x.state in
@@ -129,4 +148,9 @@ module _ (rules : List Rule) (site : PlainSite) where
 
     pub few_made : c.answered.changes + c.waiting.changes ≤ length (course_steps r)
     unfolding collected_on
-    few_made = omega (arith, steps_length, changes_few w r.answered, changes_few (world_after (machine rules) w r.answered) r.waiting)
+    few_made = omega (
+      arith,
+      steps_length,
+      changes_few w r.answered,
+      changes_few (world_after (machine rules) w r.answered) r.waiting,
+    )

@@ -22,7 +22,8 @@ own_append : (site : PlainSite) (xs ys : List Domain) → has_own site (xs ++ ys
 own_append site [] ys = refl
 own_append site (x ∷ xs) ys = at (bytes_eq site.host x) (own_append site xs ys)
   where
-    at : (b : Bool) → has_own site (xs ++ ys) ≡ (has_own site xs || has_own site ys) → cond b true (has_own site (xs ++ ys)) ≡ (cond b true (has_own site xs) || has_own site ys)
+    at : (b : Bool) → has_own site (xs ++ ys) ≡ (has_own site xs || has_own site ys)
+        → cond b true (has_own site (xs ++ ys)) ≡ (cond b true (has_own site xs) || has_own site ys)
     at true rest = refl
     at false rest = rest
 
@@ -34,7 +35,8 @@ own_kept site false = refl
 module _ (rules : List Rule) (site : PlainSite) where
   -- ---- entries
 
-  held_same : (touched other : List Domain) → has_own site touched ≡ has_own site other → (c : Domain) → is_held (machine rules) site touched c ≡ is_held (machine rules) site other c
+  held_same : (touched other : List Domain) → has_own site touched ≡ has_own site other → (c : Domain)
+      → is_held (machine rules) site touched c ≡ is_held (machine rules) site other c
   unfolding machine
   held_same touched other same c = at (bytes_eq site.host c) refl
     where
@@ -42,36 +44,50 @@ module _ (rules : List Rule) (site : PlainSite) where
       at true is = subst (λ d. is_in bytes_eq d touched ≡ is_in bytes_eq d other) ((bytes_eq-Decides site.host c).0 is) same
       at false is = refl
 
-  main_same : (touched other : List Domain) → has_own site touched ≡ has_own site other → (w : AgentWorld) (o : Option SiteOccurrence) → main_entries (machine rules) site touched w o ≡ main_entries (machine rules) site other w o
+  main_same : (touched other : List Domain) → has_own site touched ≡ has_own site other
+      → (w : AgentWorld) (o : Option SiteOccurrence)
+      → main_entries (machine rules) site touched w o ≡ main_entries (machine rules) site other w o
   unfolding machine
   main_same touched other same w None = refl
   main_same touched other same w (Some a) = λ i.
       cond (same_plain_site site a.site)
-      (record { event = a.event; held = held_cells (machine rules) (λ c. held_same touched other same c i) w.cells (event_names rules (w.partition a.site) a.event.event ++ []) } ∷ [])
+      (record {
+        event = a.event;
+        held = held_cells (machine rules) (λ c. held_same touched other same c i)
+            w.cells (event_names rules (w.partition a.site) a.event.event ++ []);
+      } ∷ [])
       []
 
-  pub entries_same : (touched other : List Domain) → has_own site touched ≡ has_own site other → (w : AgentWorld) (l : PlainAction) → line_entries (machine rules) site touched w l ≡ line_entries (machine rules) site other w l
+  pub entries_same : (touched other : List Domain) → has_own site touched ≡ has_own site other
+      → (w : AgentWorld) (l : PlainAction) → line_entries (machine rules) site touched w l
+      ≡ line_entries (machine rules) site other w l
   unfolding line_entries
-  entries_same touched other same w l = ap (λ es. side_entries (machine rules) ((machine rules).side w l site) ++ es) (main_same touched other same (after_sides (machine rules) w l) ((machine rules).main w l))
+  entries_same touched other same w l = ap (λ es. side_entries (machine rules) ((machine rules).side w l site)
+      ++ es) (main_same touched other same (after_sides (machine rules) w l) ((machine rules).main w l))
 
   -- ---- what a line leaves different
 
-  touched_main : (touched other : List Domain) → has_own site touched ≡ has_own site other → (w : AgentWorld) (o : Option SiteOccurrence)
+  touched_main : (touched other : List Domain) → has_own site touched ≡ has_own site other
+      → (w : AgentWorld) (o : Option SiteOccurrence)
       → has_own site (main_touched (machine rules) site touched w o) ≡ has_own site (main_touched (machine rules) site other w o)
   touched_main touched other same w None = same
   touched_main touched other same w (Some a) = at ((machine rules).same_site site a.site)
     where
       more : List Domain
-      more = changed_cells (machine rules) w.cells (after_main (machine rules) w (Some a)).cells ((machine rules).names (w.partition a.site) a.event)
+      more = changed_cells (machine rules) w.cells (after_main (machine rules) w (Some a)).cells
+          ((machine rules).names (w.partition a.site) a.event)
 
       at : (b : Bool) → has_own site (cond b touched (touched ++ more)) ≡ has_own site (cond b other (other ++ more))
       at true = same
       at false = own_append site touched more ∙ ap (λ b. b || has_own site more) same ∙ sym (own_append site other more)
 
-  pub touched_same : (touched other : List Domain) → has_own site touched ≡ has_own site other → (w : AgentWorld) (l : PlainAction)
+  pub touched_same : (touched other : List Domain) → has_own site touched ≡ has_own site other
+      → (w : AgentWorld) (l : PlainAction)
       → has_own site (line_touched (machine rules) site touched w l) ≡ has_own site (line_touched (machine rules) site other w l)
   unfolding line_touched
-  touched_same touched other same w l = touched_main touched other same (after_sides (machine rules) w l) ((machine rules).main w l)
+  touched_same touched other same w l = touched_main touched other same (after_sides (machine rules) w l)
+      ((machine rules).main w l)
 
 pub goes_by_own_domain : GoesByOwnDomain
-goes_by_own_domain rules site touched other w l same = (entries_same rules site touched other same w l, touched_same rules site touched other same w l)
+goes_by_own_domain rules site touched other w l same =
+    (entries_same rules site touched other same w l, touched_same rules site touched other same w l)

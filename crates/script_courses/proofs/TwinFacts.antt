@@ -51,17 +51,21 @@ ends_alone = refl
 
 -- a restart is an entry; it has the moment that the lines before it reached
 restarts : items (Acts (Tick 1) ∷ Reopens ∷ []) ≡ Restarts 8 0 0 ∷ Restarts 8 0 0 ∷ []
-unfolding history_script good_history acknowledged_replies line_changes line_entries line_touched machine keeping main_event side_event refusal rest_after world_step next_durable
+unfolding history_script good_history acknowledged_replies line_changes line_entries line_touched machine
+    keeping main_event side_event refusal rest_after world_step next_durable
 restarts = refl
 
 -- the entry of a line that a restart loses stays, and its reply is not acknowledged
-stays : items (Acts (Evict (site a)) ∷ Reopens ∷ []) ≡ Happens (record { event = record { moment = 7; event = Evicts }; held = [] }) ∷ Restarts 7 0 0 ∷ Restarts 7 0 0 ∷ []
-unfolding history_script good_history acknowledged_replies line_entries line_touched machine keeping main_event side_event refusal rest_after world_step next_durable
+stays : items (Acts (Evict (site a)) ∷ Reopens ∷ [])
+    ≡ Happens (record { event = record { moment = 7; event = Evicts }; held = [] }) ∷ Restarts 7 0 0 ∷ Restarts 7 0 0 ∷ []
+unfolding history_script good_history acknowledged_replies line_entries line_touched machine keeping
+    main_event side_event refusal rest_after world_step next_durable
 stays = refl
 
 -- that of another site is none
 others : items (Acts (Evict (site b)) ∷ Reopens ∷ []) ≡ Restarts 7 0 0 ∷ Restarts 7 0 0 ∷ []
-unfolding history_script good_history acknowledged_replies line_entries line_touched machine keeping main_event side_event refusal rest_after world_step next_durable
+unfolding history_script good_history acknowledged_replies line_entries line_touched machine keeping
+    main_event side_event refusal rest_after world_step next_durable
 others = refl
 
 -- two scripts without lines are equal
@@ -71,7 +75,8 @@ empty_equal = (refl, refl, refl)
 
 -- where only the ends differ, they differ at the number of entries
 ends_differ : IsTwin at [] (Acts (Tick 1) ∷ []) (LocalDiffer 0)
-unfolding history_script good_history acknowledged_replies line_changes line_entries line_touched machine keeping main_event side_event refusal rest_after world_step
+unfolding history_script good_history acknowledged_replies line_changes line_entries line_touched machine
+    keeping main_event side_event refusal rest_after world_step
 ends_differ = inr (refl, λ same. cc, refl)
 
 -- a restart that reads as the end does is an entry all the same

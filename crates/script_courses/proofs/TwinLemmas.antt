@@ -33,7 +33,8 @@ use Rattle.script_courses.specs.Twins.{acknowledged_in, count_of_site, end_of, e
 
 -- ---- lines of a site
 
-count_is : (rules : List Rule) (site : PlainSite) (told : List AgentReply) → count_of_site site told ≡ length (of_site (machine rules) site told)
+count_is : (rules : List Rule) (site : PlainSite) (told : List AgentReply)
+    → count_of_site site told ≡ length (of_site (machine rules) site told)
 unfolding machine
 count_is rules site [] = refl
 count_is rules site (one ∷ told) = at one.site one.reply (count_is rules site told)
@@ -42,17 +43,20 @@ count_is rules site (one ∷ told) = at one.site one.reply (count_is rules site 
     Counts some = count_of_site site some ≡ length (of_site (machine rules) site some)
 
     mine : (other : PlainSite) (answer : Answer) (b : Bool) → Counts told
-        → length (cond b (record { site = Some other; reply = answer } ∷ filter (λ x. is_of site x.site) told) (filter (λ x. is_of site x.site) told))
+        → length (cond b (record { site = Some other; reply = answer } ∷ filter (λ x. is_of site x.site) told)
+        (filter (λ x. is_of site x.site) told))
         ≡ length (cond b (answer ∷ []) [] ++ of_site (machine rules) site told)
     mine other answer true later = ap suc later
     mine other answer false later = later
 
-    at : (where_to : Option PlainSite) (answer : Answer) → Counts told → Counts (record { site = where_to; reply = answer } ∷ told)
+    at : (where_to : Option PlainSite) (answer : Answer) → Counts told
+        → Counts (record { site = where_to; reply = answer } ∷ told)
     at None answer later = later
     at (Some other) answer later = mine other answer (same_plain_site site other) later
 
 -- of what is given out the site's are as many as are told
-pub count_given : (rules : List Rule) (site : PlainSite) (told : List AgentReply) → length (filter (λ one. is_of site one.site) (map printed told)) ≡ length (of_site (machine rules) site told)
+pub count_given : (rules : List Rule) (site : PlainSite) (told : List AgentReply)
+    → length (filter (λ one. is_of site one.site) (map printed told)) ≡ length (of_site (machine rules) site told)
 count_given rules site told = given told ∙ count_is rules site told
   where
     given : (some : List AgentReply) → length (filter (λ one. is_of site one.site) (map printed some)) ≡ count_of_site site some
@@ -60,7 +64,8 @@ count_given rules site told = given told ∙ count_is rules site told
     given (one ∷ some) = at (is_of site one.site) (given some)
       where
         at : (b : Bool) → length (filter (λ one. is_of site one.site) (map printed some)) ≡ count_of_site site some
-            → length (cond b (printed one ∷ filter (λ x. is_of site x.site) (map printed some)) (filter (λ x. is_of site x.site) (map printed some)))
+            → length (cond b (printed one ∷ filter (λ x. is_of site x.site) (map printed some))
+            (filter (λ x. is_of site x.site) (map printed some)))
             ≡ length (cond b (one ∷ filter (λ x. is_of site x.site) some) (filter (λ x. is_of site x.site) some))
         at true rest = ap suc rest
         at false rest = rest
@@ -71,8 +76,10 @@ only_restarts : (es : List AgentEntry) (items : List AgentItem) → acknowledged
 only_restarts [] items = refl
 only_restarts (e ∷ es) items = only_restarts es items
 
-pub acknowledged_is : (rules : List Rule) (site : PlainSite) (touched : List Domain) (r : Rest) (d : AgentDurable) (es : List (Epoch PlainAction))
-    → acknowledged_in (local_items (machine rules) keeping site touched r d es) ≡ length (world_replies (machine rules) keeping site r d es)
+pub acknowledged_is : (rules : List Rule) (site : PlainSite) (touched : List Domain) (r : Rest)
+    (d : AgentDurable) (es : List (Epoch PlainAction))
+    → acknowledged_in (local_items (machine rules) keeping site touched r d es)
+    ≡ length (world_replies (machine rules) keeping site r d es)
 acknowledged_is rules site touched r d [] = refl
 acknowledged_is rules site touched r d (e ∷ es) =
     let m = machine rules in
@@ -102,7 +109,8 @@ before_front (x ∷ xs) (suc n) zero less = refl
 before_front (x ∷ xs) (suc n) (suc i) less = before_front xs n i (omega (arith, less))
 
 not_before : {A : Type 0} (xs ys : List A) (p q : ℕ) → DifferAt xs ys p → DifferAt xs ys q → p < q → ⊥
-not_before xs ys p q here there less = here.items (sym (before_front xs q p less) ∙ ap (λ zs. slice_get zs p) there.fronts ∙ before_front ys q p less)
+not_before xs ys p q here there less = here.items (sym (before_front xs q p less)
+    ∙ ap (λ zs. slice_get zs p) there.fronts ∙ before_front ys q p less)
 
 one_place : {A : Type 0} (xs ys : List A) (p q : ℕ) → DifferAt xs ys p → DifferAt xs ys q → p ≡ q
 one_place xs ys p q here there = by (cases_order p q)
@@ -127,15 +135,18 @@ one_entry xs ys p q (inr here) (inr there) = here.2 ∙ sym there.2
 
 pub has_one_answer : HasOneAnswer
 has_one_answer at first second (Equal n) (Equal k) is also = ap Equal (is.1 ∙ sym also.1)
-has_one_answer at first second (Equal n) (LocalDiffer q) is also = absurd (not_equal _ _ q (ap (λ given. given.script.items) is.0) also)
-has_one_answer at first second (LocalDiffer p) (Equal k) is also = absurd (not_equal _ _ p (ap (λ given. given.script.items) also.0) is)
+has_one_answer at first second (Equal n) (LocalDiffer q) is also =
+    absurd (not_equal _ _ q (ap (λ given. given.script.items) is.0) also)
+has_one_answer at first second (LocalDiffer p) (Equal k) is also =
+    absurd (not_equal _ _ p (ap (λ given. given.script.items) also.0) is)
 has_one_answer at first second (LocalDiffer p) (LocalDiffer q) is also = ap LocalDiffer (one_entry _ _ p q is also)
 
 -- ---- the promise
 
 pub prints_the_same : HasSameLines → PrintsTheSame
 prints_the_same law at first second lines is =
-    law at.rules at.rules at.start at.start nothing_saved nothing_saved nothing_valid nothing_valid (good_history at.rules at.batch at.start first) (good_history at.rules at.batch at.start second) at.site is.0
+    law at.rules at.rules at.start at.start nothing_saved nothing_saved nothing_valid nothing_valid
+    (good_history at.rules at.batch at.start first) (good_history at.rules at.batch at.start second) at.site is.0
 
 -- ---- by entries and end
 
@@ -152,13 +163,20 @@ same_one : (x y : AgentItem) → ◌≡◌ {A = List AgentItem} (x ∷ []) (y �
 same_one x y same = cc
 
 -- two local scripts with the same items are equal: each begins with nothing stored
-same_script : (at : TwinSetting) (first second : List PlainStep) → (script_in at first).script.items ≡ (script_in at second).script.items → script_in at first ≡ script_in at second
+same_script : (at : TwinSetting) (first second : List PlainStep)
+    → (script_in at first).script.items ≡ (script_in at second).script.items → script_in at first ≡ script_in at second
 unfolding history_script
-same_script at first second same = λ i. record { rules = at.rules; script = record { beginning = (script_in at first).script.beginning; items = same i } }
+same_script at first second same = λ i. record {
+  rules = at.rules;
+  script =
+      record { beginning = (script_in at first).script.beginning; items = same i };
+}
 
 pub answers_by_items : AnswersByItems
 answers_by_items at first second xs ys x y one two = (
-  λ entry differ. inl (subst (λ zs. DifferAt zs (entries_of (items second)) entry) (sym (entries_are (items first) xs x one)) (subst (λ zs. DifferAt xs zs entry) (sym (entries_are (items second) ys y two)) differ)),
+  λ entry differ. inl (subst (λ zs. DifferAt zs (entries_of (items second)) entry)
+      (sym (entries_are (items first) xs x one)) (subst (λ zs. DifferAt xs zs entry)
+      (sym (entries_are (items second) ys y two)) differ)),
   λ same other. inr (
     entries_are (items first) xs x one ∙ same ∙ sym (entries_are (items second) ys y two),
     λ ends. other (same_one x y (sym (end_is (items first) xs x one) ∙ ends ∙ end_is (items second) ys y two)),

@@ -27,12 +27,17 @@ one_reopens front between end =
 
 module _ (rules : List Rule) (batch : ℕ) (x : AgentOpening) (actions : List PlainAction) where
   by_parts : (closed : List (Stretch PlainAction)) (committed : Bool) (end : Stretch PlainAction)
-      → IsHistoryOf rules batch x (Unit {0}) (map Acts actions) (record { closed = closed; open_end = end; committed = committed }) → EndsUp (record { closed = closed; open_end = end; committed = committed })
+      → IsHistoryOf rules batch x (Unit {0}) (map Acts actions)
+      (record { closed = closed; open_end = end; committed = committed })
+      → EndsUp (record { closed = closed; open_end = end; committed = committed })
       → IsHistoryOf rules 1 x (Unit {0}) (map Acts actions) (record { closed = closed; open_end = end; committed = committed })
   by_parts [] true end is up = record { admissible = (tt, is.admissible.1); lines = is.lines; quiet = is.quiet }
   by_parts [] false end is up = absurd (false≢true up.1)
   by_parts (s ∷ ss) committed end is up =
-      absurd (false≢true (sym (none_reopens actions) ∙ ap (list_any reopens) (sym is.lines) ∙ one_reopens (stretch_steps s) (closed_steps ss) (stretch_steps end)))
+      absurd (false≢true (sym (none_reopens actions) ∙ ap (list_any reopens) (sym is.lines)
+      ∙ one_reopens (stretch_steps s) (closed_steps ss) (stretch_steps end)))
 
-  pub in_batches_of_one : (history : History PlainAction) → IsHistoryOf rules batch x (Unit {0}) (map Acts actions) history → EndsUp history → IsHistoryOf rules 1 x (Unit {0}) (map Acts actions) history
+  pub in_batches_of_one : (history : History PlainAction)
+      → IsHistoryOf rules batch x (Unit {0}) (map Acts actions) history → EndsUp history
+      → IsHistoryOf rules 1 x (Unit {0}) (map Acts actions) history
   in_batches_of_one history is up = by_parts history.closed history.committed history.open_end is up

@@ -2,7 +2,7 @@
 use Rattle.std.proofs.Common.{◌≡◌, ℕ, ◌+◌, zero, suc, Bool, true, false, cond, ◌==◌, List, [], ◌∷◌, ◌++◌, map, refl, ap}
 use Rattle.std.specs.List.{range_with_len}
 use Rattle.unwinding.specs.Admissible.{Acts, Reopens}
-use Rattle.script_actions.specs.Action.{PlainAction, PlainStep}
+use Rattle.script_actions.specs.Action.{PlainStep}
 use Rattle.storage_events.specs.declared.event.AreaKind.TheVariants.{Local, Session}
 use Rattle.generated_day.specs.Day.{day_lines, drawn_line, drawn_lines, fetch_line, frame_line, get_line, go_line, open_line, open_lines, row, set_line, setcookie_line, tick_line}
 use Rattle.generated_day.specs.Draws.{draw, first_state, next, one_draw, two_draws}

@@ -1,5 +1,5 @@
 -- What a run over a new store in memory prints and leaves.
-use Rattle.std.proofs.Common.{◌≡◌, ℕ, ◌++◌, true, false, List, [], length, map, Option, Some, None, inl, inr, ap, refl, subst, sym, ◌∙◌, arith}
+use Rattle.std.proofs.Common.{◌≡◌, ℕ, ◌++◌, true, false, List, [], length, map, Option, Some, None, inl, inr, ap, refl, subst, ◌∙◌, arith}
 use Rattle.std.specs.Prelude.{is_some}
 use Rattle.sha2.specs.Sha256.{sha256}
 use Rattle.unwinding.specs.Admissible.{Acts}
@@ -40,16 +40,23 @@ never_done (fault.NotAStore offset) is = cc
 never_done (fault.OtherList kept given) is = cc
 never_done (fault.TooLarge len) is = cc
 
-module _ (list : RuleList) (old new : View) (steps : List PlainStep) (before after : Option (List ℕ)) (empty : old.contents ≡ Some []) (on : old.off ≡ false) (told : old.cuts ≡ Some []) where
-  done_anew : WritesOn Done list day_start day_batch day_checkpoint old steps before after new → RanAnew Done list steps before after new.may_leave
+module _ (list : RuleList) (old new : View) (steps : List PlainStep) (before after : Option (List ℕ))
+    (empty : old.contents ≡ Some []) (on : old.off ≡ false) (told : old.cuts ≡ Some []) where
+  done_anew : WritesOn Done list day_start day_batch day_checkpoint old steps before after new
+      → RanAnew Done list steps before after new.may_leave
   done_anew (inl (why, is, refused)) = absurd (never_done why is)
   done_anew (inr (base, valid, means, opens, written)) =
       let nothing : base ≡ nothing_saved = means [] nothing_saved 0 empty (inr (inl (omega arith), refl, refl)) in
       let x = opened_at day_start base in
-      subst (λ d. WritesLines Done list.rules day_batch day_checkpoint (opened_at day_start d) (Unit {0}) steps before after (LeavesHistory list day_batch (opened_at day_start d) new.may_leave)) nothing
-      (writes_other list.rules day_batch day_checkpoint x (Unit {0}) (HasNoCuts old) (LeavesDisk Done list day_batch x old new) (LeavesHistory list day_batch x new.may_leave) (λ any. (on, told)) (λ history left. left.0) before after Done steps written)
+      subst (λ d. WritesLines Done list.rules day_batch day_checkpoint (opened_at day_start d) (Unit {0})
+      steps before after (LeavesHistory list day_batch (opened_at day_start d) new.may_leave)) nothing
+      (writes_other list.rules day_batch day_checkpoint x (Unit {0}) (HasNoCuts old)
+      (LeavesDisk Done list day_batch x old new) (LeavesHistory list day_batch x new.may_leave)
+      (λ any. (on, told)) (λ history left. left.0) before after Done steps written)
 
-  ran_anew : (ending : Ending) → WritesOn ending list day_start day_batch day_checkpoint old steps before after new → WritesInMemory ending list.rules day_start day_batch day_checkpoint [] steps before after → RanAnew ending list steps before after new.may_leave
+  ran_anew : (ending : Ending) → WritesOn ending list day_start day_batch day_checkpoint old steps before
+      after new → WritesInMemory ending list.rules day_start day_batch day_checkpoint [] steps before after
+      → RanAnew ending list steps before after new.may_leave
   ran_anew Done written memory = done_anew written
   ran_anew Write written memory = tt
   ran_anew Memory written memory = tt
@@ -59,31 +66,41 @@ module _ (list : RuleList) (old new : View) (steps : List PlainStep) (before aft
   ran_anew (Store why) written (inr (beyond, never)) = never
 
 -- the same of a disk in memory that was made of no bytes, without cuts and failing calls
-pub disk_anew : (bytes fails : List ℕ) (cuts : List Cut) (disk new : MemView) (list : RuleList) (ending : Ending) (steps : List PlainStep) (before after : Option (List ℕ)) → bytes ≡ [] → cuts ≡ [] → fails ≡ []
-    → (disk.past.first ≡ bytes) × (disk.past.events ≡ []) → disk.plan ≡ record { calls = 0; cuts = cuts; fails = fails; off = None } → (fails ≡ [] → (view_of disk).cuts ≡ Some (numbers_of cuts))
-    → ((view_of disk).tells ≡ true → WritesOn ending list day_start day_batch day_checkpoint (view_of disk) steps before after (view_of new)) → RanAnew ending list steps before after (view_of new).may_leave
+pub disk_anew : (bytes fails : List ℕ) (cuts : List Cut) (disk new : MemView) (list : RuleList)
+    (ending : Ending) (steps : List PlainStep) (before after : Option (List ℕ)) → bytes ≡ [] → cuts ≡ [] → fails ≡ []
+    → (disk.past.first ≡ bytes) × (disk.past.events ≡ [])
+    → disk.plan ≡ record { calls = 0; cuts = cuts; fails = fails; off = None }
+    → (fails ≡ [] → (view_of disk).cuts ≡ Some (numbers_of cuts))
+    → ((view_of disk).tells ≡ true → WritesOn ending list day_start day_batch day_checkpoint (view_of disk)
+    steps before after (view_of new)) → RanAnew ending list steps before after (view_of new).may_leave
 disk_anew bytes fails cuts disk new list ending steps before after no_bytes no_cuts no_fails contents plan told written =
     let empty = held_nothing disk.past (contents.0 ∙ no_bytes) contents.1 in
     let on : is_some disk.plan.off ≡ false = ap (λ plan. is_some plan.off) plan in
     let none : (view_of disk).cuts ≡ Some [] = told no_fails ∙ ap (λ cs. Some (numbers_of cs)) no_cuts in
     ran_anew list (view_of disk) (view_of new) steps before after empty on none ending (written refl)
-    (memory_writes [] (view_of disk) empty on none (ap (λ plan. plan.calls) plan) ending list day_start day_batch day_checkpoint (view_of new) steps before after (written refl))
+    (memory_writes [] (view_of disk) empty on none (ap (λ plan. plan.calls) plan)
+    ending list day_start day_batch day_checkpoint (view_of new) steps before after (written refl))
 
 -- ---- under the list that has no rules
 
 module _ (list : RuleList) (is : list ≡ no_rules) (steps : List PlainStep) (images : List ℕ → Type 0) where
   -- where no line reopens, the text is that of the replies of the world of all sites
-  pub text_anew : HasOneText → (before after : List ℕ) → before ≡ [] → RanAnew Done list steps (Some before) (Some after) images → (actions : List PlainAction) → steps ≡ map Acts actions → after ≡ transcript [] day_start actions
+  pub text_anew : HasOneText → (before after : List ℕ) → before ≡ []
+      → RanAnew Done list steps (Some before) (Some after) images → (actions : List PlainAction)
+      → steps ≡ map Acts actions → after ≡ transcript [] day_start actions
   text_anew law before after nothing ran actions are =
       let done = subst (λ (l : RuleList). RanAnew Done l steps (Some before) (Some after) images) is ran in
       let history = done.0.history in
       done.0.text
       ∙ ap (λ taken. taken ++ history_text [] (begins_at day_start) history) nothing
       ∙ law [] day_start actions history
-      (in_batches_of_one [] day_batch (begins_at day_start) actions history (subst (λ lines. IsHistoryOf [] day_batch (begins_at day_start) (Unit {0}) lines history) are done.0.is) done.1)
+      (in_batches_of_one [] day_batch (begins_at day_start) actions history
+      (subst (λ lines. IsHistoryOf [] day_batch (begins_at day_start) (Unit {0}) lines history) are done.0.is) done.1)
 
   -- the length of an image is that of a store that the lines leave
-  pub store_anew : (before after : Option (List ℕ)) → RanAnew Done list steps before after images → LeavesTidy day_checkpoint list.digest images → (n : ℕ) → (file : List ℕ) × (length file ≡ n) × images file → IsStoreLength steps n
+  pub store_anew : (before after : Option (List ℕ)) → RanAnew Done list steps before after images
+      → LeavesTidy day_checkpoint list.digest images → (n : ℕ)
+      → (file : List ℕ) × (length file ≡ n) × images file → IsStoreLength steps n
   store_anew before after ran tidy n (file, len, image) =
       let done = subst (λ (l : RuleList). RanAnew Done l steps before after images) is ran in
       let stands = done.0.left file image in (
@@ -104,5 +121,6 @@ module _ (list : RuleList) (is : list ≡ no_rules) (steps : List PlainStep) (im
 
 -- the digest of the transcript of a day's lines
 pub day_digest : (seed : ℕ) (steps : List PlainStep) (text digest : List ℕ) → digest ≡ sha256 text → steps ≡ day_lines seed
-    → ((actions : List PlainAction) → steps ≡ map Acts actions → text ≡ transcript [] day_start actions) → digest ≡ sha256 (day_text seed)
+    → ((actions : List PlainAction) → steps ≡ map Acts actions → text ≡ transcript [] day_start actions)
+    → digest ≡ sha256 (day_text seed)
 day_digest seed steps text digest is are printed = is ∙ ap sha256 (printed (actions_of (day_lines seed)) (are ∙ day_acts seed))

@@ -11,7 +11,7 @@ ghost use Rattle.generated_day.specs.Day.{day_length, day_lines};
 ghost use Rattle.selftests.specs.Days.{day_start, day_text};
 ghost use Rattle.selftests.specs.Line.{selftest_line};
 ghost use Rattle.selftests.specs.Runs.{RanAnew};
-ghost use Rattle.selftests.specs.Store.{IsStoreLength, day_checkpoint, no_rules};
+ghost use Rattle.selftests.specs.Store.{IsStoreLength, day_checkpoint};
 
 use crate::ends::{TextSink, empty_list};
 use agent_base::NoMemory;

@@ -45,7 +45,8 @@ module _ (rules : List Rule) (host : Domain) (old new : SharedCells) where
       itself : bytes_eq host d ≡ true → kept host ≡ kept d
       itself is = ap kept ((bytes_eq-Decides host d).0 is)
 
-      at : (b : Bool) → bytes_eq host d ≡ b → (e : Bool) → kept d ≡ e → is_in bytes_eq host (changed ds) ≡ (is_in bytes_eq host ds && not (kept host))
+      at : (b : Bool) → bytes_eq host d ≡ b → (e : Bool) → kept d ≡ e
+          → is_in bytes_eq host (changed ds) ≡ (is_in bytes_eq host ds && not (kept host))
           → is_in bytes_eq host (cond e (changed ds) (d ∷ changed ds)) ≡ (cond b true (is_in bytes_eq host ds) && not (kept host))
       at true is true same later =
           let off : not (kept host) ≡ false = ap not (itself is ∙ same) in
@@ -60,7 +61,8 @@ module _ (rules : List Rule) (site : PlainSite) (others : List Domain) (world : 
   -- what the main event leaves different
   touched_is : (o : Option SiteOccurrence)
       → is_in bytes_eq site.host (main_touched (machine rules) site others world o)
-      ≡ (is_in bytes_eq site.host others || (is_asking rules site world o && not (are_same site world (after_main (machine rules) world o))))
+      ≡ (is_in bytes_eq site.host others || (is_asking rules site world o
+      && not (are_same site world (after_main (machine rules) world o))))
   unfolding machine
   touched_is None = sym (or_false (is_in bytes_eq site.host others))
   touched_is (Some a) = at (same_plain_site site a.site)
@@ -72,7 +74,8 @@ module _ (rules : List Rule) (site : PlainSite) (others : List Domain) (world : 
       after = (after_main (machine rules) world (Some a)).cells
 
       at : (b : Bool) → is_in bytes_eq site.host (cond b others (others ++ changed_cells (machine rules) world.cells after named))
-          ≡ (is_in bytes_eq site.host others || ((not b && is_in bytes_eq site.host named) && not (are_same site world (after_main (machine rules) world (Some a)))))
+          ≡ (is_in bytes_eq site.host others || ((not b && is_in bytes_eq site.host named)
+          && not (are_same site world (after_main (machine rules) world (Some a)))))
       at true = sym (or_false (is_in bytes_eq site.host others))
       at false =
           in_append (machine rules) IsSound (facts rules) site.host others (changed_cells (machine rules) world.cells after named)
@@ -80,12 +83,14 @@ module _ (rules : List Rule) (site : PlainSite) (others : List Domain) (world : 
 
   -- the change of the main event
   changes_are : (o : Option SiteOccurrence)
-      → changes_of_site (machine rules) site (main_changes (machine rules) world o) ≡ cond (is_of_site site o) (main_changes (machine rules) world o) []
+      → changes_of_site (machine rules) site (main_changes (machine rules) world o)
+      ≡ cond (is_of_site site o) (main_changes (machine rules) world o) []
   unfolding machine
   changes_are None = refl
   changes_are (Some a) = by (outcome (machine rules) a.site (world.partition a.site) world.cells a.event).changes
     where
-      at : (b : Bool) (one : DurableChange PlainSite PlainChange) → (when_of_site (machine rules) b one ++ []) ≡ cond b (one ∷ []) []
+      at : (b : Bool) (one : DurableChange PlainSite PlainChange)
+          → (when_of_site (machine rules) b one ++ []) ≡ cond b (one ∷ []) []
       at true one = refl
       at false one = refl
 
@@ -102,7 +107,8 @@ pub touches : Touches
 unfolding line_touched world_step machine
 touches rules site others world action seen given =
     touched_is rules site others (after_sides (machine rules) world action) (main_event rules world action)
-    ∙ ap (λ asks. is_in bytes_eq site.host others || (asks && not (are_same site world (world_step (machine rules) world action)))) (sym given.asks)
+    ∙ ap (λ asks. is_in bytes_eq site.host others
+    || (asks && not (are_same site world (world_step (machine rules) world action)))) (sym given.asks)
 
 pub changes : Changes
 unfolding line_changes machine

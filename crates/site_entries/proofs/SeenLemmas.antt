@@ -58,18 +58,24 @@ where_touched false touched is = refl
 pub where_apart : (here touched : Bool) → here ≡ false → (here && not touched) ≡ false
 where_apart here touched is = ap (λ b. b && not touched) is
 
-pub held_known : (site : PlainSite) (cookies : Entries) (d : Domain) → bytes_eq d site.host ≡ true → IsHeld site cookies false (d ∷ []) None
+pub held_known : (site : PlainSite) (cookies : Entries) (d : Domain) → bytes_eq d site.host ≡ true
+    → IsHeld site cookies false (d ∷ []) None
 held_known site cookies d is rules others told =
-    sym (ap (λ b. cond b (record { cell = d; content = (machine rules).get (shared_in cookies) d } ∷ []) []) (held_here rules site others d is ∙ told))
+    sym (ap (λ b. cond b (record { cell = d; content = (machine rules).get (shared_in cookies) d } ∷ []) [])
+    (held_here rules site others d is ∙ told))
 
-pub held_unknown : (site : PlainSite) (cookies : Entries) (touched : Bool) (d : Domain) (held : HeldJar) → (bytes_eq d site.host && not touched) ≡ false
-    → string_bytes held.domain ≡ d → held.jar.cookies ≡ get_cell domain_order (shared_in cookies) d → IsHeld site cookies touched (d ∷ []) (Some held)
+pub held_unknown : (site : PlainSite) (cookies : Entries) (touched : Bool) (d : Domain) (held : HeldJar)
+    → (bytes_eq d site.host && not touched) ≡ false
+    → string_bytes held.domain ≡ d → held.jar.cookies ≡ get_cell domain_order (shared_in cookies) d
+    → IsHeld site cookies touched (d ∷ []) (Some held)
 unfolding machine
 held_unknown site cookies touched d held unknown name jar rules others told =
     (λ i. record { cell = name i; content = jar i } ∷ [])
-    ∙ sym (ap (λ b. cond b (record { cell = d; content = get_cell domain_order (shared_in cookies) d } ∷ []) []) (by (bytes_eq d site.host) refl touched refl unknown))
+    ∙ sym (ap (λ b. cond b (record { cell = d; content = get_cell domain_order (shared_in cookies) d } ∷ [])
+    []) (by (bytes_eq d site.host) refl touched refl unknown))
   where
-    by : (b : Bool) → bytes_eq d site.host ≡ b → (t : Bool) → touched ≡ t → (b && not t) ≡ false → is_held (machine rules) site others d ≡ true
+    by : (b : Bool) → bytes_eq d site.host ≡ b → (t : Bool) → touched ≡ t → (b && not t) ≡ false
+        → is_held (machine rules) site others d ≡ true
     by true is true so unknown = held_here rules site others d is ∙ told ∙ so
     by true is false so unknown = absurd (cc unknown)
     by false is t so unknown = held_elsewhere rules site others d is
@@ -78,23 +84,29 @@ held_unknown site cookies touched d held unknown name jar rules others told =
 
 -- an event consults the same before the events beside it and after them
 after_names : (rules : List Rule) (world : AgentWorld) (action : PlainAction) (same_site : Bool) (site : PlainSite)
-    → event_names rules ((after_sides (machine rules) world action).partition site) (event_by action same_site) ≡ event_names rules (world.partition site) (event_by action same_site)
+    → event_names rules ((after_sides (machine rules) world action).partition site)
+    (event_by action same_site) ≡ event_names rules (world.partition site) (event_by action same_site)
 unfolding machine side_event
 after_names rules world (Tick s) same_site site = refl
 after_names rules world (Open tab url opener noopener method head) same_site site =
-    ap (λ own. consulted_by rules (top_use own url method same_site)) (beside_site rules world (Open tab url opener noopener method head) site)
+    ap (λ own. consulted_by rules (top_use own url method same_site))
+    (beside_site rules world (Open tab url opener noopener method head) site)
 after_names rules world (Close tab) same_site site = refl
 after_names rules world (Go tab url by_page method head) same_site site =
-    ap (λ own. consulted_by rules (top_use own url method same_site)) (beside_site rules world (Go tab url by_page method head) site)
+    ap (λ own. consulted_by rules (top_use own url method same_site))
+    (beside_site rules world (Go tab url by_page method head) site)
 after_names rules world (Evict named) same_site site = refl
 after_names rules world (Act at action) same_site site = refl
 
-module _ (rules : List Rule) (tabs : List PlainTab) (action : PlainAction) (world : AgentWorld) (shows : ShowsTabs tabs world) where
+module _ (rules : List Rule) (tabs : List PlainTab) (action : PlainAction) (world : AgentWorld)
+    (shows : ShowsTabs tabs world) where
   consulted_is : (found : MainEvent) → IsMainEvent rules tabs action found
-      → event_names rules ((after_sides (machine rules) world action).partition (plain_site found.site)) (event_by action found.same_site) ≡ cells_of found
+      → event_names rules ((after_sides (machine rules) world action).partition (plain_site found.site))
+      (event_by action found.same_site) ≡ cells_of found
   consulted_is found is =
       after_names rules world action found.same_site (plain_site found.site)
-      ∙ is.cells (world.partition (plain_site found.site)) (shows.sites (plain_site found.site)) (shows.partitions (plain_site found.site))
+      ∙ is.cells (world.partition (plain_site found.site)) (shows.sites (plain_site found.site))
+      (shows.partitions (plain_site found.site))
 
   -- ---- the truth values
 
@@ -105,7 +117,8 @@ module _ (rules : List Rule) (tabs : List PlainTab) (action : PlainAction) (worl
       ap (λ ds. not (same_plain_site site (plain_site found.site)) && is_in bytes_eq site.host ds) (sym (consulted_is found is))
       ∙ sym (ap (is_asking rules site (after_sides (machine rules) world action)) (is.event world shows))
 
-  pub own_is : (site : PlainSite) (main : Option MainEvent) → IsMain rules tabs action main → is_own site main ≡ is_of_site site (main_event rules world action)
+  pub own_is : (site : PlainSite) (main : Option MainEvent) → IsMain rules tabs action main
+      → is_own site main ≡ is_of_site site (main_event rules world action)
   own_is site None is = sym (ap (is_of_site site) (is world shows))
   own_is site (Some found) is = sym (ap (is_of_site site) (is.event world shows))
 
@@ -113,22 +126,31 @@ module _ (rules : List Rule) (tabs : List PlainTab) (action : PlainAction) (worl
 
 module _ (present : PlainPresent) (action : PlainAction) (site : PlainSite) (touched : Bool) where
   abbrev told : AgentWorld → List Domain → Option SiteOccurrence → List AgentEntry
-  told world others main = main_entries (machine present.rules) site others (after_sides (machine present.rules) world action) main
+  told world others main = main_entries (machine present.rules) site others
+      (after_sides (machine present.rules) world action) main
 
   pub no_main : IsMain present.rules present.tabs action None → IsMainEntry present action site touched None
   no_main is world others stands hears = sym (ap (told world others) (is world stands.tabs_shown))
 
-  pub main_elsewhere : (found : MainEvent) → IsMain present.rules present.tabs action (Some found) → same_plain_site site (plain_site found.site) ≡ false
+  pub main_elsewhere : (found : MainEvent) → IsMain present.rules present.tabs action (Some found)
+      → same_plain_site site (plain_site found.site) ≡ false
       → IsMainEntry present action site touched None
   unfolding machine
   main_elsewhere found is apart world others stands hears =
       let m = machine present.rules in
       let main = timed world (event_by action found.same_site) in
       let asked = candidates m site others ((after_sides m world action).partition (plain_site found.site)) main in
-      sym (ap (told world others) (is.event world stands.tabs_shown) ∙ ap (λ b. cond b (record { event = main; held = held_cells m (is_held m site others) world.cells asked } ∷ []) []) apart)
+      sym (ap (told world others) (is.event world stands.tabs_shown)
+      ∙ ap (λ b. cond b (record {
+        event = main;
+        held =
+            held_cells m (is_held m site others) world.cells asked;
+      } ∷ []) []) apart)
 
-  pub main_here : (found : MainEvent) (entry : Entry) → IsMain present.rules present.tabs action (Some found) → same_plain_site site (plain_site found.site) ≡ true
-      → entry.moment ≡ present.now → event_of entry.event ≡ event_by action found.same_site → IsHeld site present.cookies touched (cells_of found) entry.held
+  pub main_here : (found : MainEvent) (entry : Entry) → IsMain present.rules present.tabs action (Some found)
+      → same_plain_site site (plain_site found.site) ≡ true
+      → entry.moment ≡ present.now → event_of entry.event ≡ event_by action found.same_site
+      → IsHeld site present.cookies touched (cells_of found) entry.held
       → IsMainEntry present action site touched (Some entry)
   unfolding machine
   main_here found entry is here moment event held world others stands hears =
@@ -142,7 +164,13 @@ module _ (present : PlainPresent) (action : PlainAction) (site : PlainSite) (tou
         event = record { moment = (moment ∙ sym stands.moment) i; event = event i };
         held = (held present.rules others hears ∙ λ j. held_cells m (is_held m site others) (sym stands.cells j) (sym asked j)) i;
       } ∷ [])
-      ∙ sym (ap (told world others) (is.event world stands.tabs_shown) ∙ ap (λ b. cond b (record { event = timed world main; held = held_cells m (is_held m site others) world.cells (candidates m site others (after.partition (plain_site found.site)) (timed world main)) } ∷ []) []) here)
+      ∙ sym (ap (told world others) (is.event world stands.tabs_shown)
+      ∙ ap (λ b. cond b (record {
+        event = timed world main;
+        held =
+            held_cells m (is_held m site others) world.cells
+            (candidates m site others (after.partition (plain_site found.site)) (timed world main));
+      } ∷ []) []) here)
 
 -- ---- both entries
 
@@ -153,11 +181,13 @@ side_is : (rules : List Rule) (world : AgentWorld) (found : Option SiteEvent)
 side_is rules world None = refl
 side_is rules world (Some e) = refl
 
-module _ (present : PlainPresent) (action : PlainAction) (site : PlainSite) (touched areas : Bool) (side : Option SiteEvent) (main : Option MainEvent)
+module _ (present : PlainPresent) (action : PlainAction) (site : PlainSite) (touched areas : Bool)
+    (side : Option SiteEvent) (main : Option MainEvent)
     (first second : Option Entry) (seen : SeenLine) where
   pub given_line : IsSide present.rules present.tabs action site areas side → IsMain present.rules present.tabs action main
       → SideEntry present.now side first → IsMainEntry present action site touched second
-      → map entry_of seen.entries.items ≡ (entries_in first ++ entries_in second) → seen.asks ≡ is_asked site main → seen.of_site ≡ is_own site main
+      → map entry_of seen.entries.items ≡ (entries_in first ++ entries_in second)
+      → seen.asks ≡ is_asked site main → seen.of_site ≡ is_own site main
       → IsGiven present action site touched areas seen
   unfolding line_entries machine
   given_line beside is first_is second_is all asks own world stands has others hears =
@@ -167,7 +197,8 @@ module _ (present : PlainPresent) (action : PlainAction) (site : PlainSite) (tou
             all
             ∙ λ i.
             (first_is
-            ∙ ap (λ now. map (λ e. record { event = record { moment = now; event = event_of e }; held = [] }) (option_to_list side)) (sym stands.moment)
+            ∙ ap (λ now. map (λ e. record { event = record { moment = now; event = event_of e }; held = [] })
+            (option_to_list side)) (sym stands.moment)
             ∙ sym (side_is present.rules world side)
             ∙ ap (side_entries m) (sym (beside world stands.tabs_shown has))) i
             ++ second_is world others stands hears i;

@@ -15,7 +15,8 @@ given_is : {T E : Type 0} (x : T) (why : E) → Ok x ≡ Err why → ⊥
 given_is x why is = subst (λ r. MatchResult r (λ _. ⊤) (λ _. ⊥)) is tt
 
 -- the same refusal, of calls that give different things
-refusal_is : {T U E : Type 0} (why again : E) (r : Result U E) (s : Result T E) → r ≡ Err why → s ≡ Err why → r ≡ Err again → s ≡ Err again
+refusal_is : {T U E : Type 0} (why again : E) (r : Result U E) (s : Result T E) → r ≡ Err why → s ≡ Err why
+    → r ≡ Err again → s ≡ Err again
 refusal_is why again r s one two is = two ∙ ap (λ w. Err w) (ap (λ q. unwrap_or (result_err q) why) (sym one ∙ is))
 
 opens_as : {T : Type 0} (old new : View) (result : Result T OpenFault) → Opens result old new → Opens (opened result) old new
@@ -32,7 +33,8 @@ opens_as {T} old new (Err why) o = record {
   later = o.later;
   counted = λ is. o.counted (refusal_is why DeviceFault (opened {T = T} (Err why)) (Err why) refl refl is);
   failed = λ is. o.failed (refusal_is why DeviceFault (opened {T = T} (Err why)) (Err why) refl refl is);
-  only = ⊎_elim (λ is. inl (refusal_is why DeviceFault (Err why) (opened {T = T} (Err why)) refl refl is)) (λ none. inr none) o.only;
+  only = ⊎_elim (λ is. inl (refusal_is why DeviceFault (Err why) (opened {T = T} (Err why)) refl refl is))
+      (λ none. inr none) o.only;
   ok = o.ok;
 }
 
@@ -62,5 +64,6 @@ module _ {T : Type 0} (list : RuleList) (old new : View) where
   }
 
 -- a list of the same rules and the same digest
-pub same_list : (list : RuleList) (rules : List Rule) (digest : List ℕ) → rules ≡ list.rules → digest ≡ list.digest → record { rules = rules; digest = digest } ≡ list
+pub same_list : (list : RuleList) (rules : List Rule) (digest : List ℕ) → rules ≡ list.rules
+    → digest ≡ list.digest → record { rules = rules; digest = digest } ≡ list
 same_list list rules digest one two = λ i. record { rules = one i; digest = two i }

@@ -31,11 +31,13 @@ flat_rows : {X : Type 0} (f : X → List PlainChange) → ((x : X) → AreRows (
 flat_rows f each [] = refl
 flat_rows f each (x ∷ xs) = append_rows (f x) (flat_map f xs) (each x) (flat_rows f each xs)
 
-more_rows : (change : PlainChange) (one : PlainRow) (rest : List PlainChange) → row_of change ≡ Some one → AreRows rest → AreRows (change ∷ rest)
+more_rows : (change : PlainChange) (one : PlainRow) (rest : List PlainChange) → row_of change ≡ Some one
+    → AreRows rest → AreRows (change ∷ rest)
 more_rows change one rest is are =
     subst (λ o. o ∷ map row_of rest ≡ map Some (cons_option o (rows_of rest))) (sym is) (ap (λ t. Some one ∷ t) are)
 
-map_rows : {X : Type 0} (f : X → PlainChange) (g : X → PlainRow) → ((x : X) → row_of (f x) ≡ Some (g x)) → (xs : List X) → AreRows (map f xs)
+map_rows : {X : Type 0} (f : X → PlainChange) (g : X → PlainRow) → ((x : X) → row_of (f x) ≡ Some (g x))
+    → (xs : List X) → AreRows (map f xs)
 map_rows f g each [] = refl
 map_rows f g each (x ∷ xs) = more_rows (f x) (g x) (map f xs) (each x) (map_rows f g each xs)
 
@@ -48,7 +50,8 @@ mode_are key false = refl
 key_are : (d : Saved) (key : PlainKey) → AreRows (key_rows d key)
 key_are d key =
     append_rows (pair_rows key (pairs_at key d)) (mode_rows key (finite.contains_key d.under.persistent key))
-    (map_rows (λ pair. AreaPut key pair.name pair.value) (λ pair. row.Area key pair.name pair.value) (λ pair. refl) (pairs_at key d))
+    (map_rows (λ pair. AreaPut key pair.name pair.value) (λ pair. row.Area key pair.name pair.value)
+    (λ pair. refl) (pairs_at key d))
     (mode_are key (finite.contains_key d.under.persistent key))
 
 -- ---- cells
@@ -57,17 +60,20 @@ some_of : (o : Option ℤ) → is_some o ≡ true → (x : ℤ) × (o ≡ Some x
 some_of (Some x) is = (x, refl)
 some_of None is = absurd (false≢true is)
 
-cookie_is : (cell : PlainCell) (place : ℕ) (c : PlainCookie) → is_kept_cookie c ≡ true → (one : PlainRow) × (row_of (CookieInsert cell place c) ≡ Some one)
+cookie_is : (cell : PlainCell) (place : ℕ) (c : PlainCookie) → is_kept_cookie c ≡ true
+    → (one : PlainRow) × (row_of (CookieInsert cell place c) ≡ Some one)
 cookie_is cell place c kept =
     let end = some_of c.expiry (and_parts (is_persistent c) _ kept).0 in
     (row.Cookie cell c end.0, ap (option_map (λ expiry. row.Cookie cell c expiry)) end.1)
 
-cookies_are : (cell : PlainCell) (place : ℕ) (cookies : Cookies) → list_all is_kept_cookie cookies ≡ true → AreRows (cookie_rows cell place cookies)
+cookies_are : (cell : PlainCell) (place : ℕ) (cookies : Cookies) → list_all is_kept_cookie cookies ≡ true
+    → AreRows (cookie_rows cell place cookies)
 cookies_are cell place [] kept = refl
 cookies_are cell place (c ∷ cookies) kept =
     let both = and_parts (is_kept_cookie c) (list_all is_kept_cookie cookies) kept in
     let one = cookie_is cell place c both.0 in
-    more_rows (CookieInsert cell place c) one.0 (cookie_rows cell (place + 1) cookies) one.1 (cookies_are cell (place + 1) cookies both.1)
+    more_rows (CookieInsert cell place c) one.0 (cookie_rows cell (place + 1) cookies) one.1
+    (cookies_are cell (place + 1) cookies both.1)
 
 -- ---- all of it
 

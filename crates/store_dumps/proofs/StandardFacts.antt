@@ -10,10 +10,16 @@ use Rattle.store_dumps.specs.declared.fault.DumpFault.TheVariants.{NoMemory, Ope
 
 -- the key of a document of `https://a.test` under that site
 abbrev key_a : PlainKey
-key_a = record { top = record { https = true; host = codes "a.test" }; origin = record { https = true; ip = false; host = codes "a.test"; port = 443 }; bit = false }
+key_a = record {
+  top = record { https = true; host = codes "a.test" };
+  origin =
+      record { https = true; ip = false; host = codes "a.test"; port = 443 };
+  bit = false;
+}
 
 -- rows stand in the order of the row changes, and a clear adds none
-rows : rows_of (AreaPut key_a (codes "k") (codes "v") ∷ AreaClear key_a ∷ SetMode key_a ∷ []) ≡ Area key_a (codes "k") (codes "v") ∷ Mode key_a ∷ []
+rows : rows_of (AreaPut key_a (codes "k") (codes "v") ∷ AreaClear key_a ∷ SetMode key_a ∷ [])
+    ≡ Area key_a (codes "k") (codes "v") ∷ Mode key_a ∷ []
 rows = refl
 
 -- want of memory behind one byte of two, which is no write fault

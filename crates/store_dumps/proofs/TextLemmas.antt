@@ -34,7 +34,8 @@ abbrev pub first_text : List Change → ℕ → List ℕ
 first_text rows i = rows_text (map plain_change (take i rows))
 
 -- one row more
-pub first_more : (rows : List Change) (i : ℕ) (item : Change) → i < length rows → item ≡ get_or rows i item → first_text rows (i + 1) ≡ first_text rows i ++ rows_text (plain_change item ∷ [])
+pub first_more : (rows : List Change) (i : ℕ) (item : Change) → i < length rows → item ≡ get_or rows i item
+    → first_text rows (i + 1) ≡ first_text rows i ++ rows_text (plain_change item ∷ [])
 first_more rows i item within is =
     ap (λ rs. rows_text (map plain_change rs)) (take_more rows i item within)
     ∙ ap rows_text (map-append plain_change (take i rows) (get_or rows i item ∷ []))
@@ -42,31 +43,40 @@ first_more rows i item within is =
     ∙ ap (λ (r : Change). first_text rows i ++ rows_text (plain_change r ∷ [])) (sym is)
 
 -- the line of one row more waits
-pub next_held : (a b : Option (List ℕ)) (rows : List Change) (i : ℕ) (item : Change) (held now : List ℕ) → i < length rows → item ≡ get_or rows i item → TakesFront a b (first_text rows i) held
+pub next_held : (a b : Option (List ℕ)) (rows : List Change) (i : ℕ) (item : Change) (held now : List ℕ)
+    → i < length rows → item ≡ get_or rows i item → TakesFront a b (first_text rows i) held
     → now ≡ held ++ rows_text (plain_change item ∷ []) → TakesFront a b (first_text rows (i + 1)) now
 next_held a b rows i item held now within is front more =
     let line = rows_text (plain_change item ∷ []) in
     subst (TakesFront a b (first_text rows (i + 1))) (sym more)
-    (subst (λ t. TakesFront a b t (held ++ line)) (sym (first_more rows i item within is)) (front_more a b b (first_text rows i) held front line))
+    (subst (λ t. TakesFront a b t (held ++ line)) (sym (first_more rows i item within is))
+    (front_more a b b (first_text rows i) held front line))
 
-first_rest : (rows : List Change) (i : ℕ) → rows_text (map plain_change rows) ≡ first_text rows i ++ rows_text (map plain_change (drop i rows))
+first_rest : (rows : List Change) (i : ℕ) → rows_text (map plain_change rows) ≡ first_text rows i
+    ++ rows_text (map plain_change (drop i rows))
 first_rest rows i =
     ap (λ rs. rows_text (map plain_change rs)) (sym (take-append-drop i rows))
-    ∙ ap rows_text (map-append plain_change (take i rows) (drop i rows)) ∙ text_append (map plain_change (take i rows)) (map plain_change (drop i rows))
+    ∙ ap rows_text (map-append plain_change (take i rows) (drop i rows))
+    ∙ text_append (map plain_change (take i rows)) (map plain_change (drop i rows))
 
 module _ (a b : Option (List ℕ)) (rows : List Change) (i : ℕ) where
   whole : TakesPrefix a b (first_text rows i) → TakesPrefix a b (rows_text (map plain_change rows))
-  whole prefix = subst (TakesPrefix a b) (sym (first_rest rows i)) (prefix_longer a b (first_text rows i) (rows_text (map plain_change (drop i rows))) prefix)
+  whole prefix = subst (TakesPrefix a b) (sym (first_rest rows i))
+      (prefix_longer a b (first_text rows i) (rows_text (map plain_change (drop i rows))) prefix)
 
   -- what waits is not written
   pub stopped : (held : List ℕ) → TakesFront a b (first_text rows i) held → TakesPrefix a b (rows_text (map plain_change rows))
   stopped held front = whole (subst (TakesPrefix a b) (sym front.1.1) (prefix_front a b front.0 held front.1.0))
 
   -- writing what waits failed
-  pub failed : (c : Option (List ℕ)) (held : List ℕ) → TakesFront a c (first_text rows i) held → TakesPrefix c b held → TakesPrefix a b (rows_text (map plain_change rows))
+  pub failed : (c : Option (List ℕ)) (held : List ℕ) → TakesFront a c (first_text rows i) held
+      → TakesPrefix c b held → TakesPrefix a b (rows_text (map plain_change rows))
   failed c held front prefix = whole (front_part a c b (first_text rows i) held front prefix)
 
 -- a dump whose store was opened wrote the lines of its state
-pub writes_some : (rules : List Rule) (result : Result (Unit {0}) DumpFault) (a b : Option (List ℕ)) (d : Saved) → opening_of result ≡ Ok tt → IsValid d → IsReadSaved rules d → Writes (dump_text d) result a b → WritesSome rules result a b
+pub writes_some : (rules : List Rule) (result : Result (Unit {0}) DumpFault) (a b : Option (List ℕ))
+    (d : Saved) → opening_of result ≡ Ok tt → IsValid d → IsReadSaved rules d
+    → Writes (dump_text d) result a b → WritesSome rules result a b
 writes_some rules result a b d is valid read writes =
-    subst (λ o. MatchResult o (λ _. (d : Saved) × IsValid d × IsReadSaved rules d × Writes (dump_text d) result a b) (λ _. Takes a b [])) (sym is) (d, valid, read, writes)
+    subst (λ o. MatchResult o (λ _. (d : Saved) × IsValid d × IsReadSaved rules d
+    × Writes (dump_text d) result a b) (λ _. Takes a b [])) (sym is) (d, valid, read, writes)

@@ -26,7 +26,7 @@ use Rattle.agent_core.specs.declared.agent.Power.TheVariants.{Up, Down as PowerD
 use Rattle.agent_core.specs.declared.outcome.Outcome.{Outcome}
 use Rattle.agent_core.specs.declared.outcome.Outcome.TheVariants.{Replies, Held, Down, NoMemory}
 use Rattle.store_runs.specs.Courses.{Steps}
-use Rattle.store_runs.specs.Calls.{Called, IsQuiet, StaysOrRose, Stops, over_call}
+use Rattle.store_runs.specs.Calls.{Called, IsQuiet, StaysOrRose, Stepped, Stops, over_call}
 use Rattle.store_runs.specs.Closing.{Ends}
 use Rattle.printed_model.specs.Histories.{down_reply, restart_reply}
 use Rattle.store_runs.specs.Waiting.{replies_text}
@@ -122,7 +122,8 @@ unfolding reopened
 up_reopened rules a d = refl
 
 -- a disk whose agent stays as it is where it is not up goes on telling
-pub tells_still : {D : Type 0} (tell : D → View) (old new : AgentView D) (power : Power) → old.power ≡ power → (old.power ≡ Up → (tell new.disk).tells ≡ (tell old.disk).tells) → ((old.power ≡ Up → ⊥) → new ≡ old)
+pub tells_still : {D : Type 0} (tell : D → View) (old new : AgentView D) (power : Power) → old.power ≡ power
+    → (old.power ≡ Up → (tell new.disk).tells ≡ (tell old.disk).tells) → ((old.power ≡ Up → ⊥) → new ≡ old)
     → (tell new.disk).tells ≡ (tell old.disk).tells
 tells_still tell old new Up is up off = up is
 tells_still tell old new PowerDown is up off = ap (λ v. (tell v.disk).tells) (off (λ e. down_up (sym is ∙ e)))
@@ -141,7 +142,8 @@ wanting_stops (Err e) P err stops = subst P (sym err) stops
 
 -- ---- counts of faults
 
-device_counts : {most : ℕ} (outcome : Outcome) (old new : View) → OutcomeDevice most outcome old new → StaysOrRose old.faults new.faults
+device_counts : {most : ℕ} (outcome : Outcome) (old new : View) → OutcomeDevice most outcome old new
+    → StaysOrRose old.faults new.faults
 device_counts (Replies given) old new device = inl (device.others (not_down (Replies given) (λ wrong. wrong))).faults
 device_counts Held old new device = inl (device.others (not_down Held (λ wrong. wrong))).faults
 device_counts Down old new device = inr (device.down refl).0
@@ -175,7 +177,9 @@ module _ {D : Type 0} (v : AgentView D) where
 
   -- and where an agent that is up and holds no line owes none, none is due
   pub none_due : v.power ≡ Up → v.held ≡ [] → owes v ≡ false → is_due v.checkpoint v.journal ≡ false
-  none_due up none owed = sym (ap (λ power. is_up power && length v.held == 0 && is_due v.checkpoint v.journal) up ∙ ap (λ held. is_up Up && length held == 0 && is_due v.checkpoint v.journal) none) ∙ owed
+  none_due up none owed = sym (ap (λ power. is_up power && length v.held == 0
+      && is_due v.checkpoint v.journal) up ∙ ap (λ held. is_up Up && length held == 0
+      && is_due v.checkpoint v.journal) none) ∙ owed
 
   module _ (view : View) (a : AgentSeen) where
     no_replies : (told : List AgentReply) → map printed told ≡ [] → told ≡ []
@@ -194,18 +198,27 @@ module _ {D : Type 0} (v : AgentView D) where
     holds_none seen up none = sym (seen.standing up).held ∙ ap (map printed) none
 
 -- some lines ran, and the run stops
-stops_after : (rules : List Rule) (batch : ℕ) (ran : List PlainStep) (a b : AgentSeen) (may may' : AgentMay) (old new : View) (text : List ℕ) → Steps rules batch ran (over_call a old new (Unit {0})) a may b may' text
+stops_after : (rules : List Rule) (batch : ℕ) (ran : List PlainStep) (a b : AgentSeen) (may may' : AgentMay)
+    (old new : View) (text : List ℕ) → Steps rules batch ran (over_call a old new (Unit {0})) a may b may' text
     → Steps rules batch ran (over_call a old new ⊥) a may b may' text
 stops_after rules batch ran a b may may' old new text steps x r on =
     let next = steps x r on in (
       next.0,
       next.1,
-      record { steps = next.2.steps; prints = next.2.prints; downs = next.2.downs; counted = next.2.counted; met = λ never. absurd never },
+      record {
+        steps = next.2.steps;
+        prints = next.2.prints;
+        downs = next.2.downs;
+        counted =
+            next.2.counted;
+        met = λ never. absurd never;
+      },
     )
 
 module _ {D : Type 0} (tell : D → View) (old new : AgentView D) where
   -- the count of a call that leaves an agent that is not up as it is
-  call_counts : {most : ℕ} (outcome : Outcome) (a : AgentSeen) → IsSeen old (tell old.disk) a → (old.power ≡ Up → OutcomeDevice most outcome (tell old.disk) (tell new.disk)) → ((old.power ≡ Up → ⊥) → new ≡ old)
+  call_counts : {most : ℕ} (outcome : Outcome) (a : AgentSeen) → IsSeen old (tell old.disk) a
+      → (old.power ≡ Up → OutcomeDevice most outcome (tell old.disk) (tell new.disk)) → ((old.power ≡ Up → ⊥) → new ≡ old)
       → StaysOrRose (tell old.disk).faults (tell new.disk).faults
   call_counts outcome a seen device off = ⊎_elim
       (λ up. device_counts outcome (tell old.disk) (tell new.disk) (device (seen.up.0 up)))
@@ -214,20 +227,28 @@ module _ {D : Type 0} (tell : D → View) (old new : AgentView D) where
 
   pub line_called : (l : PlainAction) (outcome : Outcome)
       → ((a : AgentSeen) → IsSeen old (tell old.disk) a → Fits a
-      → (b : AgentSeen) × IsSeen new (tell new.disk) b × LineMeans old.memory.rules old.batch l a (may_of old (tell old.disk)) b (may_of new (tell new.disk)) outcome)
-      → (old.power ≡ Up → OutcomeDevice 4 outcome (tell old.disk) (tell new.disk)) → ((old.power ≡ Up → ⊥) → new ≡ old) → Called tell old new (goes_on outcome) (line_ran l outcome) (line_text l outcome)
+      → (b : AgentSeen) × IsSeen new (tell new.disk) b
+      × LineMeans old.memory.rules old.batch l a (may_of old (tell old.disk)) b (may_of new (tell new.disk)) outcome)
+      → (old.power ≡ Up → OutcomeDevice 4 outcome (tell old.disk) (tell new.disk))
+      → ((old.power ≡ Up → ⊥) → new ≡ old) → Called tell old new (goes_on outcome) (line_ran l outcome) (line_text l outcome)
   line_called l (Replies given) means device off told some a seen fits =
       let all = means a seen fits in
       let b = all.0 in
       let m = all.2 in
       let ran = after_line old.memory.rules a l in
       let up : b.up ≡ true = ap (λ s. s.up) m.2.1 ∙ up_after_commit old.memory.rules ran in
-      let text : text_of ran.held ≡ replies_text (map reply_of given.items) = text_printed ran.held ∙ ap replies_text (sym m.2.0) in (
+      let text : text_of ran.held ≡ replies_text (map reply_of given.items) =
+      text_printed ran.held ∙ ap replies_text (sym m.2.0) in (
         b,
         all.1,
-        subst (λ t. Steps old.memory.rules old.batch (Acts l ∷ []) (over_call a (tell old.disk) (tell new.disk) (Unit {0})) a (may_of old (tell old.disk)) b (may_of new (tell new.disk)) t) text
-            (replied_line old.memory.rules old.batch l (over_call a (tell old.disk) (tell new.disk) (Unit {0})) a b (may_of old (tell old.disk)) (may_of new (tell new.disk)) (call_counts (Replies given) a seen device off) up m.0 m.1 m.2.1 m.2.2),
-        (λ on q. stays_quiet a b (tell old.disk) (tell new.disk) up ((device (seen.up.0 q.0)).others (not_down (Replies given) (λ wrong. wrong))) q),
+        subst (λ t. Steps old.memory.rules old.batch (Acts l ∷ [])
+            (over_call a (tell old.disk) (tell new.disk) (Unit {0})) a (may_of old (tell old.disk)) b
+            (may_of new (tell new.disk)) t) text
+            (replied_line old.memory.rules old.batch l
+            (over_call a (tell old.disk) (tell new.disk) (Unit {0})) a b (may_of old (tell old.disk))
+            (may_of new (tell new.disk)) (call_counts (Replies given) a seen device off) up m.0 m.1 m.2.1 m.2.2),
+        (λ on q. stays_quiet a b (tell old.disk) (tell new.disk) up
+            ((device (seen.up.0 q.0)).others (not_down (Replies given) (λ wrong. wrong))) q),
       )
   line_called l Held means device off told some a seen fits =
       let all = means a seen fits in
@@ -236,30 +257,38 @@ module _ {D : Type 0} (tell : D → View) (old new : AgentView D) where
       let up : b.up ≡ true = ap (λ s. s.up) m.2 ∙ up_after_line old.memory.rules a l in (
         b,
         all.1,
-        held_line old.memory.rules old.batch l (over_call a (tell old.disk) (tell new.disk) (Unit {0})) a b (may_of old (tell old.disk)) (may_of new (tell new.disk)) (call_counts Held a seen device off) up m.0 m.1 m.2 m.3,
-        (λ on q. stays_quiet a b (tell old.disk) (tell new.disk) up ((device (seen.up.0 q.0)).others (not_down Held (λ wrong. wrong))) q),
+        held_line old.memory.rules old.batch l (over_call a (tell old.disk) (tell new.disk) (Unit {0})) a b
+            (may_of old (tell old.disk)) (may_of new (tell new.disk)) (call_counts Held a seen device off) up m.0 m.1 m.2 m.3,
+        (λ on q. stays_quiet a b (tell old.disk) (tell new.disk) up
+            ((device (seen.up.0 q.0)).others (not_down Held (λ wrong. wrong))) q),
       )
   line_called l Down means device off told some a seen fits =
       let all = means a seen fits in
       let b = all.0 in
-      let loud : IsQuiet a (tell old.disk) → ⊥ = λ q. never_fails a (tell old.disk) (tell new.disk) q ((device (seen.up.0 q.0)).down refl).1 in (
+      let loud : IsQuiet a (tell old.disk) → ⊥ = λ q. never_fails a (tell old.disk) (tell new.disk) q
+      ((device (seen.up.0 q.0)).down refl).1 in (
         b,
         all.1,
-        down_line old.memory.rules old.batch l (over_call a (tell old.disk) (tell new.disk) (Unit {0})) a b (may_of old (tell old.disk)) (may_of new (tell new.disk)) (call_counts Down a seen device off) (λ up. ((device (seen.up.0 up)).down refl).0) loud all.2,
+        down_line old.memory.rules old.batch l (over_call a (tell old.disk) (tell new.disk) (Unit {0})) a b
+            (may_of old (tell old.disk)) (may_of new (tell new.disk)) (call_counts Down a seen device off)
+            (λ up. ((device (seen.up.0 up)).down refl).0) loud all.2,
         (λ on q. absurd (loud q)),
       )
   line_called l NoMemory means device off told some a seen fits =
       let all = means a seen fits in (
         all.0,
         all.1,
-        same_stands old.memory.rules old.batch (over_call a (tell old.disk) (tell new.disk) ⊥) a all.0 (may_of old (tell old.disk)) (may_of new (tell new.disk)) (call_counts NoMemory a seen device off) (λ on. on) all.2,
+        same_stands old.memory.rules old.batch (over_call a (tell old.disk) (tell new.disk) ⊥) a all.0
+            (may_of old (tell old.disk)) (may_of new (tell new.disk)) (call_counts NoMemory a seen device off) (λ on. on) all.2,
         (λ on. absurd on),
       )
 
   pub restart_called : (result : Result ℕ OpenFault)
       → ((tell old.disk).tells ≡ true → (a : AgentSeen) → IsSeen old (tell old.disk) a
-      → (b : AgentSeen) × IsSeen new (tell new.disk) b × RestartMeans old.memory.rules a (may_of old (tell old.disk)) b (may_of new (tell new.disk)) result)
-      → RestartDevice result (tell old.disk) (tell new.disk) → Called tell old new (restart_goes_on result) (restart_ran result) (restart_text result)
+      → (b : AgentSeen) × IsSeen new (tell new.disk) b
+      × RestartMeans old.memory.rules a (may_of old (tell old.disk)) b (may_of new (tell new.disk)) result)
+      → RestartDevice result (tell old.disk) (tell new.disk)
+      → Called tell old new (restart_goes_on result) (restart_ran result) (restart_text result)
   restart_called (Ok kept) means device told some a seen fits =
       let all = means told a seen in
       let b = all.0 in
@@ -267,7 +296,9 @@ module _ {D : Type 0} (tell : D → View) (old new : AgentView D) where
       let up : b.up ≡ true = ap (λ s. s.up) m.2 ∙ up_reopened old.memory.rules a m.0 in (
         b,
         all.1,
-        restart_line old.memory.rules old.batch kept m.0 (over_call a (tell old.disk) (tell new.disk) (Unit {0})) a b (may_of old (tell old.disk)) (may_of new (tell new.disk)) (restart_counts (Ok kept) (tell old.disk) (tell new.disk) device) up some m.1 m.2 m.3,
+        restart_line old.memory.rules old.batch kept m.0
+            (over_call a (tell old.disk) (tell new.disk) (Unit {0})) a b (may_of old (tell old.disk))
+            (may_of new (tell new.disk)) (restart_counts (Ok kept) (tell old.disk) (tell new.disk) device) up some m.1 m.2 m.3,
         (λ on q. (up, device.on, restart_cuts kept (tell old.disk) (tell new.disk) device ∙ q.2)),
       )
   restart_called (Err fault.DeviceFault) means device told some a seen fits =
@@ -276,14 +307,17 @@ module _ {D : Type 0} (tell : D → View) (old new : AgentView D) where
       let loud : IsQuiet a (tell old.disk) → ⊥ = λ q. never_reopens a (tell old.disk) (tell new.disk) q (device.failed refl) in (
         b,
         all.1,
-        down_restart old.memory.rules old.batch (over_call a (tell old.disk) (tell new.disk) (Unit {0})) a b (may_of old (tell old.disk)) (may_of new (tell new.disk)) (device.counted refl) loud all.2,
+        down_restart old.memory.rules old.batch (over_call a (tell old.disk) (tell new.disk) (Unit {0})) a b
+            (may_of old (tell old.disk)) (may_of new (tell new.disk)) (device.counted refl) loud all.2,
         (λ on q. absurd (loud q)),
       )
   restart_called (Err fault.NoMemory) means device told some a seen fits =
       let all = means told a seen in (
         all.0,
         all.1,
-        spoilt_stands old.memory.rules old.batch (over_call a (tell old.disk) (tell new.disk) ⊥) a all.0 (may_of old (tell old.disk)) (may_of new (tell new.disk)) (restart_counts (Err fault.NoMemory) (tell old.disk) (tell new.disk) device) (λ on. on) all.2,
+        spoilt_stands old.memory.rules old.batch (over_call a (tell old.disk) (tell new.disk) ⊥) a all.0
+            (may_of old (tell old.disk)) (may_of new (tell new.disk))
+            (restart_counts (Err fault.NoMemory) (tell old.disk) (tell new.disk) device) (λ on. on) all.2,
         (λ on. absurd on),
       )
   restart_called (Err (fault.NotAStore offset)) means device told some a seen fits = absurd (means told a seen).2
@@ -297,7 +331,8 @@ module _ {D : Type 0} (tell : D → View) (old new : AgentView D) where
   -- a restart that was refused stops the run
   pub restart_stops : (why : OpenFault) → (why ≡ fault.DeviceFault → ⊥)
       → ((tell old.disk).tells ≡ true → (a : AgentSeen) → IsSeen old (tell old.disk) a
-      → (b : AgentSeen) × IsSeen new (tell new.disk) b × RestartMeans old.memory.rules a (may_of old (tell old.disk)) b (may_of new (tell new.disk)) (Err why))
+      → (b : AgentSeen) × IsSeen new (tell new.disk) b
+      × RestartMeans old.memory.rules a (may_of old (tell old.disk)) b (may_of new (tell new.disk)) (Err why))
       → RestartDevice (Err why) (tell old.disk) (tell new.disk) → Stops tell old new Reopens (ending_of why)
   restart_stops fault.DeviceFault other means device = absurd (other refl)
   restart_stops fault.NoMemory other means device = memory_stops Reopens (restart_called (Err fault.NoMemory) means device)
@@ -306,26 +341,73 @@ module _ {D : Type 0} (tell : D → View) (old new : AgentView D) where
   restart_stops (fault.TooLarge len) other means device = (tt, λ told a seen. (means told a seen).2)
 
   -- a line ran, and its text has no room to wait
-  pub stops_ran : (step : PlainStep) (text : List ℕ) → Called tell old new (Unit {0}) (step ∷ []) text → Stops tell old new step Memory
-  stops_ran step text called = (step ∷ [], inr refl, (text, λ told some a seen fits. let all = called told some a seen fits in (all.0, all.1, stops_after old.memory.rules old.batch (step ∷ []) a all.0 (may_of old (tell old.disk)) (may_of new (tell new.disk)) (tell old.disk) (tell new.disk) text all.2, λ on. absurd on)))
+  stops_ran : (step : PlainStep) (text : List ℕ) → Called tell old new (Unit {0}) (step ∷ []) text
+      → Stops tell old new step Memory
+  stops_ran step text called = (
+    step ∷ [],
+    inr refl,
+    (
+      text,
+      λ told some a seen fits. let all = called told some a seen
+          fits in (
+            all.0,
+            all.1,
+            stops_after old.memory.rules old.batch (step ∷ []) a all.0
+                (may_of old (tell old.disk)) (may_of new (tell new.disk)) (tell old.disk) (tell new.disk) text all.2,
+            λ on. absurd on,
+          ),
+    ),
+  )
+
+  -- a call that stepped, and one whose text has no room to wait, of the step that is asked for
+  module _ (asked step : PlainStep) (text : List ℕ) (same : asked ≡ step)
+      (called : Called tell old new (Unit {0}) (step ∷ []) text) where
+    pub stepped_as : (before now : List ℕ) → now ≡ before ++ text → Stepped tell old new asked before now
+    stepped_as before now shows =
+        subst (λ s. Stepped tell old new s before now) (sym same) (text, shows, called)
+
+    pub wanting_ran : {T : Type 0} (r : Result T Ending) → IsErrAnd r (λ e. e ≡ Memory) → IfErr r (Stops tell old new asked)
+    wanting_ran r err =
+        wanting_stops r (Stops tell old new asked) err
+        (subst (λ s. Stops tell old new s Memory) (sym same) (stops_ran step text called))
 
   -- the last commit, by what it is answered
   module _ {most : ℕ} (outcome : Outcome)
-      (means : (a : AgentSeen) → IsSeen old (tell old.disk) a → (b : AgentSeen) × IsSeen new (tell new.disk) b × FlushMeans old.memory.rules a (may_of old (tell old.disk)) b (may_of new (tell new.disk)) outcome)
-      (device : old.power ≡ Up → OutcomeDevice most outcome (tell old.disk) (tell new.disk)) (off : (old.power ≡ Up → ⊥) → new ≡ old)
+      (means : (a : AgentSeen) → IsSeen old (tell old.disk) a
+      → (b : AgentSeen) × IsSeen new (tell new.disk) b
+      × FlushMeans old.memory.rules a (may_of old (tell old.disk)) b (may_of new (tell new.disk)) outcome)
+      (device : old.power ≡ Up → OutcomeDevice most outcome (tell old.disk) (tell new.disk))
+      (off : (old.power ≡ Up → ⊥) → new ≡ old)
       (before now : List ℕ) where
-    -- no call failed where replies are given out
-    gives_quiet : (given : Vec Reply Global) → outcome ≡ Replies given → (a b : AgentSeen) → IsSeen old (tell old.disk) a → a.up ≡ true → b ≡ after_commit old.memory.rules a → IsQuiet a (tell old.disk) → IsQuiet b (tell new.disk)
-    gives_quiet given is a b seen up next q =
-        stays_quiet a b (tell old.disk) (tell new.disk) (ap (λ s. s.up) next ∙ up_after_commit old.memory.rules a) ((device (seen.up.0 up)).others (λ down. replies_down given (sym is ∙ down))) q
+    -- what it means, by the answer that it is
+    meant : (told : Outcome) → outcome ≡ told → (a : AgentSeen) (seen : IsSeen old (tell old.disk) a)
+        → FlushMeans old.memory.rules a (may_of old (tell old.disk)) (means a seen).0 (may_of new (tell new.disk)) told
+    meant told is a seen =
+        subst (λ o. FlushMeans old.memory.rules a (may_of old (tell old.disk)) (means a seen).0
+        (may_of new (tell new.disk)) o) is (means a seen).2
 
-    pub replies_end : (given : Vec Reply Global) → outcome ≡ Replies given → now ≡ before ++ replies_text (map reply_of given.items) → Ends tell old new Done before now
+    -- no call failed where replies are given out
+    gives_quiet : (given : Vec Reply Global) → outcome ≡ Replies given → (a b : AgentSeen)
+        → IsSeen old (tell old.disk) a → a.up ≡ true → b ≡ after_commit old.memory.rules a
+        → IsQuiet a (tell old.disk) → IsQuiet b (tell new.disk)
+    gives_quiet given is a b seen up next q =
+        stays_quiet a b (tell old.disk) (tell new.disk)
+        (ap (λ s. s.up) next ∙ up_after_commit old.memory.rules a)
+        ((device (seen.up.0 up)).others (λ down. replies_down given (sym is ∙ down))) q
+
+    pub replies_end : (given : Vec Reply Global) → outcome ≡ Replies given
+        → now ≡ before ++ replies_text (map reply_of given.items) → Ends tell old new Done before now
     replies_end given is shows a seen =
         let all = means a seen in
-        let m : FlushMeans old.memory.rules a (may_of old (tell old.disk)) all.0 (may_of new (tell new.disk)) (Replies given) = subst (λ o. FlushMeans old.memory.rules a (may_of old (tell old.disk)) all.0 (may_of new (tell new.disk)) o) is all.2 in (
+        let m = meant (Replies given) is a seen in (
           all.0,
           all.1,
-          (inl (m.0, m.1.1, m.1.2), shows ∙ ap (λ t. before ++ t) (ap replies_text m.1.0 ∙ sym (text_printed a.held)), gives_quiet given is a all.0 seen m.0 m.1.1),
+          (
+            inl (m.0, m.1.1, m.1.2),
+            shows ∙ ap (λ t. before ++ t)
+                (ap replies_text m.1.0 ∙ sym (text_printed a.held)),
+            gives_quiet given is a all.0 seen m.0 m.1.1,
+          ),
           call_counts outcome a seen device off,
         )
 
@@ -333,17 +415,21 @@ module _ {D : Type 0} (tell : D → View) (old new : AgentView D) where
     pub checkpoint_ends : (given : Vec Reply Global) → outcome ≡ Replies given → owes old ≡ true → Ends tell old new Done [] []
     checkpoint_ends given is owed a seen =
         let all = means a seen in
-        let m : FlushMeans old.memory.rules a (may_of old (tell old.disk)) all.0 (may_of new (tell new.disk)) (Replies given) = subst (λ o. FlushMeans old.memory.rules a (may_of old (tell old.disk)) all.0 (may_of new (tell new.disk)) o) is all.2 in (
+        let m = meant (Replies given) is a seen in (
           all.0,
           all.1,
-          (inl (m.0, m.1.1, m.1.2), sym (text_nothing a.held (owing_seen old (tell old.disk) a owed seen).1), gives_quiet given is a all.0 seen m.0 m.1.1),
+          (
+            inl (m.0, m.1.1, m.1.2),
+            sym (text_nothing a.held (owing_seen old (tell old.disk) a owed seen).1),
+            gives_quiet given is a all.0 seen m.0 m.1.1,
+          ),
           call_counts outcome a seen device off,
         )
 
     pub replies_lost : (given : Vec Reply Global) → outcome ≡ Replies given → now ≡ before → Ends tell old new Memory before now
     replies_lost given is shows a seen =
         let all = means a seen in
-        let m : FlushMeans old.memory.rules a (may_of old (tell old.disk)) all.0 (may_of new (tell new.disk)) (Replies given) = subst (λ o. FlushMeans old.memory.rules a (may_of old (tell old.disk)) all.0 (may_of new (tell new.disk)) o) is all.2 in (
+        let m = meant (Replies given) is a seen in (
           all.0,
           all.1,
           (inl (m.0, m.1.1, m.1.2), shows),
@@ -353,7 +439,7 @@ module _ {D : Type 0} (tell : D → View) (old new : AgentView D) where
     pub down_ends : outcome ≡ Down → now ≡ before → Ends tell old new Device before now
     down_ends is shows a seen =
         let all = means a seen in
-        let m : FlushMeans old.memory.rules a (may_of old (tell old.disk)) all.0 (may_of new (tell new.disk)) Down = subst (λ o. FlushMeans old.memory.rules a (may_of old (tell old.disk)) all.0 (may_of new (tell new.disk)) o) is all.2 in (
+        let m = meant Down is a seen in (
           all.0,
           all.1,
           (
@@ -366,14 +452,12 @@ module _ {D : Type 0} (tell : D → View) (old new : AgentView D) where
         )
 
     pub held_ends : outcome ≡ Held → Ends tell old new Memory before now
-    held_ends is a seen =
-        let all = means a seen in
-        absurd (subst (λ o. FlushMeans old.memory.rules a (may_of old (tell old.disk)) all.0 (may_of new (tell new.disk)) o) is all.2)
+    held_ends is a seen = absurd (meant Held is a seen)
 
     pub memory_ends : outcome ≡ NoMemory → now ≡ before → Ends tell old new Memory before now
     memory_ends is shows a seen =
         let all = means a seen in
-        let m : FlushMeans old.memory.rules a (may_of old (tell old.disk)) all.0 (may_of new (tell new.disk)) NoMemory = subst (λ o. FlushMeans old.memory.rules a (may_of old (tell old.disk)) all.0 (may_of new (tell new.disk)) o) is all.2 in (
+        let m = meant NoMemory is a seen in (
           all.0,
           all.1,
           (inr m, shows),
@@ -381,12 +465,18 @@ module _ {D : Type 0} (tell : D → View) (old new : AgentView D) where
         )
 
 -- an agent that owes a checkpoint holds no line that a last commit could commit
-pub owed_ends : {D : Type 0} (tell : D → View) (v : AgentView D) (before : List ℕ) → owes v ≡ true → Ends tell v v Done before before
+pub owed_ends : {D : Type 0} (tell : D → View) (v : AgentView D) (before : List ℕ) → owes v ≡ true
+    → Ends tell v v Done before before
 owed_ends tell v before owed a seen =
     let is = owing_seen v (tell v.disk) a owed seen in (
       a,
       seen,
-      (inr (is.0, is.1, (refl, λ d n left. left)), sym (append-nil before) ∙ ap (λ t. before ++ t) (sym (text_nothing a.held is.1)), (λ q. q)),
+      (
+        inr (is.0, is.1, (refl, λ d n left. left)),
+        sym (append-nil before)
+            ∙ ap (λ t. before ++ t) (sym (text_nothing a.held is.1)),
+        (λ q. q),
+      ),
       inl refl,
     )
 
@@ -394,17 +484,25 @@ owed_ends tell v before owed a seen =
 
 -- where no call is made
 pub nothing_called : {D : Type 0} (tell : D → View) (v : AgentView D) → Called tell v v (Unit {0}) [] []
-nothing_called tell v told some a seen fits = (a, seen, nothing_stands v.memory.rules v.batch (over_call a (tell v.disk) (tell v.disk) (Unit {0})) a (may_of v (tell v.disk)) (inl refl), (λ on q. q))
+nothing_called tell v told some a seen fits = (
+  a,
+  seen,
+  nothing_stands v.memory.rules v.batch
+      (over_call a (tell v.disk) (tell v.disk) (Unit {0})) a (may_of v (tell v.disk)) (inl refl),
+  (λ on q. q),
+)
 
 module _ {D : Type 0} (tell : D → View) (old new : AgentView D) (owed : owes old ≡ true) where
   -- a checkpoint was made or failed
-  pub checkpoint_called : (ending : Ending) → Ends tell old new ending [] [] → (ending ≡ Memory → ⊥) → Called tell old new (Unit {0}) [] []
+  pub checkpoint_called : (ending : Ending) → Ends tell old new ending [] [] → (ending ≡ Memory → ⊥)
+      → Called tell old new (Unit {0}) [] []
   checkpoint_called Done ends other told some a seen fits =
       let all = ends a seen in
       let is = owing_seen old (tell old.disk) a owed seen in (
         all.0,
         all.1,
-        checkpoint_made old.memory.rules old.batch (over_call a (tell old.disk) (tell new.disk) (Unit {0})) a all.0 (may_of old (tell old.disk)) (may_of new (tell new.disk)) all.3 is.1 all.2.0,
+        checkpoint_made old.memory.rules old.batch (over_call a (tell old.disk) (tell new.disk) (Unit {0}))
+            a all.0 (may_of old (tell old.disk)) (may_of new (tell new.disk)) all.3 is.1 all.2.0,
         (λ on q. all.2.2 q),
       )
   checkpoint_called Device ends other told some a seen fits =
@@ -412,7 +510,8 @@ module _ {D : Type 0} (tell : D → View) (old new : AgentView D) (owed : owes o
       let is = owing_seen old (tell old.disk) a owed seen in (
         all.0,
         all.1,
-        checkpoint_failed old.memory.rules old.batch (over_call a (tell old.disk) (tell new.disk) (Unit {0})) a all.0 (may_of old (tell old.disk)) (may_of new (tell new.disk)) (all.2.3 is.0) is.0 is.1 all.2.0,
+        checkpoint_failed old.memory.rules old.batch (over_call a (tell old.disk) (tell new.disk) (Unit {0}))
+            a all.0 (may_of old (tell old.disk)) (may_of new (tell new.disk)) (all.2.3 is.0) is.0 is.1 all.2.0,
         (λ on q. absurd (all.2.2 q)),
       )
   checkpoint_called Memory ends other told some a seen fits = absurd (other refl)
@@ -428,8 +527,10 @@ module _ {D : Type 0} (tell : D → View) (old new : AgentView D) (owed : owes o
         all.0,
         all.1,
         ⊎_elim
-            (λ done. checkpoint_made old.memory.rules old.batch watch a all.0 (may_of old (tell old.disk)) (may_of new (tell new.disk)) all.3 is.1 (inl done))
-            (λ same. same_stands old.memory.rules old.batch watch a all.0 (may_of old (tell old.disk)) (may_of new (tell new.disk)) all.3 (λ on. on) same)
+            (λ done. checkpoint_made old.memory.rules old.batch watch a all.0 (may_of old (tell old.disk))
+            (may_of new (tell new.disk)) all.3 is.1 (inl done))
+            (λ same. same_stands old.memory.rules old.batch watch a all.0 (may_of old (tell old.disk))
+            (may_of new (tell new.disk)) all.3 (λ on. on) same)
             all.2.0,
         (λ on. absurd on),
       )

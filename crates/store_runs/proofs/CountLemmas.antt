@@ -78,7 +78,8 @@ unshown_few false [] = omega arith
 unshown_few false (d ∷ ds) = omega arith
 
 -- a line more of an agent that is down shows no fault but that one
-pub no_fault_more : (ds : List PlainStep) (l : PlainAction) → epoch_faults (ds ++ Acts l ∷ []) ≤ epoch_faults ds + unshown false ds
+pub no_fault_more : (ds : List PlainStep) (l : PlainAction)
+    → epoch_faults (ds ++ Acts l ∷ []) ≤ epoch_faults ds + unshown false ds
 no_fault_more [] l = omega arith
 no_fault_more (Acts j ∷ ds) l = omega (arith, restarts_acts ds l)
 no_fault_more (Reopens ∷ ds) l = omega (arith, restarts_acts ds l)
@@ -92,7 +93,8 @@ some_fault (Reopens ∷ ds) = omega arith
 -- ---- the faults of closed epochs, and of the last one
 
 -- a closed epoch more
-pub closed_faults_more : (ss : List (Stretch PlainAction)) (s : Stretch PlainAction) → closed_faults (ss ++ s ∷ []) ≡ closed_faults ss + epoch_faults s.downs
+pub closed_faults_more : (ss : List (Stretch PlainAction)) (s : Stretch PlainAction)
+    → closed_faults (ss ++ s ∷ []) ≡ closed_faults ss + epoch_faults s.downs
 closed_faults_more [] s = omega arith
 closed_faults_more (t ∷ ss) s = omega (arith, closed_faults_more ss s)
 

@@ -56,7 +56,12 @@ module _ (a b : AgentSeen) (r : Course PlainAction) where
   -- and none where it acts, and the agent was down
   pub down_again : (l : PlainAction) → a.up ≡ false → met_on b (down_one r (Acts l)) ≤ met_on a r
   unfolding met_on faults_on
-  down_again l down = omega (arith, unshown_behind b.up r.downs (Acts l), no_fault_more r.downs l, ap (λ up. unshown up r.downs) down)
+  down_again l down = omega (
+    arith,
+    unshown_behind b.up r.downs (Acts l),
+    no_fault_more r.downs l,
+    ap (λ up. unshown up r.downs) down,
+  )
 
   -- a checkpoint that failed is one more at most
   pub failed_met : met_on b r ≤ met_on a r + 1
@@ -64,9 +69,11 @@ module _ (a b : AgentSeen) (r : Course PlainAction) where
   failed_met = omega (arith, unshown_few b.up r.downs)
 
 -- the lines that were answered `down` in one closed stretch more
-closed_downs_more : (ss : List (Stretch PlainAction)) (s : Stretch PlainAction) → closed_downs (ss ++ s ∷ []) ≡ closed_downs ss ++ s.downs
+closed_downs_more : (ss : List (Stretch PlainAction)) (s : Stretch PlainAction)
+    → closed_downs (ss ++ s ∷ []) ≡ closed_downs ss ++ s.downs
 closed_downs_more [] s = append-nil s.downs
-closed_downs_more (t ∷ ss) s = ap (λ ds. t.downs ++ ds) (closed_downs_more ss s) ∙ sym (append_assoc t.downs (closed_downs ss) s.downs)
+closed_downs_more (t ∷ ss) s = ap (λ ds. t.downs ++ ds) (closed_downs_more ss s)
+    ∙ sym (append_assoc t.downs (closed_downs ss) s.downs)
 
 pub nothing_printed : (rules : List Rule) (x : AgentOpening) → text_on rules x empty_course ≡ []
 unfolding text_on text_of acknowledged_replies
@@ -77,21 +84,27 @@ unfolding committed
 up_after_commit rules a = refl
 
 module _ (rules : List Rule) (batch : ℕ) where
-  pub on_up : (x : AgentOpening) (r : Course PlainAction) (a : AgentSeen) (may : AgentMay) → On rules batch x r a may → a.up ≡ true
+  pub on_up : (x : AgentOpening) (r : Course PlainAction) (a : AgentSeen) (may : AgentMay)
+      → On rules batch x r a may → a.up ≡ true
       → (r.downs ≡ []) × (a ≡ stands (machine rules) keeping (last_opening (machine rules) keeping x r) r)
   unfolding On
   on_up x r a may on up = on.up up
 
-  pub on_begun : (x : AgentOpening) (a : AgentSeen) (may : AgentMay) → 0 < batch → a ≡ reopened (machine rules) keeping x.rest x.state → AtBase a.base may → On rules batch x empty_course a may
+  pub on_begun : (x : AgentOpening) (a : AgentSeen) (may : AgentMay) → 0 < batch
+      → a ≡ reopened (machine rules) keeping x.rest x.state → AtBase a.base may → On rules batch x empty_course a may
   unfolding On
   on_begun x a may some is base = on_opened (machine rules) keeping batch x a may some is base
 
   -- the line waits
-  pub held_line : (l : PlainAction) (watch : Watch) (a b : AgentSeen) (may may' : AgentMay) → StaysOrRose watch.before watch.now → b.up ≡ true → a.up ≡ true → length a.held + 1 < batch → b ≡ after_line rules a l → AtBase b.base may'
+  pub held_line : (l : PlainAction) (watch : Watch) (a b : AgentSeen) (may may' : AgentMay)
+      → StaysOrRose watch.before watch.now → b.up ≡ true → a.up ≡ true → length a.held + 1 < batch
+      → b ≡ after_line rules a l → AtBase b.base may'
       → Steps rules batch (Acts l ∷ []) watch a may b may' []
   unfolding On text_on downs_on
   held_line l watch a b may may' stays still up less is base x r on =
-      let met : (first : ℕ) → RoseBy (met_on a r) first watch.before → RoseBy (met_on b (wait r l)) first watch.now = λ first was. rose_by_stays _ _ first watch.before watch.now (up_met a b r (wait r l) still refl refl) stays was in (
+      let met : (first : ℕ) → RoseBy (met_on a r) first watch.before
+      → RoseBy (met_on b (wait r l)) first watch.now = λ first was. rose_by_stays _ _ first watch.before
+      watch.now (up_met a b r (wait r l) still refl refl) stays was in (
         wait r l,
         on_held (machine rules) keeping batch x r l a b may may' on up less is base,
         record {
@@ -104,22 +117,29 @@ module _ (rules : List Rule) (batch : ℕ) where
       )
 
   -- the line and all that waited are answered
-  pub replied_line : (l : PlainAction) (watch : Watch) (a b : AgentSeen) (may may' : AgentMay) → StaysOrRose watch.before watch.now → b.up ≡ true → a.up ≡ true → length a.held + 1 ≡ batch → b ≡ after_commit rules (after_line rules a l) → AtBase b.base may'
+  pub replied_line : (l : PlainAction) (watch : Watch) (a b : AgentSeen) (may may' : AgentMay)
+      → StaysOrRose watch.before watch.now → b.up ≡ true → a.up ≡ true → length a.held + 1 ≡ batch
+      → b ≡ after_commit rules (after_line rules a l) → AtBase b.base may'
       → Steps rules batch (Acts l ∷ []) watch a may b may' (text_of (after_line rules a l).held)
   unfolding On text_on downs_on
   replied_line l watch a b may may' stays still up full is base x r on =
       let m = machine rules in
       let was = on_up x r a may on up in
       let o = last_opening m keeping x r in
-      let met : (first : ℕ) → RoseBy (met_on a r) first watch.before → RoseBy (met_on b (answer_all (wait r l))) first watch.now = λ first was. rose_by_stays _ _ first watch.before watch.now (up_met a b r (answer_all (wait r l)) still refl refl) stays was in
-      let held : (after_line rules a l).held ≡ (stands m keeping o (wait r l)).held = ap (λ s. (after_line rules s l).held) was.1 ∙ ap (λ s. s.held) (holding_stands m keeping o r l) in (
+      let met : (first : ℕ) → RoseBy (met_on a r) first watch.before
+      → RoseBy (met_on b (answer_all (wait r l)))
+      first watch.now = λ first was. rose_by_stays _ _ first watch.before watch.now
+      (up_met a b r (answer_all (wait r l)) still refl refl) stays was in
+      let held : (after_line rules a l).held ≡ (stands m keeping o (wait r l)).held =
+      ap (λ s. (after_line rules s l).held) was.1 ∙ ap (λ s. s.held) (holding_stands m keeping o r l) in (
         answer_all (wait r l),
         on_replies m keeping batch x r l a b may may' on up full is base,
         record {
           steps = steps_answered (wait r l) ∙ steps_wait r l was.0;
           prints =
               ap text_of (transcript_answered m keeping x restart_reply down_reply (wait r l) was.0) ∙ text_append _ _
-              ∙ ap (λ ts. text_of ts ++ text_of (stands m keeping o (wait r l)).held) (transcript_wait m keeping x restart_reply down_reply r l)
+              ∙ ap (λ ts. text_of ts ++ text_of (stands m keeping o (wait r l)).held)
+              (transcript_wait m keeping x restart_reply down_reply r l)
               ∙ ap (λ ts. text_on rules x r ++ text_of ts) (sym held);
           downs = λ q. refl;
           counted = λ first was. rose_by_fewer _ _ first watch.now (shown_met b (answer_all (wait r l))) (met first was);
@@ -128,17 +148,21 @@ module _ (rules : List Rule) (batch : ℕ) where
       )
 
   -- the line is answered `down`
-  pub down_line : (l : PlainAction) (watch : Watch) (a b : AgentSeen) (may may' : AgentMay) → StaysOrRose watch.before watch.now → (a.up ≡ true → Rose watch.before watch.now) → (watch.Quiet → ⊥)
-      → GoesDown (machine rules) keeping a b may may' (λ d n. ((a.up ≡ true) × (length a.held + 1 ≡ batch)) × IsAt (after_commit rules (after_line rules a l)).base d n)
+  pub down_line : (l : PlainAction) (watch : Watch) (a b : AgentSeen) (may may' : AgentMay)
+      → StaysOrRose watch.before watch.now → (a.up ≡ true → Rose watch.before watch.now) → (watch.Quiet → ⊥)
+      → GoesDown (machine rules) keeping a b may may'
+      (λ d n. ((a.up ≡ true) × (length a.held + 1 ≡ batch)) × IsAt (after_commit rules (after_line rules a l)).base d n)
       → Steps rules batch (Acts l ∷ []) watch a may b may' (reply_text (printed (down_reply (Acts l))))
   unfolding On text_on downs_on
   down_line l watch a b may may' stays fell loud goes x r on =
-      let met : (first : ℕ) → RoseBy (met_on a r) first watch.before → RoseBy (met_on b (down_one r (Acts l))) first watch.now = λ first was. ⊎_elim
+      let met : (first : ℕ) → RoseBy (met_on a r) first watch.before
+      → RoseBy (met_on b (down_one r (Acts l))) first watch.now = λ first was. ⊎_elim
       (λ up. rose_by_rose _ _ first watch.before watch.now (down_met a b r (Acts l)) (fell up) was)
       (λ down. rose_by_stays _ _ first watch.before watch.now (down_again a b r l down) stays was)
       (cases_Bool a.up) in (
         down_one r (Acts l),
-        on_down (machine rules) keeping batch x r (Acts l) a b may may' _ on goes (λ d n other. tried_keeps (machine rules) keeping batch x r l a may d n on other.0.0 other.0.1 other.1),
+        on_down (machine rules) keeping batch x r (Acts l) a b may may' _ on goes
+            (λ d n other. tried_keeps (machine rules) keeping batch x r l a may d n on other.0.0 other.0.1 other.1),
         record {
           steps = steps_down r (Acts l);
           prints =
@@ -150,11 +174,14 @@ module _ (rules : List Rule) (batch : ℕ) where
         },
       )
 
-  pub down_restart : (watch : Watch) (a b : AgentSeen) (may may' : AgentMay) → Rose watch.before watch.now → (watch.Quiet → ⊥) → GoesDown (machine rules) keeping a b may may' (λ d n. ⊥)
+  pub down_restart : (watch : Watch) (a b : AgentSeen) (may may' : AgentMay) → Rose watch.before watch.now
+      → (watch.Quiet → ⊥) → GoesDown (machine rules) keeping a b may may' (λ d n. ⊥)
       → Steps rules batch (Reopens ∷ []) watch a may b may' (reply_text (printed (down_reply Reopens)))
   unfolding On text_on downs_on
   down_restart watch a b may may' rose loud goes x r on =
-      let met : (first : ℕ) → RoseBy (met_on a r) first watch.before → RoseBy (met_on b (down_one r Reopens)) first watch.now = λ first was. rose_by_rose _ _ first watch.before watch.now (down_met a b r Reopens) rose was in (
+      let met : (first : ℕ) → RoseBy (met_on a r) first watch.before
+      → RoseBy (met_on b (down_one r Reopens))
+      first watch.now = λ first was. rose_by_rose _ _ first watch.before watch.now (down_met a b r Reopens) rose was in (
         down_one r Reopens,
         on_down (machine rules) keeping batch x r Reopens a b may may' _ on goes (λ d n other. absurd other),
         record {
@@ -169,11 +196,15 @@ module _ (rules : List Rule) (batch : ℕ) where
       )
 
   -- the store is opened again
-  pub restart_line : (kept : ℕ) (d : AgentDurable) (watch : Watch) (a b : AgentSeen) (may may' : AgentMay) → StaysOrRose watch.before watch.now → b.up ≡ true → 0 < batch → may d kept → b ≡ reopened (machine rules) keeping a.world.rest d → AtBase b.base may'
+  pub restart_line : (kept : ℕ) (d : AgentDurable) (watch : Watch) (a b : AgentSeen) (may may' : AgentMay)
+      → StaysOrRose watch.before watch.now → b.up ≡ true → 0 < batch → may d kept
+      → b ≡ reopened (machine rules) keeping a.world.rest d → AtBase b.base may'
       → Steps rules batch (Reopens ∷ []) watch a may b may' (reply_text (printed (restart_reply kept)))
   unfolding On text_on downs_on
   restart_line kept d watch a b may may' stays up some left is base x r on =
-      let met : (first : ℕ) → RoseBy (met_on a r) first watch.before → RoseBy (met_on b (reopen r kept)) first watch.now = λ first was. rose_by_stays _ _ first watch.before watch.now (closed_met a b r kept up) stays was in (
+      let met : (first : ℕ) → RoseBy (met_on a r) first watch.before
+      → RoseBy (met_on b (reopen r kept)) first watch.now = λ first was. rose_by_stays _ _ first
+      watch.before watch.now (closed_met a b r kept up) stays was in (
         reopen r kept,
         on_reopened (machine rules) keeping batch x r kept d a b may may' some on left is base,
         record {
@@ -188,7 +219,9 @@ module _ (rules : List Rule) (batch : ℕ) where
       )
 
   -- no line runs, and the course goes on by nothing
-  adds_nothing : (x : AgentOpening) (a b : AgentSeen) (r : Course PlainAction) (watch : Watch) → StaysOrRose watch.before watch.now → (watch.GoesOn → (first : ℕ) → RoseBy (met_on a r) first watch.before → RoseBy (met_on b r) first watch.now)
+  adds_nothing : (x : AgentOpening) (a b : AgentSeen) (r : Course PlainAction) (watch : Watch)
+      → StaysOrRose watch.before watch.now → (watch.GoesOn → (first : ℕ)
+      → RoseBy (met_on a r) first watch.before → RoseBy (met_on b r) first watch.now)
       → Adds rules x a b r r [] watch []
   adds_nothing x a b r watch stays met = record {
     steps = sym (append-nil _);
@@ -199,12 +232,15 @@ module _ (rules : List Rule) (batch : ℕ) where
   }
 
   -- nothing is held, so that no line waits
-  none_waits : (x : AgentOpening) (r : Course PlainAction) (a : AgentSeen) (may : AgentMay) → On rules batch x r a may → a.up ≡ true → a.held ≡ [] → r.waiting ≡ []
+  none_waits : (x : AgentOpening) (r : Course PlainAction) (a : AgentSeen) (may : AgentMay)
+      → On rules batch x r a may → a.up ≡ true → a.held ≡ [] → r.waiting ≡ []
   none_waits x r a may on up none =
-      nil_from_length r.waiting (sym (length_held (machine rules) keeping (last_opening (machine rules) keeping x r) r a (on_up x r a may on up).1) ∙ ap length none)
+      nil_from_length r.waiting (sym (length_held (machine rules) keeping
+      (last_opening (machine rules) keeping x r) r a (on_up x r a may on up).1) ∙ ap length none)
 
   -- and a commit would commit nothing
-  pub nothing_held : (x : AgentOpening) (r : Course PlainAction) (a b : AgentSeen) (may may' : AgentMay) → On rules batch x r a may → HoldsNone rules a b may may' → Commits rules a b may'
+  pub nothing_held : (x : AgentOpening) (r : Course PlainAction) (a b : AgentSeen) (may may' : AgentMay)
+      → On rules batch x r a may → HoldsNone rules a b may may' → Commits rules a b may'
   unfolding On
   nothing_held x r a b may may' on (inl done) = done
   nothing_held x r a b may may' on (inr (up, none, same)) =
@@ -212,8 +248,15 @@ module _ (rules : List Rule) (batch : ℕ) where
       let o = last_opening m keeping x r in
       let was = on_up x r a may on up in
       let empty = none_waits x r a may on up none in
-      let all : answer_all r ≡ r = λ i. record { closed = r.closed; answered = (ap (λ ls. r.answered ++ ls) empty ∙ append-nil r.answered) i; waiting = sym empty i; downs = r.downs } in
-      let still : after_commit rules a ≡ a = ap (committed m keeping) was.1 ∙ committed_stands m keeping o r ∙ ap (stands m keeping o) all ∙ sym was.1 in
+      let all : answer_all r ≡ r = λ i. record {
+        closed = r.closed;
+        answered =
+            (ap (λ ls. r.answered ++ ls) empty ∙ append-nil r.answered) i;
+        waiting = sym empty i;
+        downs = r.downs;
+      } in
+      let still : after_commit rules a ≡ a = ap (committed m keeping) was.1 ∙ committed_stands m keeping o r
+      ∙ ap (stands m keeping o) all ∙ sym was.1 in
       let base : a.base ≡ base_of m keeping o r.answered = ap (λ s. s.base) was.1 ∙ base_is m keeping o r in (
         up,
         same.0 ∙ sym still,
@@ -227,31 +270,44 @@ module _ (rules : List Rule) (batch : ℕ) where
       none_tried l is = cc
 
   -- a checkpoint was made of an agent that holds nothing, or it is as it was
-  pub checkpoint_made : (watch : Watch) (a b : AgentSeen) (may may' : AgentMay) → StaysOrRose watch.before watch.now → a.held ≡ [] → HoldsNone rules a b may may' → Steps rules batch [] watch a may b may' []
+  pub checkpoint_made : (watch : Watch) (a b : AgentSeen) (may may' : AgentMay)
+      → StaysOrRose watch.before watch.now → a.held ≡ [] → HoldsNone rules a b may may'
+      → Steps rules batch [] watch a may b may' []
   unfolding On
   checkpoint_made watch a b may may' stays none holds x r on =
       let done = nothing_held x r a b may may' on holds in
       let up : b.up ≡ true = ap (λ s. s.up) done.1 ∙ up_after_commit rules a in (
         r,
         on_flush (machine rules) keeping batch x r a b may may' on (none_waits x r a may on done.0 none) done.0 done.1 done.2,
-        adds_nothing x a b r watch stays (λ goes first was. rose_by_stays _ _ first watch.before watch.now (up_met a b r r up refl refl) stays was),
+        adds_nothing x a b r watch stays (λ goes first was. rose_by_stays _ _ first watch.before watch.now
+            (up_met a b r r up refl refl) stays was),
       )
 
   -- or it failed
-  pub checkpoint_failed : (watch : Watch) (a b : AgentSeen) (may may' : AgentMay) → Rose watch.before watch.now → a.up ≡ true → a.held ≡ [] → Fails rules a a b may may' (a.up ≡ true) → Steps rules batch [] watch a may b may' []
+  pub checkpoint_failed : (watch : Watch) (a b : AgentSeen) (may may' : AgentMay)
+      → Rose watch.before watch.now → a.up ≡ true → a.held ≡ [] → Fails rules a a b may may' (a.up ≡ true)
+      → Steps rules batch [] watch a may b may' []
   unfolding On
   checkpoint_failed watch a b may may' rose up none goes x r on = (
     r,
     on_flush_down (machine rules) keeping batch x r a b may may' on (none_waits x r a may on up none) goes,
-    adds_nothing x a b r watch (inr rose) (λ on first was. rose_by_rose _ _ first watch.before watch.now (failed_met a b r) rose was),
+    adds_nothing x a b r watch (inr rose) (λ on first was. rose_by_rose _ _ first watch.before watch.now
+        (failed_met a b r) rose was),
   )
 
   -- no call was made
-  pub nothing_stands : (watch : Watch) (a : AgentSeen) (may : AgentMay) → StaysOrRose watch.before watch.now → Steps rules batch [] watch a may a may []
-  nothing_stands watch a may stays x r on = (r, on, adds_nothing x a a r watch stays (λ goes first was. rose_by_stays _ _ first watch.before watch.now (omega arith) stays was))
+  pub nothing_stands : (watch : Watch) (a : AgentSeen) (may : AgentMay) → StaysOrRose watch.before watch.now
+      → Steps rules batch [] watch a may a may []
+  nothing_stands watch a may stays x r on = (
+    r,
+    on,
+    adds_nothing x a a r watch stays
+        (λ goes first was. rose_by_stays _ _ first watch.before watch.now (omega arith) stays was),
+  )
 
   -- memory was wanting, and the agent is as it was
-  pub same_stands : (watch : Watch) (a b : AgentSeen) (may may' : AgentMay) → StaysOrRose watch.before watch.now → (watch.GoesOn → ⊥) → Same a may b may' → Steps rules batch [] watch a may b may' []
+  pub same_stands : (watch : Watch) (a b : AgentSeen) (may may' : AgentMay)
+      → StaysOrRose watch.before watch.now → (watch.GoesOn → ⊥) → Same a may b may' → Steps rules batch [] watch a may b may' []
   unfolding On
   same_stands watch a b may may' stays stops same x r on = (
     r,
@@ -268,19 +324,27 @@ module _ (rules : List Rule) (batch : ℕ) where
   )
 
   -- memory was wanting at a restart, and the agent is not up
-  pub spoilt_stands : (watch : Watch) (a b : AgentSeen) (may may' : AgentMay) → StaysOrRose watch.before watch.now → (watch.GoesOn → ⊥) → GoesDown (machine rules) keeping a b may may' (λ d n. ⊥)
+  pub spoilt_stands : (watch : Watch) (a b : AgentSeen) (may may' : AgentMay)
+      → StaysOrRose watch.before watch.now → (watch.GoesOn → ⊥) → GoesDown (machine rules) keeping a b may may' (λ d n. ⊥)
       → Steps rules batch [] watch a may b may' []
   unfolding On
-  spoilt_stands watch a b may may' stays stops goes x r on = (r, on_quiet_down (machine rules) keeping batch x r a b may may' on goes, adds_nothing x a b r watch stays (λ on. absurd (stops on)))
+  spoilt_stands watch a b may may' stays stops goes x r on = (
+    r,
+    on_quiet_down (machine rules) keeping batch x r a b may may' on goes,
+    adds_nothing x a b r watch stays (λ on. absurd (stops on)),
+  )
 
   -- what waits is answered at the end
-  pub text_answered : (x : AgentOpening) (r : Course PlainAction) (a : AgentSeen) (may : AgentMay) → On rules batch x r a may → a.up ≡ true → text_on rules x (answer_all r) ≡ text_on rules x r ++ text_of a.held
+  pub text_answered : (x : AgentOpening) (r : Course PlainAction) (a : AgentSeen) (may : AgentMay)
+      → On rules batch x r a may → a.up ≡ true → text_on rules x (answer_all r) ≡ text_on rules x r ++ text_of a.held
   unfolding text_on
   text_answered x r a may on up =
       let was = on_up x r a may on up in
-      ap text_of (transcript_answered (machine rules) keeping x restart_reply down_reply r was.0) ∙ text_append _ _ ∙ ap (λ s. text_on rules x r ++ text_of s.held) (sym was.1)
+      ap text_of (transcript_answered (machine rules) keeping x restart_reply down_reply r was.0)
+      ∙ text_append _ _ ∙ ap (λ s. text_on rules x r ++ text_of s.held) (sym was.1)
 
   -- changes are at most as many as lines, so their number stays in range
-  pub on_fits : (x : AgentOpening) (r : Course PlainAction) (a : AgentSeen) (may : AgentMay) → On rules batch x r a may → length (course_steps r) + 1 < 2 ^ 64 → Fits a
+  pub on_fits : (x : AgentOpening) (r : Course PlainAction) (a : AgentSeen) (may : AgentMay)
+      → On rules batch x r a may → length (course_steps r) + 1 < 2 ^ 64 → Fits a
   unfolding On
   on_fits x r a may on less up = omega (arith, on_count (machine rules) keeping batch x r a may on up, less)

@@ -34,10 +34,19 @@ use Rattle.store_runs.proofs.EndLemmas.{refused_exactly}
 use Rattle.store_runs.proofs.StopLemmas.{writes_other}
 
 -- an empty disk has no bytes
-pub held_nothing : (past : Past) → past.first ≡ [] → past.events ≡ [] → ◌≡◌ {A = Option (List ℕ)} (Some (held past).contents) (Some [])
+pub held_nothing : (past : Past) → past.first ≡ [] → past.events ≡ []
+    → ◌≡◌ {A = Option (List ℕ)} (Some (held past).contents) (Some [])
 held_nothing past first events = by past.first past.events first events
   where
-    by : (file : List ℕ) (made : List Event) → file ≡ [] → made ≡ [] → ◌≡◌ {A = Option (List ℕ)} (Some (held (record { first = file; events = made; room_end = past.room_end; room_writes = past.room_writes })).contents) (Some [])
+    by : (file : List ℕ) (made : List Event) → file ≡ [] → made ≡ []
+        → ◌≡◌ {A = Option (List ℕ)} (Some
+        (held (record {
+          first = file;
+          events = made;
+          room_end = past.room_end;
+          room_writes =
+              past.room_writes;
+        })).contents) (Some [])
     by file [] is none = ap Some is
     by file (e ∷ made) is none = cc
 
@@ -51,7 +60,8 @@ opened why is = cc
 
 module _ (old new : View) (calls : ℕ) (before : IsLawful old) (after : IsLawful new) where
   -- at `Ok` the first of them lies past it
-  pub opens_past : IsPowered old new → min (old.changing + calls) (2 ^ 64 - 1) ≤ new.changing → (cuts : List ℕ) → old.cuts ≡ Some cuts → AnswersByCuts {T = Unit {0}} (Ok tt) old.changing calls cuts
+  pub opens_past : IsPowered old new → min (old.changing + calls) (2 ^ 64 - 1) ≤ new.changing
+      → (cuts : List ℕ) → old.cuts ≡ Some cuts → AnswersByCuts {T = Unit {0}} (Ok tt) old.changing calls cuts
   opens_past powered all [] told = λ never. opened fault.DeviceFault never
   opens_past powered all (cut ∷ cuts) told = (
     omega (arith, all, first_ahead new cut cuts after (powered.cuts ∙ told)),
@@ -59,20 +69,26 @@ module _ (old new : View) (calls : ℕ) (before : IsLawful old) (after : IsLawfu
   )
 
   -- and a device fault is the first of them
-  pub fails_within : (why : OpenFault) → (why ≡ fault.DeviceFault → HasFailed old new) → new.changing ≤ old.changing + calls → old.off ≡ false → (cuts : List ℕ) → old.cuts ≡ Some cuts
+  pub fails_within : (why : OpenFault) → (why ≡ fault.DeviceFault → HasFailed old new)
+      → new.changing ≤ old.changing + calls → old.off ≡ false → (cuts : List ℕ) → old.cuts ≡ Some cuts
       → AnswersByCuts {T = Unit {0}} (Err why) old.changing calls cuts
   fails_within why failed most on [] told = λ is. fails_by_cut old new [] (failed (err_is why fault.DeviceFault is)) on told
   fails_within why failed most on (cut ∷ cuts) told = (
     tt,
-    λ is. let call = (fails_by_cut old new (cut ∷ cuts) (failed (err_is why fault.DeviceFault is)) on told).1 in (first_ahead old cut cuts before told, omega (arith, call, most)),
+    λ is. let call = (fails_by_cut old new (cut ∷ cuts) (failed (err_is why fault.DeviceFault is))
+        on told).1 in (first_ahead old cut cuts before told, omega (arith, call, most)),
   )
 
 -- ---- a run over a disk
 
 -- the first opening was refused
-pub refused_writes : (ending : Ending) (list : RuleList) (start batch checkpoint : ℕ) (why : OpenFault) (old new : View) (steps : List PlainStep) (taken : Option (List ℕ)) → ending ≡ ending_of why
-    → ((c : List ℕ) → old.contents ≡ Some c → IsRefusal (bodies.Takes list.rules) (Refuses list.rules) nothing_saved true list.digest c why) → (why ≡ fault.DeviceFault → Rose old.faults new.faults × HasFailed old new) → OpensByCuts (Err why) old
-    → (IsOfFile why → new.contents ≡ old.contents) → (IsSettled old → (c : List ℕ) → old.contents ≡ Some c → LeavesOnly old new (IsOpening list.digest c)) → IsLawful new
+pub refused_writes : (ending : Ending) (list : RuleList) (start batch checkpoint : ℕ) (why : OpenFault)
+    (old new : View) (steps : List PlainStep) (taken : Option (List ℕ)) → ending ≡ ending_of why
+    → ((c : List ℕ) → old.contents ≡ Some c → IsRefusal (bodies.Takes list.rules) (Refuses list.rules)
+    nothing_saved true list.digest c why) → (why ≡ fault.DeviceFault
+    → Rose old.faults new.faults × HasFailed old new) → OpensByCuts (Err why) old
+    → (IsOfFile why → new.contents ≡ old.contents)
+    → (IsSettled old → (c : List ℕ) → old.contents ≡ Some c → LeavesOnly old new (IsOpening list.digest c)) → IsLawful new
     → WritesOn ending list start batch checkpoint old steps taken taken new
 refused_writes ending list start batch checkpoint why old new steps taken is cause device cuts unchanged moments lawful = inl (
   why,
@@ -90,12 +106,20 @@ refused_writes ending list start batch checkpoint why old new steps taken is cau
 )
 
 -- and the run ends by a refusal of the file, or is excused
-pub refused_ends : (found why : OpenFault) (ending : Ending) → ending ≡ ending_of found → IsOfFile why → (found ≡ why) ⊎ IsExcused found → (ending ≡ Store why) ⊎ ((ending ≡ Device) ⊎ (ending ≡ Memory))
-refused_ends found why ending is of causes = subst (λ e. (e ≡ Store why) ⊎ ((e ≡ Device) ⊎ (e ≡ Memory))) (sym is) (refused_exactly found why of causes)
+pub refused_ends : (found why : OpenFault) (ending : Ending) → ending ≡ ending_of found → IsOfFile why
+    → (found ≡ why) ⊎ IsExcused found → (ending ≡ Store why) ⊎ ((ending ≡ Device) ⊎ (ending ≡ Memory))
+refused_ends found why ending is of causes = subst (λ e. (e ≡ Store why) ⊎ ((e ≡ Device) ⊎ (e ≡ Memory)))
+    (sym is) (refused_exactly found why of causes)
 
-module _ {D : Type 0} (list : RuleList) (start batch checkpoint : ℕ) (old view : View) (agent : AgentView D) (base : Saved) (is_rules : agent.memory.rules ≡ list.rules) (is_digest : agent.journal.digest ≡ list.digest) (is_batch : agent.batch ≡ batch) (is_checkpoint : agent.checkpoint ≡ checkpoint) where
+module _ {D : Type 0} (list : RuleList) (start batch checkpoint : ℕ) (old view : View) (agent : AgentView D)
+    (base : Saved) (is_rules : agent.memory.rules ≡ list.rules)
+    (is_digest : agent.journal.digest ≡ list.digest) (is_batch : agent.batch ≡ batch)
+    (is_checkpoint : agent.checkpoint ≡ checkpoint) where
   -- an agent was opened over the disk
-  pub opened_here : view.tells ≡ true → 1 ≤ batch → IsSeen agent view (just_opened list.rules (opened_at start base)) → AtBase (just_opened list.rules (opened_at start base)).base (may_of agent view) → IsOpenedAt agent view (opened_at start base)
+  pub opened_here : view.tells ≡ true → 1 ≤ batch → IsSeen agent view
+      (just_opened list.rules (opened_at start base))
+      → AtBase (just_opened list.rules (opened_at start base)).base (may_of agent view)
+      → IsOpenedAt agent view (opened_at start base)
   opened_here told some seen at = record {
     tells = told;
     batch = omega (arith, some, is_batch);
@@ -104,33 +128,46 @@ module _ {D : Type 0} (list : RuleList) (start batch checkpoint : ℕ) (old view
   }
 
   -- and the lines ran
-  pub opened_writes : IsValid base → (ending : Ending) (new : View) (steps : List PlainStep) (before after : Option (List ℕ)) → IsPowered old view → view.faults ≡ old.faults → IsMeantBy list old base → OpensByCuts (Ok tt) old
-      → WritesLines ending agent.memory.rules agent.batch agent.checkpoint (opened_at start base) (HasNoCuts view) steps before after (LeavesDisk ending (list_of agent) agent.batch (opened_at start base) view new) → WritesOn ending list start batch checkpoint old steps before after new
+  pub opened_writes : IsValid base → (ending : Ending) (new : View) (steps : List PlainStep)
+      (before after : Option (List ℕ)) → IsPowered old view → view.faults ≡ old.faults
+      → IsMeantBy list old base → OpensByCuts (Ok tt) old
+      → WritesLines ending agent.memory.rules agent.batch agent.checkpoint (opened_at start base)
+      (HasNoCuts view) steps before after (LeavesDisk ending (list_of agent) agent.batch
+      (opened_at start base) view new) → WritesOn ending list start batch checkpoint old steps before after new
   opened_writes valid ending new steps before after powered faults means cuts written =
       let x : AgentOpening = opened_at start base in
       let left : History PlainAction → Type 0 = LeavesDisk ending list batch x view new in
-      let in_batches : WritesLines ending agent.memory.rules batch checkpoint x (HasNoCuts view) steps before after (LeavesDisk ending (list_of agent) batch x view new) =
-      subst (λ n. WritesLines ending agent.memory.rules batch n x (HasNoCuts view) steps before after (LeavesDisk ending (list_of agent) batch x view new)) is_checkpoint
-      (subst (λ n. WritesLines ending agent.memory.rules n agent.checkpoint x (HasNoCuts view) steps before after (LeavesDisk ending (list_of agent) n x view new)) is_batch written) in
+      let in_batches : WritesLines ending agent.memory.rules batch checkpoint x (HasNoCuts view)
+      steps before after (LeavesDisk ending (list_of agent) batch x view new) =
+      subst (λ n. WritesLines ending agent.memory.rules batch n x (HasNoCuts view) steps before after
+      (LeavesDisk ending (list_of agent) batch x view new)) is_checkpoint
+      (subst (λ n. WritesLines ending agent.memory.rules n agent.checkpoint x (HasNoCuts view)
+      steps before after (LeavesDisk ending (list_of agent) n x view new)) is_batch written) in
       let same : list_of agent ≡ list = λ i. record { rules = is_rules i; digest = is_digest i } in
       let under : WritesLines ending list.rules batch checkpoint x (HasNoCuts view) steps before after left =
-      subst (λ (l : RuleList). WritesLines ending l.rules batch checkpoint x (HasNoCuts view) steps before after (LeavesDisk ending l batch x view new)) same in_batches in
+      subst (λ (l : RuleList). WritesLines ending l.rules batch checkpoint x (HasNoCuts view)
+      steps before after (LeavesDisk ending l batch x view new)) same in_batches in
       inr (
         base,
         valid,
         means,
         cuts,
-        writes_other list.rules batch checkpoint x (HasNoCuts old) (HasNoCuts view) left (LeavesDisk ending list batch x old new) (λ none. (powered.after, powered.cuts ∙ none.1))
-            (λ history l. (l.0, subst (λ n. RoseBy (faults_of ending history) n new.faults) faults l.1)) before after ending steps under,
+        writes_other list.rules batch checkpoint x (HasNoCuts old) (HasNoCuts view) left
+            (LeavesDisk ending list batch x old new) (λ none. (powered.after, powered.cuts ∙ none.1))
+            (λ history l. (l.0, subst (λ n. RoseBy (faults_of ending history) n new.faults) faults l.1))
+            before after ending steps under,
       )
 
 -- no checkpoint is due by equal options
-pub tidy_under : (checkpoint mine : ℕ) (digest own : List ℕ) (images : List ℕ → Type 0) → mine ≡ checkpoint → own ≡ digest → LeavesTidy mine own images → LeavesTidy checkpoint digest images
-tidy_under checkpoint mine digest own images is same tidy = subst (λ n. LeavesTidy n digest images) is (subst (λ d. LeavesTidy mine d images) same tidy)
+pub tidy_under : (checkpoint mine : ℕ) (digest own : List ℕ) (images : List ℕ → Type 0) → mine ≡ checkpoint
+    → own ≡ digest → LeavesTidy mine own images → LeavesTidy checkpoint digest images
+tidy_under checkpoint mine digest own images is same tidy =
+    subst (λ n. LeavesTidy n digest images) is (subst (λ d. LeavesTidy mine d images) same tidy)
 
 -- ---- a run in memory
 
-module _ (cuts : List Cut) (old : View) (empty : old.contents ≡ Some []) (on : old.off ≡ false) (told : old.cuts ≡ Some (numbers_of cuts)) (first : old.changing ≡ 0) where
+module _ (cuts : List Cut) (old : View) (empty : old.contents ≡ Some []) (on : old.off ≡ false)
+    (told : old.cuts ≡ Some (numbers_of cuts)) (first : old.changing ≡ 0) where
   -- where there are no cuts, no call can fail
   no_cuts : cuts ≡ [] → HasNoCuts old
   no_cuts none = (on, told ∙ ap (λ cs. Some (numbers_of cs)) none)
@@ -146,7 +183,8 @@ module _ (cuts : List Cut) (old : View) (empty : old.contents ≡ Some []) (on :
   opens_beyond (cut ∷ cs) some opens within = omega (arith, first, within, (opens [] (numbers_of (cut ∷ cs)) empty on some).0)
 
   -- why the store on an empty disk was not opened
-  unopened : (why : OpenFault) (list : RuleList) (new : View) (before after : Option (List ℕ)) → IsRefusedOn list why old new before after → IsUnopened (ending_of why) cuts
+  unopened : (why : OpenFault) (list : RuleList) (new : View) (before after : Option (List ℕ))
+      → IsRefusedOn list why old new before after → IsUnopened (ending_of why) cuts
   unopened fault.DeviceFault list new before after refused = fails_in_opening cuts told refused.cuts
   unopened fault.NoMemory list new before after refused = tt
   unopened (fault.NotAStore offset) list new before after refused = absurd (few (refused.cause [] empty).2)
@@ -157,18 +195,28 @@ module _ (cuts : List Cut) (old : View) (empty : old.contents ≡ Some []) (on :
     where
       few : 1 < length {A = ℕ} [] → ⊥
       few less = omega (arith, less)
-  unopened (fault.TooLarge len) list new before after refused = absurd (few len (refused.cause [] empty).1 (refused.cause [] empty).2)
+  unopened (fault.TooLarge len) list new before after refused =
+      absurd (few len (refused.cause [] empty).1 (refused.cause [] empty).2)
     where
       few : (len : ℕ) → len ≡ length {A = ℕ} [] → 1073741824 < len → ⊥
       few len is less = omega (arith, is, less)
 
   -- a run over an empty disk
-  pub memory_writes : (ending : Ending) (list : RuleList) (start batch checkpoint : ℕ) (new : View) (steps : List PlainStep) (before after : Option (List ℕ)) → WritesOn ending list start batch checkpoint old steps before after new
+  pub memory_writes : (ending : Ending) (list : RuleList) (start batch checkpoint : ℕ) (new : View)
+      (steps : List PlainStep) (before after : Option (List ℕ))
+      → WritesOn ending list start batch checkpoint old steps before after new
       → WritesInMemory ending list.rules start batch checkpoint cuts steps before after
   memory_writes ending list start batch checkpoint new steps before after (inl (why, is, refused)) =
       inl (subst (λ e. IsUnopened e cuts) (sym is) (unopened why list new before after refused), refused.text)
   memory_writes ending list start batch checkpoint new steps before after (inr (base, valid, means, opens, written)) =
       let nothing : base ≡ nothing_saved = means [] nothing_saved 0 empty (inr (inl (omega arith), refl, refl)) in
-      let told_lines : WritesLines ending list.rules batch checkpoint (opened_at start base) (cuts ≡ []) steps before after (λ history. Unit {0}) =
-      writes_other list.rules batch checkpoint (opened_at start base) (cuts ≡ []) (HasNoCuts old) (LeavesDisk ending list batch (opened_at start base) old new) (λ history. Unit {0}) no_cuts (λ history l. tt) before after ending steps written in
-      inr (opens_beyond cuts told opens, subst (λ d. WritesLines ending list.rules batch checkpoint (opened_at start d) (cuts ≡ []) steps before after (λ history. Unit {0})) nothing told_lines)
+      let told_lines : WritesLines ending list.rules batch checkpoint (opened_at start base) (cuts ≡ [])
+      steps before after (λ history. Unit {0}) =
+      writes_other list.rules batch checkpoint (opened_at start base) (cuts ≡ []) (HasNoCuts old)
+      (LeavesDisk ending list batch (opened_at start base) old new) (λ history. Unit {0}) no_cuts
+      (λ history l. tt) before after ending steps written in
+      inr (
+        opens_beyond cuts told opens,
+        subst (λ d. WritesLines ending list.rules batch checkpoint
+            (opened_at start d) (cuts ≡ []) steps before after (λ history. Unit {0})) nothing told_lines,
+      )

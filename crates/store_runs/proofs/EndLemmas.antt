@@ -35,18 +35,24 @@ pub write_done : Write ≡ Done → ⊥
 write_done e = cc
 
 -- what holds of the ending that was asked for, and of a failed write, holds of the ending
-pub ended_so : (P : Ending → Type 0) (asked answered : Ending) (before after : Option (List ℕ)) (count later : ℕ) (waiting : List ℕ) → P asked → P Write → Ended asked answered before after count later waiting → P answered
-ended_so P asked answered before after count later waiting holds failed ended = ⊎_elim (λ ok. subst P (sym ok.0) holds) (λ fault. subst P (sym fault.0) failed) ended
+pub ended_so : (P : Ending → Type 0) (asked answered : Ending) (before after : Option (List ℕ))
+    (count later : ℕ) (waiting : List ℕ) → P asked → P Write → Ended asked answered before after count later waiting → P answered
+ended_so P asked answered before after count later waiting holds failed ended =
+    ⊎_elim (λ ok. subst P (sym ok.0) holds) (λ fault. subst P (sym fault.0) failed) ended
 
 -- an end that is answered by `Done` was asked for, and all that waited was written
-pub ended_done : (asked answered : Ending) (before after : Option (List ℕ)) (count later : ℕ) (waiting : List ℕ) → Ended asked answered before after count later waiting → answered ≡ Done → (asked ≡ Done) × Takes before after waiting
+pub ended_done : (asked answered : Ending) (before after : Option (List ℕ)) (count later : ℕ)
+    (waiting : List ℕ) → Ended asked answered before after count later waiting → answered ≡ Done
+    → (asked ≡ Done) × Takes before after waiting
 ended_done asked answered before after count later waiting ended is = ⊎_elim
     (λ ok. (sym ok.0 ∙ is, ok.1.0))
     (λ fault. absurd (write_done (sym fault.0 ∙ is)))
     ended
 
 -- the count of the output after an end, if it stayed until then
-pub ended_counts : (asked answered : Ending) (before after : Option (List ℕ)) (first count later : ℕ) (waiting : List ℕ) → count ≡ first → (later ≡ first → WriteCounts asked first later) → Ended asked answered before after count later waiting
+pub ended_counts : (asked answered : Ending) (before after : Option (List ℕ)) (first count later : ℕ)
+    (waiting : List ℕ) → count ≡ first → (later ≡ first → WriteCounts asked first later)
+    → Ended asked answered before after count later waiting
     → WriteCounts answered first later
 ended_counts asked answered before after first count later waiting still stays ended = ⊎_elim
     (λ ok. subst (λ ending. WriteCounts ending first later) (sym ok.0) (stays (ok.1.1 ∙ still)))
@@ -71,7 +77,8 @@ end_store (Store why) ends = absurd ends
 
 -- a stop at a line is no fault of the output, tells of a fault of a file, and is not `Device`
 module _ {D : Type 0} (tell : D → View) (old new : AgentView D) (step : PlainStep) where
-  pub stop_stays : (ending : Ending) (first later : ℕ) → Stops tell old new step ending → later ≡ first → WriteCounts ending first later
+  pub stop_stays : (ending : Ending) (first later : ℕ) → Stops tell old new step ending → later ≡ first
+      → WriteCounts ending first later
   stop_stays Done first later stops stays = absurd stops
   stop_stays Device first later stops stays = absurd stops
   stop_stays Memory first later stops stays = stays
@@ -103,8 +110,10 @@ pub write_device : Write ≡ Device → ⊥
 write_device e = cc
 
 -- a stop between two lines is a failed write or want of memory
-module _ {D : Type 0} (tell : D → View) (old new : AgentView D) (before after : Option (List ℕ)) (count later : ℕ) (waiting : List ℕ) where
-  pub unsettled_stays : (ending : Ending) (first : ℕ) → count ≡ first → Unsettled tell old new before after count later waiting ending → WriteCounts ending first later
+module _ {D : Type 0} (tell : D → View) (old new : AgentView D) (before after : Option (List ℕ))
+    (count later : ℕ) (waiting : List ℕ) where
+  pub unsettled_stays : (ending : Ending) (first : ℕ) → count ≡ first
+      → Unsettled tell old new before after count later waiting ending → WriteCounts ending first later
   unsettled_stays Done first still stops = absurd stops
   unsettled_stays Device first still stops = absurd stops
   unsettled_stays Memory first still stops = stops.1 ∙ still
@@ -119,13 +128,16 @@ module _ {D : Type 0} (tell : D → View) (old new : AgentView D) (before after 
   unsettled_store Write stops = tt
   unsettled_store (Store why) stops = absurd stops
 
-  pub unsettled_device : (P : Type 0) (ending : Ending) → Unsettled tell old new before after count later waiting ending → ending ≡ Device → P
+  pub unsettled_device : (P : Type 0) (ending : Ending)
+      → Unsettled tell old new before after count later waiting ending → ending ≡ Device → P
   unsettled_device P ending stops is = absurd (subst (Unsettled tell old new before after count later waiting) is stops)
 
-  pub unsettled_done : (P : Type 0) (ending : Ending) → Unsettled tell old new before after count later waiting ending → ending ≡ Done → P
+  pub unsettled_done : (P : Type 0) (ending : Ending)
+      → Unsettled tell old new before after count later waiting ending → ending ≡ Done → P
   unsettled_done P ending stops is = absurd (subst (Unsettled tell old new before after count later waiting) is stops)
 
-  pub unsettled_power : (ending : Ending) (power : Power) → Unsettled tell old new before after count later waiting ending → TellsPower ending power
+  pub unsettled_power : (ending : Ending) (power : Power)
+      → Unsettled tell old new before after count later waiting ending → TellsPower ending power
   unsettled_power Done power stops = absurd stops
   unsettled_power Device power stops = absurd stops
   unsettled_power Memory power stops = tt
@@ -147,7 +159,9 @@ holds_nothing rules a b may may' (inl done) = ap (λ s. s.held) done.1 ∙ none_
 holds_nothing rules a b may may' (inr (up, none, same)) = ap (λ s. s.held) same.0 ∙ none
 
 -- so that none is due where it owes no checkpoint
-pub ends_tidy : {D : Type 0} (v : AgentView D) (view : View) (rules : List Rule) (a b : AgentSeen) (may may' : AgentMay) (old new : View) (ending : Ending) (before now : List ℕ) → IsSeen v view b → EndsWith rules a b may may' old new ending before now → ending ≡ Done
+pub ends_tidy : {D : Type 0} (v : AgentView D) (view : View) (rules : List Rule) (a b : AgentSeen)
+    (may may' : AgentMay) (old new : View) (ending : Ending) (before now : List ℕ) → IsSeen v view b
+    → EndsWith rules a b may may' old new ending before now → ending ≡ Done
     → owes v ≡ false → IsTidyAt v view
 ends_tidy v view rules a b may may' old new ending before now seen ends is owed =
     let holds : HoldsNone rules a b may may' = (subst (λ e. EndsWith rules a b may may' old new e before now) is ends).0 in
@@ -156,7 +170,9 @@ ends_tidy v view rules a b may may' old new ending before now seen ends is owed 
     (none, tidy_files v view b seen up none)
 
 -- the agent after the last commit
-pub ends_power : (rules : List Rule) (a b : AgentSeen) (may may' : AgentMay) (old new : View) (ending : Ending) (before now : List ℕ) (power : Power) → (b.up ≡ true → power ≡ Up) → (power ≡ Up → b.up ≡ true) → EndsWith rules a b may may' old new ending before now
+pub ends_power : (rules : List Rule) (a b : AgentSeen) (may may' : AgentMay) (old new : View)
+    (ending : Ending) (before now : List ℕ) (power : Power) → (b.up ≡ true → power ≡ Up)
+    → (power ≡ Up → b.up ≡ true) → EndsWith rules a b may may' old new ending before now
     → TellsPower ending power
 ends_power rules a b may may' old new Done before now power up is_up ends = up (holds_up rules a b may may' ends.0)
 ends_power rules a b may may' old new Device before now power up is_up ends = λ is. true≢false (sym (is_up is) ∙ ends.0.down)
@@ -165,15 +181,20 @@ ends_power rules a b may may' old new Write before now power up is_up ends = abs
 ends_power rules a b may may' old new (Store why) before now power up is_up ends = absurd ends
 
 -- the count of the disk's faults after it
-module _ (rules : List Rule) (batch : ℕ) (x : AgentOpening) (begin here : View) (a : AgentSeen) (may : AgentMay) (steps : List PlainStep) (first out : Option (List ℕ)) (waiting : List ℕ)
+module _ (rules : List Rule) (batch : ℕ) (x : AgentOpening) (begin here : View) (a : AgentSeen)
+    (may : AgentMay) (steps : List PlainStep) (first out : Option (List ℕ)) (waiting : List ℕ)
     (on : OnCourse rules batch x a may steps (over_run begin here (Unit {0})) first out waiting) where
-  pub ends_device : (mine : List Rule) (b : AgentSeen) (may' : AgentMay) (new : View) (ending : Ending) (now : List ℕ) → EndsWith mine a b may may' here new ending waiting now → StaysOrRose here.faults new.faults → ending ≡ Device → Rose begin.faults new.faults
+  pub ends_device : (mine : List Rule) (b : AgentSeen) (may' : AgentMay) (new : View) (ending : Ending)
+      (now : List ℕ) → EndsWith mine a b may may' here new ending waiting now
+      → StaysOrRose here.faults new.faults → ending ≡ Device → Rose begin.faults new.faults
   ends_device mine b may' new ending now ends stays is =
       let failed = subst (λ e. EndsWith mine a b may may' here new e waiting now) is ends in
       device_rose rules batch x (over_run begin here (Unit {0})) a may steps first out waiting on new.faults tt stays failed.3
 
   -- and did not fall before
-  pub ends_later : (mine : List Rule) (b : AgentSeen) (may' : AgentMay) (new : View) (ending : Ending) (now : List ℕ) → EndsWith mine a b may may' here new ending waiting now → StaysOrRose here.faults new.faults → ending ≡ Done → (b.up ≡ true) × RoseBy 0 begin.faults new.faults
+  pub ends_later : (mine : List Rule) (b : AgentSeen) (may' : AgentMay) (new : View) (ending : Ending)
+      (now : List ℕ) → EndsWith mine a b may may' here new ending waiting now
+      → StaysOrRose here.faults new.faults → ending ≡ Done → (b.up ≡ true) × RoseBy 0 begin.faults new.faults
   ends_later mine b may' new ending now ends stays is = (
     holds_up mine a b may may' (subst (λ e. EndsWith mine a b may may' here new e waiting now) is ends).0,
     rose_by_stays (faults_on on.course) 0 begin.faults here.faults new.faults (omega arith) stays on.faults,
@@ -181,7 +202,8 @@ module _ (rules : List Rule) (batch : ℕ) (x : AgentOpening) (begin here : View
 
 -- ---- the checkpoint behind the last commit
 
-module _ {D : Type 0} (tell : D → View) (here new : AgentView D) (asked answered : Ending) (closes : Closes tell here new asked answered) where
+module _ {D : Type 0} (tell : D → View) (here new : AgentView D) (asked answered : Ending)
+    (closes : Closes tell here new asked answered) where
   -- it tells of no store, and is no fault of the output
   pub closes_store : IsStoreEnding asked → IsStoreEnding answered
   closes_store told = ⊎_elim (λ same. subst IsStoreEnding (sym same.0) told) (λ last. end_store answered last.2) closes
@@ -199,26 +221,34 @@ module _ {D : Type 0} (tell : D → View) (here new : AgentView D) (asked answer
         (λ same. subst (λ e. TellsPower e new.power) (sym same.0) (subst (λ v. TellsPower asked v.power) (sym same.1) told))
         (λ last.
         let more = last.3 b seen in
-        ends_power here.memory.rules b more.0 (may_of here (tell here.disk)) (may_of new (tell new.disk)) (tell here.disk) (tell new.disk) answered [] [] new.power more.1.up.0 more.1.up.1 more.2)
+        ends_power here.memory.rules b more.0 (may_of here (tell here.disk)) (may_of new (tell new.disk))
+        (tell here.disk) (tell new.disk) answered [] [] new.power more.1.up.0 more.1.up.1 more.2)
         closes
 
     -- the count of the disk's faults
-    pub closes_device : (first : ℕ) → (asked ≡ Device → Rose first (tell here.disk).faults) → (asked ≡ Done → (b.up ≡ true) × RoseBy 0 first (tell here.disk).faults) → answered ≡ Device → Rose first (tell new.disk).faults
+    pub closes_device : (first : ℕ) → (asked ≡ Device → Rose first (tell here.disk).faults)
+        → (asked ≡ Done → (b.up ≡ true) × RoseBy 0 first (tell here.disk).faults) → answered ≡ Device
+        → Rose first (tell new.disk).faults
     closes_device first fell done is = ⊎_elim
         (λ same. subst (λ v. Rose first (tell v.disk).faults) (sym same.1) (fell (sym same.0 ∙ is)))
         (λ last.
         let more = last.3 b seen in
-        let failed = subst (λ e. EndsWith here.memory.rules b more.0 (may_of here (tell here.disk)) (may_of new (tell new.disk)) (tell here.disk) (tell new.disk) e [] []) is more.2 in
-        rose_by_rose 0 1 first (tell here.disk).faults (tell new.disk).faults (omega arith) (failed.3 (done last.0).0) (done last.0).1)
+        let failed = subst (λ e. EndsWith here.memory.rules b more.0 (may_of here (tell here.disk))
+        (may_of new (tell new.disk)) (tell here.disk) (tell new.disk) e [] []) is more.2 in
+        rose_by_rose 0 1 first (tell here.disk).faults (tell new.disk).faults (omega arith)
+        (failed.3 (done last.0).0) (done last.0).1)
         closes
 
     -- at `Done` no checkpoint is due
-    pub closes_tidy : (asked ≡ Done → owes here ≡ false → IsTidyAt here (tell here.disk)) → answered ≡ Done → owes new ≡ false → IsTidyAt new (tell new.disk)
+    pub closes_tidy : (asked ≡ Done → owes here ≡ false → IsTidyAt here (tell here.disk)) → answered ≡ Done
+        → owes new ≡ false → IsTidyAt new (tell new.disk)
     closes_tidy tidy is owed = ⊎_elim
-        (λ same. subst (λ v. IsTidyAt v (tell v.disk)) (sym same.1) (tidy (sym same.0 ∙ is) (subst (λ v. owes v ≡ false) same.1 owed)))
+        (λ same. subst (λ v. IsTidyAt v (tell v.disk)) (sym same.1)
+        (tidy (sym same.0 ∙ is) (subst (λ v. owes v ≡ false) same.1 owed)))
         (λ last.
         let more = last.3 b seen in
-        ends_tidy new (tell new.disk) here.memory.rules b more.0 (may_of here (tell here.disk)) (may_of new (tell new.disk)) (tell here.disk) (tell new.disk) answered [] [] more.1 more.2 is owed)
+        ends_tidy new (tell new.disk) here.memory.rules b more.0 (may_of here (tell here.disk))
+        (may_of new (tell new.disk)) (tell here.disk) (tell new.disk) answered [] [] more.1 more.2 is owed)
         closes
 
 -- a first opening that was refused is no fault of the output, and tells of a fault of a file
@@ -283,6 +313,7 @@ excused_ending (fault.OtherList kept given) excused = absurd excused
 excused_ending (fault.TooLarge len) excused = absurd excused
 
 -- where a file has a refusal, the run ends by it, or it is excused
-pub refused_exactly : (found why : OpenFault) → IsOfFile why → (found ≡ why) ⊎ IsExcused found → (ending_of found ≡ Store why) ⊎ ((ending_of found ≡ Device) ⊎ (ending_of found ≡ Memory))
+pub refused_exactly : (found why : OpenFault) → IsOfFile why → (found ≡ why) ⊎ IsExcused found
+    → (ending_of found ≡ Store why) ⊎ ((ending_of found ≡ Device) ⊎ (ending_of found ≡ Memory))
 refused_exactly found why of (inl same) = inl (ap ending_of same ∙ file_ending why of)
 refused_exactly found why of (inr excused) = inr (excused_ending found excused)

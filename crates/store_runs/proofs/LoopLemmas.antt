@@ -40,23 +40,29 @@ use Rattle.waiting_lines.proofs.PrefixLemmas.{front_end, front_more, front_none,
 
 -- ---- steps
 
-pub steps_more : (lines : List Line) (i : ℕ) (d : Line) → i < length lines → steps_of (take (i + 1) lines) ≡ steps_of (take i lines) ++ step_of (get_or lines i d).step ∷ []
-steps_more lines i d h = ap steps_of (take_more lines i d h) ∙ map-append (λ (l : Line). step_of l.step) (take i lines) (get_or lines i d ∷ [])
+pub steps_more : (lines : List Line) (i : ℕ) (d : Line) → i < length lines
+    → steps_of (take (i + 1) lines) ≡ steps_of (take i lines) ++ step_of (get_or lines i d).step ∷ []
+steps_more lines i d h = ap steps_of (take_more lines i d h)
+    ∙ map-append (λ (l : Line). step_of l.step) (take i lines) (get_or lines i d ∷ [])
 
 pub steps_parts : (lines : List Line) (i : ℕ) → steps_of lines ≡ steps_of (take i lines) ++ steps_of (drop i lines)
-steps_parts lines i = ap steps_of (sym (take-append-drop i lines)) ∙ map-append (λ (l : Line). step_of l.step) (take i lines) (drop i lines)
+steps_parts lines i = ap steps_of (sym (take-append-drop i lines))
+    ∙ map-append (λ (l : Line). step_of l.step) (take i lines) (drop i lines)
 
 steps_few : (lines : List Line) (i : ℕ) → i ≤ length lines → length (steps_of (take i lines)) ≡ i
 steps_few lines i h = length-map (take i lines) (λ (l : Line). step_of l.step) ∙ length-take-le i lines h
 
 -- lines are few enough for their changes to stay in range
-pub steps_fit : (lines : List Line) (i : ℕ) → i ≤ length lines → length lines + 2 < 2 ^ 64 → length (steps_of (take i lines)) + 1 < 2 ^ 64
+pub steps_fit : (lines : List Line) (i : ℕ) → i ≤ length lines → length lines + 2 < 2 ^ 64
+    → length (steps_of (take i lines)) + 1 < 2 ^ 64
 steps_fit lines i h fits = omega (arith, steps_few lines i h, h, fits)
 
 -- a commit of nothing leaves the base
-committed_again : (rules : List Rule) (a : AgentSeen) → (after_commit rules (after_commit rules a)).base ≡ (after_commit rules a).base
+committed_again : (rules : List Rule) (a : AgentSeen)
+    → (after_commit rules (after_commit rules a)).base ≡ (after_commit rules a).base
 unfolding committed
-committed_again rules a = forward_append (machine rules) keeping a.pending [] a.base ∙ ap (λ ms. forward (machine rules) keeping ms a.base) (append-nil a.pending)
+committed_again rules a = forward_append (machine rules) keeping a.pending [] a.base
+    ∙ ap (λ ms. forward (machine rules) keeping ms a.base) (append-nil a.pending)
 
 -- an agent that was just opened is up
 pub opens_up : (rules : List Rule) (x : AgentOpening) → (just_opened rules x).up ≡ true
@@ -65,7 +71,8 @@ opens_up rules x = refl
 
 module _ (rules : List Rule) (batch : ℕ) (x : AgentOpening) (watch : Watch) where
   -- no line has run yet
-  pub course_begins : (a : AgentSeen) (may : AgentMay) (out : Option (List ℕ)) → watch.before ≤ watch.now → a.up ≡ true → 0 < batch → a ≡ reopened (machine rules) keeping x.rest x.state → AtBase a.base may
+  pub course_begins : (a : AgentSeen) (may : AgentMay) (out : Option (List ℕ)) → watch.before ≤ watch.now
+      → a.up ≡ true → 0 < batch → a ≡ reopened (machine rules) keeping x.rest x.state → AtBase a.base may
       → OnCourse rules batch x a may [] watch out out []
   unfolding downs_on faults_on met_on
   course_begins a may out later up some is base = record {
@@ -74,14 +81,20 @@ module _ (rules : List Rule) (batch : ℕ) (x : AgentOpening) (watch : Watch) wh
     runs = refl;
     downs = λ q. refl;
     faults = rose_by_none watch.before watch.now later;
-    met = λ goes. rose_by_fewer 0 _ watch.before watch.now (omega (arith, unshown_up a.up [] up)) (rose_by_none watch.before watch.now later);
+    met = λ goes. rose_by_fewer 0 _ watch.before watch.now (omega (arith, unshown_up a.up [] up))
+        (rose_by_none watch.before watch.now later);
     text = subst (λ t. TakesFront out out t []) (sym (nothing_printed rules x)) (front_none out);
   }
 
   -- some lines more
-  pub course_more : (ran : List PlainStep) (Now GoesOn : Type 0) (faults : ℕ) (a b : AgentSeen) (may may' : AgentMay) (steps : List PlainStep) (first out : Option (List ℕ)) (waiting now text : List ℕ) → (watch.Quiet → Now) → watch.GoesOn
-      → OnCourse rules batch x a may steps watch first out waiting → Steps rules batch ran (record { Quiet = Now; GoesOn = GoesOn; before = watch.now; now = faults }) a may b may' text → now ≡ waiting ++ text
-      → OnCourse rules batch x b may' (steps ++ ran) (record { Quiet = watch.Quiet; GoesOn = GoesOn; before = watch.before; now = faults }) first out now
+  pub course_more : (ran : List PlainStep) (Now GoesOn : Type 0) (faults : ℕ) (a b : AgentSeen)
+      (may may' : AgentMay) (steps : List PlainStep) (first out : Option (List ℕ)) (waiting now text : List ℕ)
+      → (watch.Quiet → Now) → watch.GoesOn
+      → OnCourse rules batch x a may steps watch first out waiting
+      → Steps rules batch ran (record { Quiet = Now; GoesOn = GoesOn; before = watch.now; now = faults })
+      a may b may' text → now ≡ waiting ++ text
+      → OnCourse rules batch x b may' (steps ++ ran)
+      (record { Quiet = watch.Quiet; GoesOn = GoesOn; before = watch.before; now = faults }) first out now
   course_more ran Now GoesOn faults a b may may' steps first out waiting now text still goes on line is =
       let next = line x on.course on.on in
       record {
@@ -93,12 +106,15 @@ module _ (rules : List Rule) (batch : ℕ) (x : AgentOpening) (watch : Watch) wh
         met = λ on_goes. next.2.met on_goes watch.before (on.met goes);
         text =
             subst (λ t. TakesFront first out t now) (sym next.2.prints)
-            (subst (TakesFront first out (text_on rules x on.course ++ text)) (sym is) (front_more first out out (text_on rules x on.course) waiting on.text text));
+            (subst (TakesFront first out (text_on rules x on.course ++ text)) (sym is)
+            (front_more first out out (text_on rules x on.course) waiting on.text text));
       }
 
-  module _ (a : AgentSeen) (may : AgentMay) (steps : List PlainStep) (first out : Option (List ℕ)) (waiting : List ℕ) (on : OnCourse rules batch x a may steps watch first out waiting) where
+  module _ (a : AgentSeen) (may : AgentMay) (steps : List PlainStep) (first out : Option (List ℕ))
+      (waiting : List ℕ) (on : OnCourse rules batch x a may steps watch first out waiting) where
     -- some of what waits was written
-    pub course_written : (later : Option (List ℕ)) (rest : List ℕ) → TakesFront out later waiting rest → OnCourse rules batch x a may steps watch first later rest
+    pub course_written : (later : Option (List ℕ)) (rest : List ℕ) → TakesFront out later waiting rest
+        → OnCourse rules batch x a may steps watch first later rest
     course_written later rest took = record {
       course = on.course;
       on = on.on;
@@ -119,37 +135,48 @@ module _ (rules : List Rule) (batch : ℕ) (x : AgentOpening) (watch : Watch) wh
 
     lost_is : IsHistoryOf rules batch x watch.Quiet steps lost
     unfolding On downs_on
-    lost_is = record { admissible = ends_lost (machine rules) keeping batch x on.course a may on.on; lines = on.runs; quiet = on.downs }
+    lost_is = record {
+      admissible = ends_lost (machine rules) keeping batch x on.course a may on.on;
+      lines =
+          on.runs;
+      quiet = on.downs;
+    }
 
     lost_text : history_text rules x lost ≡ text_on rules x on.course
     unfolding history_replies text_on
     lost_text = refl
 
     -- the faults that it shows
-    lost_faults : (ending : Ending) (now : ℕ) → last_faults ending on.course.downs ≤ epoch_faults on.course.downs → StaysOrRose watch.now now → RoseBy (faults_of ending lost) watch.before now
+    lost_faults : (ending : Ending) (now : ℕ) → last_faults ending on.course.downs ≤ epoch_faults
+        on.course.downs → StaysOrRose watch.now now → RoseBy (faults_of ending lost) watch.before now
     unfolding faults_on
     lost_faults ending now few stays = rose_by_stays _ _ watch.before watch.now now (omega (arith, few)) stays on.faults
 
     -- the commit at the end met one fault more, unless the agent was down
-    lost_device : (now : ℕ) → watch.GoesOn → StaysOrRose watch.now now → (a.up ≡ true → Rose watch.now now) → RoseBy (faults_of Device lost) watch.before now
+    lost_device : (now : ℕ) → watch.GoesOn → StaysOrRose watch.now now → (a.up ≡ true → Rose watch.now now)
+        → RoseBy (faults_of Device lost) watch.before now
     unfolding faults_on met_on
     lost_device now goes stays fell = ⊎_elim
         (λ up. rose_by_rose _ _ watch.before watch.now now (omega (arith, last_fault_more on.course.downs)) (fell up) on.faults)
-        (λ down. rose_by_stays _ _ watch.before watch.now now (omega (arith, last_fault_met on.course.downs, ap (λ up. unshown up on.course.downs) down)) stays (on.met goes))
+        (λ down. rose_by_stays _ _ watch.before watch.now now
+        (omega (arith, last_fault_met on.course.downs, ap (λ up. unshown up on.course.downs) down)) stays (on.met goes))
         (cases_Bool a.up)
 
     -- so the count rose
-    pub device_rose : (now : ℕ) → watch.GoesOn → StaysOrRose watch.now now → (a.up ≡ true → Rose watch.now now) → Rose watch.before now
+    pub device_rose : (now : ℕ) → watch.GoesOn → StaysOrRose watch.now now
+        → (a.up ≡ true → Rose watch.now now) → Rose watch.before now
     unfolding faults_on met_on
     device_rose now goes stays fell = ⊎_elim
         (λ up. rose_by_rose (faults_on on.course) 1 watch.before watch.now now (omega arith) (fell up) on.faults)
-        (λ down. rose_by_stays (met_on a on.course) 1 watch.before watch.now now (omega (arith, some_fault on.course.downs, ap (λ up. unshown up on.course.downs) down)) stays (on.met goes))
+        (λ down. rose_by_stays (met_on a on.course) 1 watch.before watch.now now
+        (omega (arith, some_fault on.course.downs, ap (λ up. unshown up on.course.downs) down)) stays (on.met goes))
         (cases_Bool a.up)
 
     -- and the checkpoint behind the last commit met one
     last_device : (now : ℕ) → Rose watch.now now → RoseBy (faults_of Device lost) watch.before now
     unfolding faults_on
-    last_device now rose = rose_by_rose _ _ watch.before watch.now now (omega (arith, last_fault_more on.course.downs)) rose on.faults
+    last_device now rose = rose_by_rose _ _ watch.before watch.now now
+        (omega (arith, last_fault_more on.course.downs)) rose on.faults
 
     lost_leaves : Leaves rules batch x may lost
     unfolding On
@@ -162,7 +189,8 @@ module _ (rules : List Rule) (batch : ℕ) (x : AgentOpening) (watch : Watch) wh
     answered_is : a.up ≡ true → IsHistoryOf rules batch x watch.Quiet steps answered
     unfolding On downs_on
     answered_is up = record {
-      admissible = ends_answered (machine rules) keeping batch x on.course a may (on_up rules batch x on.course a may on.on up).0 on.on;
+      admissible = ends_answered (machine rules) keeping batch x on.course a may
+          (on_up rules batch x on.course a may on.on up).0 on.on;
       lines = steps_answered on.course ∙ on.runs;
       quiet = on.downs;
     }
@@ -172,10 +200,12 @@ module _ (rules : List Rule) (batch : ℕ) (x : AgentOpening) (watch : Watch) wh
     answered_text up = text_answered rules batch x on.course a may on.on up
 
     -- what a commit leads to
-    committed_base : a.up ≡ true → (after_commit rules a).base ≡ base_of (machine rules) keeping (last_opening (machine rules) keeping x on.course) (executed_lines on.course)
+    committed_base : a.up ≡ true → (after_commit rules a).base
+        ≡ base_of (machine rules) keeping (last_opening (machine rules) keeping x on.course) (executed_lines on.course)
     committed_base up =
         let o = last_opening (machine rules) keeping x on.course in
-        ap (λ s. (committed (machine rules) keeping s).base) (on_up rules batch x on.course a may on.on up).1 ∙ ap (λ s. s.base) (committed_stands (machine rules) keeping o on.course)
+        ap (λ s. (committed (machine rules) keeping s).base) (on_up rules batch x on.course a may on.on up).1
+        ∙ ap (λ s. s.base) (committed_stands (machine rules) keeping o on.course)
         ∙ base_is (machine rules) keeping o (answer_all on.course)
 
     -- the store has all that a commit leads to
@@ -183,7 +213,8 @@ module _ (rules : List Rule) (batch : ℕ) (x : AgentOpening) (watch : Watch) wh
     IsStored may' = (a.up ≡ true) × AtBase (after_commit rules a).base may'
 
     answered_leaves : (may' : AgentMay) → IsStored may' → Leaves rules batch x may' answered
-    answered_leaves may' stored d n left = left_of_answered rules batch x on.course d n (on_up rules batch x on.course a may on.on stored.0).0
+    answered_leaves may' stored d n left = left_of_answered rules batch x on.course d n
+        (on_up rules batch x on.course a may on.on stored.0).0
         (subst (λ base. IsAt base d n) (committed_base stored.0) (stored.1 d n left))
 
     commits_stored : (b : AgentSeen) (may' : AgentMay) → Commits rules a b may' → IsStored may'
@@ -191,13 +222,18 @@ module _ (rules : List Rule) (batch : ℕ) (x : AgentOpening) (watch : Watch) wh
 
     -- a checkpoint behind that commit leaves it so, whether it was made
     stored_again : (b c : AgentSeen) (may' after : AgentMay) → Commits rules a b may' → Commits rules b c after → IsStored after
-    stored_again b c may' after done more = (done.0, λ d n left. subst (λ base. IsAt base d n) (ap (λ s. s.base) more.1 ∙ ap (λ s. (after_commit rules s).base) done.1 ∙ committed_again rules a) (more.2 d n left))
+    stored_again b c may' after done more = (
+      done.0,
+      λ d n left. subst (λ base. IsAt base d n)
+          (ap (λ s. s.base) more.1 ∙ ap (λ s. (after_commit rules s).base) done.1 ∙ committed_again rules a) (more.2 d n left),
+    )
 
     stored_still : (b c : AgentSeen) (may' after : AgentMay) → Commits rules a b may' → Same b may' c after → IsStored after
     stored_still b c may' after done same = (done.0, λ d n left. (commits_stored b may' done).1 d n (same.1 d n left))
 
     -- or failed
-    stored_down : (b c : AgentSeen) (may' after : AgentMay) → Commits rules a b may' → Fails rules b b c may' after (b.up ≡ true) → IsStored after
+    stored_down : (b c : AgentSeen) (may' after : AgentMay) → Commits rules a b may'
+        → Fails rules b b c may' after (b.up ≡ true) → IsStored after
     stored_down b c may' after done goes = (
       done.0,
       λ d n left. ⊎_elim ((commits_stored b may' done).1 d n)
@@ -207,39 +243,53 @@ module _ (rules : List Rule) (batch : ℕ) (x : AgentOpening) (watch : Watch) wh
 
     tried_leaves : (b : AgentSeen) (may' : AgentMay) → Fails rules a a b may may' (a.up ≡ true) → Leaves rules batch x may' lost
     tried_leaves b may' goes d n left = ⊎_elim (lost_leaves d n)
-        (λ tried. left_of_executed rules batch x on.course d n (on_up rules batch x on.course a may on.on tried.0).0 (subst (λ base. IsAt base d n) (committed_base tried.0) tried.1))
+        (λ tried. left_of_executed rules batch x on.course d n
+        (on_up rules batch x on.course a may on.on tried.0).0
+        (subst (λ base. IsAt base d n) (committed_base tried.0) tried.1))
         (goes.images d n left)
 
     -- what a run wrote and left that ended so
     abbrev Writes : (checkpoint : ℕ) → (all : List PlainStep) → (later : Option (List ℕ)) → AgentMay → (now : ℕ) → Ending → Type 0
-    Writes checkpoint all later may' now ending = WritesLines ending rules batch checkpoint x watch.Quiet all first later (Marks rules batch x may' ending watch.before now)
+    Writes checkpoint all later may' now ending = WritesLines ending rules batch checkpoint x watch.Quiet all
+        first later (Marks rules batch x may' ending watch.before now)
 
     -- the run was stopped after these lines, and a part of what waits was written
-    stopped : (all rest : List PlainStep) (later : Option (List ℕ)) (ending : Ending) (may' : AgentMay) (now : ℕ) → all ≡ steps ++ rest → TakesPrefix out later waiting
-        → Marks rules batch x may' ending watch.before now lost → Stopped rules batch x watch.Quiet all first later (Marks rules batch x may' ending watch.before now)
+    stopped : (all rest : List PlainStep) (later : Option (List ℕ)) (ending : Ending) (may' : AgentMay)
+        (now : ℕ) → all ≡ steps ++ rest → TakesPrefix out later waiting
+        → Marks rules batch x may' ending watch.before now lost
+        → Stopped rules batch x watch.Quiet all first later (Marks rules batch x may' ending watch.before now)
     stopped all rest later ending may' now parts took left = record {
       front = steps;
       rest = rest;
       parts = parts;
       history = lost;
       «is» = lost_is;
-      text = subst (TakesPrefix first later) (sym lost_text) (front_part first out later (text_on rules x on.course) waiting on.text took);
+      text = subst (TakesPrefix first later) (sym lost_text)
+          (front_part first out later (text_on rules x on.course) waiting on.text took);
       left = left;
     }
 
     same_faults : StaysOrRose watch.now watch.now
     same_faults = inl refl
 
-    pub course_stopped : (checkpoint : ℕ) (all rest : List PlainStep) (later : Option (List ℕ)) → all ≡ steps ++ rest → TakesPrefix out later waiting → Writes checkpoint all later may watch.now Write
-    course_stopped checkpoint all rest later parts took = stopped all rest later Write may watch.now parts took (lost_leaves, lost_faults Write watch.now (omega arith) same_faults)
+    pub course_stopped : (checkpoint : ℕ) (all rest : List PlainStep) (later : Option (List ℕ))
+        → all ≡ steps ++ rest → TakesPrefix out later waiting → Writes checkpoint all later may watch.now Write
+    course_stopped checkpoint all rest later parts took =
+        stopped all rest later Write may watch.now parts took (lost_leaves, lost_faults Write watch.now (omega arith) same_faults)
 
     -- memory was wanting, and a part of what should wait does
-    pub course_memory : (checkpoint : ℕ) (all rest : List PlainStep) (later : Option (List ℕ)) (shown more : List ℕ) (ending : Ending) (count rose : ℕ) → all ≡ steps ++ rest → waiting ≡ shown ++ more → Ended Memory ending out later count rose shown
+    pub course_memory : (checkpoint : ℕ) (all rest : List PlainStep) (later : Option (List ℕ))
+        (shown more : List ℕ) (ending : Ending) (count rose : ℕ) → all ≡ steps ++ rest
+        → waiting ≡ shown ++ more → Ended Memory ending out later count rose shown
         → Writes checkpoint all later may watch.now ending
     course_memory checkpoint all rest later shown more ending count rose parts is ended = ⊎_elim
         (λ ok. subst (Writes checkpoint all later may watch.now) (sym ok.0)
-        (stopped all rest later Memory may watch.now parts (subst (TakesPrefix out later) (sym is) (prefix_front out later shown more ok.1.0)) (lost_leaves, lost_faults Memory watch.now (omega arith) same_faults)))
-        (λ fault. subst (Writes checkpoint all later may watch.now) (sym fault.0) (course_stopped checkpoint all rest later parts (subst (TakesPrefix out later) (sym is) (prefix_longer out later shown more fault.1.0))))
+        (stopped all rest later Memory may watch.now parts
+        (subst (TakesPrefix out later) (sym is) (prefix_front out later shown more ok.1.0))
+        (lost_leaves, lost_faults Memory watch.now (omega arith) same_faults)))
+        (λ fault. subst (Writes checkpoint all later may watch.now) (sym fault.0)
+        (course_stopped checkpoint all rest later parts
+        (subst (TakesPrefix out later) (sym is) (prefix_longer out later shown more fault.1.0))))
         ended
 
     no_rest : steps ≡ steps ++ []
@@ -248,11 +298,14 @@ module _ (rules : List Rule) (batch : ℕ) (x : AgentOpening) (watch : Watch) wh
     -- the end left this
     module _ (checkpoint : ℕ) (may' : AgentMay) (now : ℕ) (stays : StaysOrRose watch.now now) where
       -- the lines that waited were committed
-      answered_marks : (ending : Ending) → last_faults ending on.course.downs ≤ epoch_faults on.course.downs → IsStored may' → Marks rules batch x may' ending watch.before now answered
+      answered_marks : (ending : Ending) → last_faults ending on.course.downs ≤ epoch_faults on.course.downs
+          → IsStored may' → Marks rules batch x may' ending watch.before now answered
       answered_marks ending few stored = (answered_leaves may' stored, lost_faults ending now few stays)
 
       -- and a part of the text was written
-      answered_stopped : (ending : Ending) (later : Option (List ℕ)) → last_faults ending on.course.downs ≤ epoch_faults on.course.downs → IsStored may' → TakesPrefix out later (waiting ++ text_of a.held)
+      answered_stopped : (ending : Ending) (later : Option (List ℕ))
+          → last_faults ending on.course.downs ≤ epoch_faults on.course.downs → IsStored may'
+          → TakesPrefix out later (waiting ++ text_of a.held)
           → Stopped rules batch x watch.Quiet steps first later (Marks rules batch x may' ending watch.before now)
       answered_stopped ending later few stored took = record {
         front = steps;
@@ -262,19 +315,24 @@ module _ (rules : List Rule) (batch : ℕ) (x : AgentOpening) (watch : Watch) wh
         «is» = answered_is stored.0;
         text =
             subst (TakesPrefix first later) (sym (answered_text stored.0))
-            (front_part first out later (text_on rules x on.course ++ text_of a.held) (waiting ++ text_of a.held) (front_more first out out (text_on rules x on.course) waiting on.text (text_of a.held)) took);
+            (front_part first out later (text_on rules x on.course ++ text_of a.held)
+            (waiting ++ text_of a.held) (front_more first out out (text_on rules x on.course)
+            waiting on.text (text_of a.held)) took);
         left = answered_marks ending few stored;
       }
 
       -- or all of it was
-      abbrev answered_ran : (ending : Ending) (later : Option (List ℕ)) → IsStored may' → Takes out later (waiting ++ text_of a.held) → Marks rules batch x may' ending watch.before now answered
+      abbrev answered_ran : (ending : Ending) (later : Option (List ℕ)) → IsStored may'
+          → Takes out later (waiting ++ text_of a.held) → Marks rules batch x may' ending watch.before now answered
           → Ran rules batch x watch.Quiet steps first later (Marks rules batch x may' ending watch.before now)
       answered_ran ending later stored took marks = record {
         history = answered;
         «is» = answered_is stored.0;
         text =
             subst (Takes first later) (sym (answered_text stored.0))
-            (front_end first out later (text_on rules x on.course ++ text_of a.held) (waiting ++ text_of a.held) (front_more first out out (text_on rules x on.course) waiting on.text (text_of a.held)) took);
+            (front_end first out later (text_on rules x on.course ++ text_of a.held)
+            (waiting ++ text_of a.held) (front_more first out out (text_on rules x on.course)
+            waiting on.text (text_of a.held)) took);
         left = marks;
       }
 
@@ -283,47 +341,71 @@ module _ (rules : List Rule) (batch : ℕ) (x : AgentOpening) (watch : Watch) wh
       answered_up stored = ((on_up rules batch x on.course a may on.on stored.0).0, refl)
 
       -- they were, and all that waits was written or a part
-      done_ended : (ending : Ending) (waits : List ℕ) (later : Option (List ℕ)) (count rose : ℕ) → IsStored may' → waits ≡ waiting ++ text_of a.held → Ended Done ending out later count rose waits → Writes checkpoint steps later may' now ending
+      done_ended : (ending : Ending) (waits : List ℕ) (later : Option (List ℕ)) (count rose : ℕ)
+          → IsStored may' → waits ≡ waiting ++ text_of a.held → Ended Done ending out later count rose waits
+          → Writes checkpoint steps later may' now ending
       done_ended ending waits later count rose stored is ended = ⊎_elim
-          (λ ok. subst (Writes checkpoint steps later may' now) (sym ok.0) (answered_ran Done later stored (subst (Takes out later) is ok.1.0) (answered_marks Done (omega arith) stored), answered_up stored))
-          (λ fault. subst (Writes checkpoint steps later may' now) (sym fault.0) (answered_stopped Write later (omega arith) stored (subst (TakesPrefix out later) is fault.1.0)))
+          (λ ok. subst (Writes checkpoint steps later may' now) (sym ok.0) (
+            answered_ran Done later stored (subst (Takes out later) is ok.1.0)
+                (answered_marks Done (omega arith) stored),
+            answered_up stored,
+          ))
+          (λ fault. subst (Writes checkpoint steps later may' now) (sym fault.0)
+          (answered_stopped Write later (omega arith) stored (subst (TakesPrefix out later) is fault.1.0)))
           ended
 
       -- they were, and memory was wanting for their text
-      answered_memory : (ending : Ending) (later : Option (List ℕ)) (count rose : ℕ) → IsStored may' → Ended Memory ending out later count rose waiting → Writes checkpoint steps later may' now ending
+      answered_memory : (ending : Ending) (later : Option (List ℕ)) (count rose : ℕ) → IsStored may'
+          → Ended Memory ending out later count rose waiting → Writes checkpoint steps later may' now ending
       answered_memory ending later count rose stored ended = ⊎_elim
-          (λ ok. subst (Writes checkpoint steps later may' now) (sym ok.0) (answered_stopped Memory later (omega arith) stored (prefix_front out later waiting (text_of a.held) ok.1.0)))
-          (λ fault. subst (Writes checkpoint steps later may' now) (sym fault.0) (answered_stopped Write later (omega arith) stored (prefix_longer out later waiting (text_of a.held) fault.1.0)))
+          (λ ok. subst (Writes checkpoint steps later may' now) (sym ok.0)
+          (answered_stopped Memory later (omega arith) stored (prefix_front out later waiting (text_of a.held) ok.1.0)))
+          (λ fault. subst (Writes checkpoint steps later may' now) (sym fault.0)
+          (answered_stopped Write later (omega arith) stored (prefix_longer out later waiting (text_of a.held) fault.1.0)))
           ended
 
       -- they were, all was written, and the checkpoint behind their commit failed
-      checkpoint_ended : (later : Option (List ℕ)) → checkpoint ≢ 0 → (watch.Quiet → ⊥) → Rose watch.now now → IsStored may' → Takes out later (waiting ++ text_of a.held) → Writes checkpoint steps later may' now Device
-      checkpoint_ended later some loud rose stored took = (answered_ran Device later stored took (answered_leaves may' stored, last_device now rose), inr (some, answered_up stored), loud)
+      checkpoint_ended : (later : Option (List ℕ)) → checkpoint ≢ 0 → (watch.Quiet → ⊥) → Rose watch.now now
+          → IsStored may' → Takes out later (waiting ++ text_of a.held) → Writes checkpoint steps later may' now Device
+      checkpoint_ended later some loud rose stored took = (
+        answered_ran Device later stored took (answered_leaves may' stored, last_device now rose),
+        inr (some, answered_up stored),
+        loud,
+      )
 
       -- the last commit failed
-      device_ended : (b : AgentSeen) (ending : Ending) (later : Option (List ℕ)) (count rose : ℕ) → watch.GoesOn → (a.up ≡ true → Rose watch.now now) → (watch.Quiet → ⊥) → Fails rules a a b may may' (a.up ≡ true) → Ended Device ending out later count rose waiting
+      device_ended : (b : AgentSeen) (ending : Ending) (later : Option (List ℕ)) (count rose : ℕ)
+          → watch.GoesOn → (a.up ≡ true → Rose watch.now now) → (watch.Quiet → ⊥)
+          → Fails rules a a b may may' (a.up ≡ true) → Ended Device ending out later count rose waiting
           → Writes checkpoint steps later may' now ending
       device_ended b ending later count rose on_goes fell loud goes ended = ⊎_elim
           (λ ok. subst (Writes checkpoint steps later may' now) (sym ok.0) (
             record {
               history = lost;
               «is» = lost_is;
-              text = subst (Takes first later) (sym lost_text) (front_end first out later (text_on rules x on.course) waiting on.text ok.1.0);
+              text = subst (Takes first later) (sym lost_text)
+                  (front_end first out later (text_on rules x on.course) waiting on.text ok.1.0);
               left = (tried_leaves b may' goes, lost_device now on_goes stays fell);
             },
             inl (inr refl),
             loud,
           ))
-          (λ fault. subst (Writes checkpoint steps later may' now) (sym fault.0) (stopped steps [] later Write may' now no_rest fault.1.0 (tried_leaves b may' goes, lost_faults Write now (omega arith) stays)))
+          (λ fault. subst (Writes checkpoint steps later may' now) (sym fault.0)
+          (stopped steps [] later Write may' now no_rest fault.1.0
+          (tried_leaves b may' goes, lost_faults Write now (omega arith) stays)))
           ended
 
       -- memory was wanting, and the agent is as it was
-      same_memory : (b : AgentSeen) (ending : Ending) (later : Option (List ℕ)) (count rose : ℕ) → Same a may b may' → Ended Memory ending out later count rose waiting → Writes checkpoint steps later may' now ending
+      same_memory : (b : AgentSeen) (ending : Ending) (later : Option (List ℕ)) (count rose : ℕ)
+          → Same a may b may' → Ended Memory ending out later count rose waiting → Writes checkpoint steps later may' now ending
       same_memory b ending later count rose same ended =
           let leaves : Leaves rules batch x may' lost = λ d n left. lost_leaves d n (same.1 d n left) in
           ⊎_elim
-          (λ ok. subst (Writes checkpoint steps later may' now) (sym ok.0) (stopped steps [] later Memory may' now no_rest (prefix_all out later waiting ok.1.0) (leaves, lost_faults Memory now (omega arith) stays)))
-          (λ fault. subst (Writes checkpoint steps later may' now) (sym fault.0) (stopped steps [] later Write may' now no_rest fault.1.0 (leaves, lost_faults Write now (omega arith) stays)))
+          (λ ok. subst (Writes checkpoint steps later may' now) (sym ok.0)
+          (stopped steps [] later Memory may' now no_rest (prefix_all out later waiting ok.1.0)
+          (leaves, lost_faults Memory now (omega arith) stays)))
+          (λ fault. subst (Writes checkpoint steps later may' now) (sym fault.0)
+          (stopped steps [] later Write may' now no_rest fault.1.0 (leaves, lost_faults Write now (omega arith) stays)))
           ended
 
     -- what a last commit that is done leaves
@@ -331,23 +413,36 @@ module _ (rules : List Rule) (batch : ℕ) (x : AgentOpening) (watch : Watch) wh
     last_commits b may' holds = nothing_held rules batch x on.course a b may may' on.on holds
 
     -- the end of the lines
-    pub course_ends : (checkpoint : ℕ) (b : AgentSeen) (may' : AgentMay) (old new : View) (asking ending : Ending) (waits : List ℕ) (later : Option (List ℕ)) (count rose : ℕ) → watch.now ≡ old.faults → watch.GoesOn → (watch.Quiet → IsQuiet a old)
-        → EndsWith rules a b may may' old new asking waiting waits → StaysOrRose old.faults new.faults → Ended asking ending out later count rose waits → Writes checkpoint steps later may' new.faults ending
+    pub course_ends : (checkpoint : ℕ) (b : AgentSeen) (may' : AgentMay) (old new : View)
+        (asking ending : Ending) (waits : List ℕ) (later : Option (List ℕ)) (count rose : ℕ)
+        → watch.now ≡ old.faults → watch.GoesOn → (watch.Quiet → IsQuiet a old)
+        → EndsWith rules a b may may' old new asking waiting waits → StaysOrRose old.faults new.faults
+        → Ended asking ending out later count rose waits → Writes checkpoint steps later may' new.faults ending
     course_ends checkpoint b may' old new Done ending waits later count rose is goes still ends stays ended =
-        done_ended checkpoint may' new.faults (subst (λ n. StaysOrRose n new.faults) (sym is) stays) ending waits later count rose (commits_stored b may' (last_commits b may' ends.0)) ends.1 ended
+        done_ended checkpoint may' new.faults (subst (λ n. StaysOrRose n new.faults) (sym is) stays)
+        ending waits later count rose (commits_stored b may' (last_commits b may' ends.0)) ends.1 ended
     course_ends checkpoint b may' old new Device ending waits later count rose is goes still ends stays ended =
-        device_ended checkpoint may' new.faults (subst (λ n. StaysOrRose n new.faults) (sym is) stays) b ending later count rose goes (λ up. subst (λ n. Rose n new.faults) (sym is) (ends.3 up)) (λ q. ends.2 (still q)) ends.0
+        device_ended checkpoint may' new.faults (subst (λ n. StaysOrRose n new.faults) (sym is) stays)
+        b ending later count rose goes (λ up. subst (λ n. Rose n new.faults) (sym is) (ends.3 up))
+        (λ q. ends.2 (still q)) ends.0
         (subst (Ended Device ending out later count rose) ends.1 ended)
     course_ends checkpoint b may' old new Memory ending waits later count rose is goes still ends stays ended =
-        let left : Ended Memory ending out later count rose waiting = subst (Ended Memory ending out later count rose) ends.1 ended in
+        let left : Ended Memory ending out later count rose waiting =
+        subst (Ended Memory ending out later count rose) ends.1 ended in
         let stayed = subst (λ n. StaysOrRose n new.faults) (sym is) stays in
-        ⊎_elim (λ done. answered_memory checkpoint may' new.faults stayed ending later count rose (commits_stored b may' done) left) (λ same. same_memory checkpoint may' new.faults stayed b ending later count rose same left) ends.0
+        ⊎_elim (λ done. answered_memory checkpoint may' new.faults stayed ending later count rose
+        (commits_stored b may' done) left) (λ same. same_memory checkpoint may' new.faults stayed b ending
+        later count rose same left) ends.0
     course_ends checkpoint b may' old new Write ending waits later count rose is goes still ends stays ended = absurd ends
     course_ends checkpoint b may' old new (Store why) ending waits later count rose is goes still ends stays ended = absurd ends
 
     -- and the checkpoint behind the last commit, once all is written
-    module _ (checkpoint : ℕ) (some : checkpoint ≢ 0) (b c : AgentSeen) (may' after : AgentMay) (old here new : View) (waits : List ℕ) (later : Option (List ℕ)) (is : watch.now ≡ old.faults) (still : watch.Quiet → IsQuiet a old)
-        (ends : EndsWith rules a b may may' old here Done waiting waits) (stays : StaysOrRose old.faults here.faults) (more : StaysOrRose here.faults new.faults) (took : Takes out later waits) where
+    module _ (checkpoint : ℕ) (some : checkpoint ≢ 0) (b c : AgentSeen) (may' after : AgentMay)
+        (old here new : View) (waits : List ℕ) (later : Option (List ℕ)) (is : watch.now ≡ old.faults)
+        (still : watch.Quiet → IsQuiet a old)
+        (ends : EndsWith rules a b may may' old here Done waiting waits)
+        (stays : StaysOrRose old.faults here.faults) (more : StaysOrRose here.faults new.faults)
+        (took : Takes out later waits) where
       done : Commits rules a b may'
       done = last_commits b may' ends.0
 
@@ -357,16 +452,23 @@ module _ (rules : List Rule) (batch : ℕ) (x : AgentOpening) (watch : Watch) wh
       all_taken : Takes out later (waiting ++ text_of a.held)
       all_taken = subst (Takes out later) ends.1 took
 
-      pub course_closes : (ending : Ending) → EndsWith rules b c may' after here new ending [] [] → Writes checkpoint steps later after new.faults ending
+      pub course_closes : (ending : Ending) → EndsWith rules b c may' after here new ending [] []
+          → Writes checkpoint steps later after new.faults ending
       course_closes Done last =
-          let stored = ⊎_elim (stored_again b c may' after done) (λ same. stored_still b c may' after done same.2) last.0 in
-          (answered_ran checkpoint after new.faults kept Done later stored all_taken (answered_marks checkpoint after new.faults kept Done (omega arith) stored), answered_up checkpoint after new.faults kept stored)
+          let stored = ⊎_elim (stored_again b c may' after done) (λ same. stored_still b c may' after done same.2) last.0 in (
+            answered_ran checkpoint after new.faults kept Done later stored all_taken
+                (answered_marks checkpoint after new.faults kept Done (omega arith) stored),
+            answered_up checkpoint after new.faults kept stored,
+          )
       course_closes Device last =
           let up : b.up ≡ true = ap (λ s. s.up) done.1 ∙ up_after_commit rules a in
-          let rose : Rose watch.now new.faults = subst (λ n. Rose n new.faults) (sym is) (rose_later old.faults here.faults new.faults stays (last.3 up)) in
-          checkpoint_ended checkpoint after new.faults kept later some (λ q. last.2 (ends.2 (still q))) rose (stored_down b c may' after done last.0) all_taken
+          let rose : Rose watch.now new.faults = subst (λ n. Rose n new.faults) (sym is)
+          (rose_later old.faults here.faults new.faults stays (last.3 up)) in
+          checkpoint_ended checkpoint after new.faults kept later some (λ q. last.2 (ends.2 (still q))) rose
+          (stored_down b c may' after done last.0) all_taken
       course_closes Memory last =
           let stored = ⊎_elim (stored_again b c may' after done) (stored_still b c may' after done) last.0 in
-          answered_stopped checkpoint after new.faults kept Memory later (omega arith) stored (prefix_all out later (waiting ++ text_of a.held) all_taken)
+          answered_stopped checkpoint after new.faults kept Memory later (omega arith) stored
+          (prefix_all out later (waiting ++ text_of a.held) all_taken)
       course_closes Write last = absurd last
       course_closes (Store why) last = absurd last

@@ -35,14 +35,25 @@ use Rattle.store_runs.proofs.EndLemmas.{ended_done}
 
 -- ---- the same run by other words for a disk without cuts, and for what is left
 
-module _ (rules : List Rule) (batch checkpoint : ℕ) (x : AgentOpening) (P Q : Type 0) (L M : History PlainAction → Type 0) (how : P → Q) (left : (h : History PlainAction) → L h → M h) (before after : Option (List ℕ)) where
-  quieter : (steps : List PlainStep) (history : History PlainAction) → IsHistoryOf rules batch x Q steps history → IsHistoryOf rules batch x P steps history
+module _ (rules : List Rule) (batch checkpoint : ℕ) (x : AgentOpening) (P Q : Type 0)
+    (L M : History PlainAction → Type 0) (how : P → Q) (left : (h : History PlainAction) → L h → M h)
+    (before after : Option (List ℕ)) where
+  quieter : (steps : List PlainStep) (history : History PlainAction)
+      → IsHistoryOf rules batch x Q steps history → IsHistoryOf rules batch x P steps history
   quieter steps history is = record { admissible = is.admissible; lines = is.lines; quiet = λ p. is.quiet (how p) }
 
-  abbrev other_ran : (steps : List PlainStep) → Ran rules batch x Q steps before after L → Ran rules batch x P steps before after M
-  other_ran steps ran = record { history = ran.history; «is» = quieter steps ran.history ran.«is»; text = ran.text; left = left ran.history ran.left }
+  abbrev other_ran : (steps : List PlainStep) → Ran rules batch x Q steps before after L
+      → Ran rules batch x P steps before after M
+  other_ran steps ran = record {
+    history = ran.history;
+    «is» = quieter steps ran.history ran.«is»;
+    text =
+        ran.text;
+    left = left ran.history ran.left;
+  }
 
-  other_stopped : (steps : List PlainStep) → Stopped rules batch x Q steps before after L → Stopped rules batch x P steps before after M
+  other_stopped : (steps : List PlainStep) → Stopped rules batch x Q steps before after L
+      → Stopped rules batch x P steps before after M
   other_stopped steps ran = record {
     front = ran.front;
     rest = ran.rest;
@@ -53,7 +64,9 @@ module _ (rules : List Rule) (batch checkpoint : ℕ) (x : AgentOpening) (P Q : 
     left = left ran.history ran.left;
   }
 
-  pub writes_other : (ending : Ending) (steps : List PlainStep) → WritesLines ending rules batch checkpoint x Q steps before after L → WritesLines ending rules batch checkpoint x P steps before after M
+  pub writes_other : (ending : Ending) (steps : List PlainStep)
+      → WritesLines ending rules batch checkpoint x Q steps before after L
+      → WritesLines ending rules batch checkpoint x P steps before after M
   writes_other Done steps written = (other_ran steps written.0, written.1)
   writes_other Device steps written = (other_ran steps written.0, written.1, λ none. written.2 (how none))
   writes_other (Store why) steps written = written
@@ -63,7 +76,9 @@ module _ (rules : List Rule) (batch checkpoint : ℕ) (x : AgentOpening) (P Q : 
 -- ---- the files that are left
 
 -- what a cut leaves of the disk is a store for a state that the history leaves
-left_files : {D : Type 0} (v : AgentView D) (view : View) (b : AgentSeen) (list : RuleList) (batch : ℕ) (x : AgentOpening) (history : History PlainAction) → view.tells ≡ true → IsSeen v view b → v.memory.rules ≡ list.rules → v.journal.digest ≡ list.digest
+left_files : {D : Type 0} (v : AgentView D) (view : View) (b : AgentSeen) (list : RuleList) (batch : ℕ)
+    (x : AgentOpening) (history : History PlainAction) → view.tells ≡ true → IsSeen v view b
+    → v.memory.rules ≡ list.rules → v.journal.digest ≡ list.digest
     → Leaves list.rules batch x (may_of v view) history → LeavesHistory list batch x view.may_leave history
 unfolding may_find
 left_files v view b list batch x history told seen is_rules is_digest leaves file image =
@@ -76,37 +91,51 @@ left_files v view b list batch x history told seen is_rules is_digest leaves fil
     )
 
 -- so a run leaves what it leaves to a restart, and the count of its disk
-pub writes_files : {D : Type 0} (v : AgentView D) (old view : View) (b : AgentSeen) (list : RuleList) (batch checkpoint : ℕ) (x : AgentOpening) (Quiet : Type 0) (steps : List PlainStep) (before after : Option (List ℕ)) (ending : Ending)
+pub writes_files : {D : Type 0} (v : AgentView D) (old view : View) (b : AgentSeen) (list : RuleList)
+    (batch checkpoint : ℕ) (x : AgentOpening) (Quiet : Type 0) (steps : List PlainStep)
+    (before after : Option (List ℕ)) (ending : Ending)
     → view.tells ≡ true → IsSeen v view b → v.memory.rules ≡ list.rules → v.journal.digest ≡ list.digest
-    → WritesLines ending list.rules batch checkpoint x Quiet steps before after (Marks list.rules batch x (may_of v view) ending old.faults view.faults)
+    → WritesLines ending list.rules batch checkpoint x Quiet steps before after
+    (Marks list.rules batch x (may_of v view) ending old.faults view.faults)
     → WritesLines ending list.rules batch checkpoint x Quiet steps before after (LeavesDisk ending list batch x old view)
 writes_files v old view b list batch checkpoint x Quiet steps before after ending told seen is_rules is_digest written =
-    writes_other list.rules batch checkpoint x Quiet Quiet (Marks list.rules batch x (may_of v view) ending old.faults view.faults) (LeavesDisk ending list batch x old view) (λ q. q)
-    (λ history marks. (left_files v view b list batch x history told seen is_rules is_digest marks.0, marks.1)) before after ending steps written
+    writes_other list.rules batch checkpoint x Quiet Quiet
+    (Marks list.rules batch x (may_of v view) ending old.faults view.faults)
+    (LeavesDisk ending list batch x old view) (λ q. q)
+    (λ history marks. (
+      left_files v view b list batch x history told seen is_rules is_digest marks.0,
+      marks.1,
+    )) before after ending steps written
 
 -- ---- where a run stands
 
 -- what lines do under these rules and in batches of so many, by equal ones
-steps_under : (rules mine : List Rule) (batch size : ℕ) (ran : List PlainStep) (watch : Watch) (a : AgentSeen) (may : AgentMay) (b : AgentSeen) (may' : AgentMay) (text : List ℕ) → mine ≡ rules → size ≡ batch
+steps_under : (rules mine : List Rule) (batch size : ℕ) (ran : List PlainStep) (watch : Watch) (a : AgentSeen)
+    (may : AgentMay) (b : AgentSeen) (may' : AgentMay) (text : List ℕ) → mine ≡ rules → size ≡ batch
     → Steps mine size ran watch a may b may' text → Steps rules batch ran watch a may b may' text
 steps_under rules mine batch size ran watch a may b may' text is_rules is_batch steps =
-    subst (λ n. Steps rules n ran watch a may b may' text) is_batch (subst (λ rs. Steps rs size ran watch a may b may' text) is_rules steps)
+    subst (λ n. Steps rules n ran watch a may b may' text) is_batch
+    (subst (λ rs. Steps rs size ran watch a may b may' text) is_rules steps)
 
 -- the lines that ran and the rest, where a run stopped at a line
-stop_parts : (lines : List Line) (i : ℕ) (item : Line) (ran : List PlainStep) → i < length lines → item ≡ get_or lines i item → (ran ≡ []) ⊎ (ran ≡ step_of item.step ∷ [])
+stop_parts : (lines : List Line) (i : ℕ) (item : Line) (ran : List PlainStep) → i < length lines
+    → item ≡ get_or lines i item → (ran ≡ []) ⊎ (ran ≡ step_of item.step ∷ [])
     → (rest : List PlainStep) × (steps_of lines ≡ (steps_of (take i lines) ++ ran) ++ rest)
 stop_parts lines i item ran within is_item (inl none) = (
   steps_of (drop i lines),
-  steps_parts lines i ∙ ap (λ ss. ss ++ steps_of (drop i lines)) (sym (append-nil (steps_of (take i lines))) ∙ ap (λ rs. steps_of (take i lines) ++ rs) (sym none)),
+  steps_parts lines i ∙ ap (λ ss. ss ++ steps_of (drop i lines))
+      (sym (append-nil (steps_of (take i lines))) ∙ ap (λ rs. steps_of (take i lines) ++ rs) (sym none)),
 )
 stop_parts lines i item ran within is_item (inr one) = (
   steps_of (drop (i + 1) lines),
   steps_parts lines (i + 1) ∙ ap (λ ss. ss ++ steps_of (drop (i + 1) lines))
-      (steps_more lines i item within ∙ ap (λ (l : Line). steps_of (take i lines) ++ step_of l.step ∷ []) (sym is_item) ∙ ap (λ rs. steps_of (take i lines) ++ rs) (sym one)),
+      (steps_more lines i item within ∙ ap (λ (l : Line). steps_of (take i lines) ++ step_of l.step ∷ [])
+      (sym is_item) ∙ ap (λ rs. steps_of (take i lines) ++ rs) (sym one)),
 )
 
 -- what a run changes neither in one part of it nor in the next
-pub goes_then : {D : Type 0} (tell : D → View) (first old new : AgentView D) → GoesOn tell first old → GoesOn tell old new → GoesOn tell first new
+pub goes_then : {D : Type 0} (tell : D → View) (first old new : AgentView D) → GoesOn tell first old
+    → GoesOn tell old new → GoesOn tell first new
 goes_then tell first old new was goes = record {
   rules = goes.rules ∙ was.rules;
   digest = goes.digest ∙ was.digest;
@@ -130,115 +159,167 @@ module _ {D : Type 0} (tell : D → View) (agent : AgentView D) (x : AgentOpenin
   -- what a run of these lines wrote and left that ended so
   abbrev pub Wrote : List PlainStep → Ending → Option (List ℕ) → AgentView D → Type 0
   Wrote all ending later v =
-      WritesLines ending agent.memory.rules agent.batch agent.checkpoint x (HasNoCuts (tell agent.disk)) all first later (LeavesDisk ending (list_of agent) agent.batch x (tell agent.disk) (tell v.disk))
+      WritesLines ending agent.memory.rules agent.batch agent.checkpoint x (HasNoCuts (tell agent.disk))
+      all first later (LeavesDisk ending (list_of agent) agent.batch x (tell agent.disk) (tell v.disk))
 
   module _ (opened : IsOpenedAt agent (tell agent.disk) x) where
     -- by what it leaves to a restart
-    pub files_written : (v : AgentView D) → GoesOn tell agent v → (b : AgentSeen) → IsSeen v (tell v.disk) b → (all : List PlainStep) (ending : Ending) (later : Option (List ℕ))
-        → WritesLines ending agent.memory.rules agent.batch agent.checkpoint x (HasNoCuts (tell agent.disk)) all first later (Marks agent.memory.rules agent.batch x (may_of v (tell v.disk)) ending (tell agent.disk).faults (tell v.disk).faults) → Wrote all ending later v
+    pub files_written : (v : AgentView D) → GoesOn tell agent v → (b : AgentSeen) → IsSeen v (tell v.disk) b
+        → (all : List PlainStep) (ending : Ending) (later : Option (List ℕ))
+        → WritesLines ending agent.memory.rules agent.batch agent.checkpoint x (HasNoCuts (tell agent.disk))
+        all first later (Marks agent.memory.rules agent.batch x (may_of v (tell v.disk)) ending
+        (tell agent.disk).faults (tell v.disk).faults) → Wrote all ending later v
     files_written v goes b seen all ending later written =
-        writes_files v (tell agent.disk) (tell v.disk) b (list_of agent) agent.batch agent.checkpoint x (HasNoCuts (tell agent.disk)) all first later ending (goes.tells ∙ opened.tells) seen goes.rules goes.digest written
+        writes_files v (tell agent.disk) (tell v.disk) b (list_of agent) agent.batch agent.checkpoint x
+        (HasNoCuts (tell agent.disk)) all first later ending (goes.tells ∙ opened.tells) seen goes.rules goes.digest written
 
-    module _ (old : AgentView D) (was : GoesOn tell agent old) (ran : List PlainStep) (few : length ran + 1 < 2 ^ 64) (out : Option (List ℕ)) (waiting : List ℕ) (stands : StandsOn old ran out waiting) where
+    module _ (old : AgentView D) (was : GoesOn tell agent old) (ran : List PlainStep)
+        (few : length ran + 1 < 2 ^ 64) (out : Option (List ℕ)) (waiting : List ℕ) (stands : StandsOn old ran out waiting) where
       some_lines : 0 < old.batch
       some_lines = subst (λ n. 0 < n) (sym was.batch) opened.batch
 
       -- it goes on by a call
-      called_on : (new : AgentView D) (GoesOn : Type 0) (more : List PlainStep) (text : List ℕ) → Called tell old new GoesOn more text
+      called_on : (new : AgentView D) (GoesOn : Type 0) (more : List PlainStep) (text : List ℕ)
+          → Called tell old new GoesOn more text
           → (b : AgentSeen) × IsSeen new (tell new.disk) b × (GoesOn → HasNoCuts (tell agent.disk) → IsQuiet b (tell new.disk))
-          × OnCourse agent.memory.rules agent.batch x b (may_of new (tell new.disk)) (ran ++ more) (watched new GoesOn) first out (waiting ++ text)
+          × OnCourse agent.memory.rules agent.batch x b (may_of new (tell new.disk)) (ran ++ more)
+          (watched new GoesOn) first out (waiting ++ text)
       called_on new GoesOn more text called =
           let a = stands.0 in
           let may = may_of old (tell old.disk) in
-          let fits = course_fits agent.memory.rules agent.batch x (watched old (Unit {0})) a may ran first out waiting stands.3 few in
+          let fits = course_fits agent.memory.rules agent.batch x (watched old (Unit {0}))
+          a may ran first out waiting stands.3 few in
           let all = called (was.tells ∙ opened.tells) some_lines a stands.1 fits in
-          let line = steps_under agent.memory.rules old.memory.rules agent.batch old.batch more (over_call a (tell old.disk) (tell new.disk) GoesOn) a may all.0 (may_of new (tell new.disk)) text was.rules was.batch all.2 in (
+          let line = steps_under agent.memory.rules old.memory.rules agent.batch old.batch more
+          (over_call a (tell old.disk) (tell new.disk) GoesOn) a may all.0 (may_of new (tell new.disk))
+          text was.rules was.batch all.2 in (
             all.0,
             all.1,
             (λ goes none. all.3 goes (stands.2 none)),
-            course_more agent.memory.rules agent.batch x (watched old (Unit {0})) more (IsQuiet a (tell old.disk)) GoesOn (tell new.disk).faults a all.0 may (may_of new (tell new.disk)) ran first out waiting (waiting ++ text) text stands.2 tt stands.3 line refl,
+            course_more agent.memory.rules agent.batch x (watched old (Unit {0})) more
+                (IsQuiet a (tell old.disk)) GoesOn (tell new.disk).faults a all.0 may
+                (may_of new (tell new.disk)) ran first out waiting (waiting ++ text) text stands.2 tt stands.3 line refl,
           )
 
       -- some of what waits was written
       written_on : (later : Option (List ℕ)) (rest : List ℕ) → TakesFront out later waiting rest → StandsOn old ran later rest
-      written_on later rest took = (stands.0, stands.1, stands.2, course_written agent.memory.rules agent.batch x (watched old (Unit {0})) stands.0 (may_of old (tell old.disk)) ran first out waiting stands.3 later rest took)
+      written_on later rest took = (
+        stands.0,
+        stands.1,
+        stands.2,
+        course_written agent.memory.rules agent.batch x (watched old (Unit {0})) stands.0
+            (may_of old (tell old.disk)) ran first out waiting stands.3 later rest took,
+      )
 
       -- writing what waits failed
-      write_failed : (all rest : List PlainStep) (later : Option (List ℕ)) → all ≡ ran ++ rest → TakesPrefix out later waiting → Wrote all Write later old
+      write_failed : (all rest : List PlainStep) (later : Option (List ℕ)) → all ≡ ran ++ rest
+          → TakesPrefix out later waiting → Wrote all Write later old
       write_failed all rest later parts took =
-          files_written old was stands.0 stands.1 all Write later (course_stopped agent.memory.rules agent.batch x (watched old (Unit {0})) stands.0 (may_of old (tell old.disk)) ran first out waiting stands.3 agent.checkpoint all rest later parts took)
+          files_written old was stands.0 stands.1 all Write later
+          (course_stopped agent.memory.rules agent.batch x (watched old (Unit {0})) stands.0
+          (may_of old (tell old.disk)) ran first out waiting stands.3 agent.checkpoint all rest later parts took)
 
       -- the run stopped for want of memory
-      memory_stopped : (new : AgentView D) → GoesOn tell old new → (more : List PlainStep) (text : List ℕ) → Called tell old new ⊥ more text → (all rest : List PlainStep) (later : Option (List ℕ)) (answered : Ending) (count rose : ℕ) → all ≡ (ran ++ more) ++ rest
+      memory_stopped : (new : AgentView D) → GoesOn tell old new → (more : List PlainStep) (text : List ℕ)
+          → Called tell old new ⊥ more text → (all rest : List PlainStep) (later : Option (List ℕ))
+          (answered : Ending) (count rose : ℕ) → all ≡ (ran ++ more) ++ rest
           → Ended Memory answered out later count rose waiting → Wrote all answered later new
       memory_stopped new goes more text called all rest later answered count rose parts ended =
           let on = called_on new ⊥ more text called in
           files_written new (goes_then tell agent old new was goes) on.0 on.1 all answered later
-          (course_memory agent.memory.rules agent.batch x (watched new ⊥) on.0 (may_of new (tell new.disk)) (ran ++ more) first out (waiting ++ text) on.3 agent.checkpoint all rest later waiting text answered count rose parts refl ended)
+          (course_memory agent.memory.rules agent.batch x (watched new ⊥) on.0 (may_of new (tell new.disk))
+          (ran ++ more) first out (waiting ++ text)
+          on.3 agent.checkpoint all rest later waiting text answered count rose parts refl ended)
 
     -- ---- a line
 
-    module _ (old new : AgentView D) (was : GoesOn tell agent old) (goes : GoesOn tell old new) (lines : List Line) (fits : length lines + 2 < 2 ^ 64) (i : ℕ) (item : Line) (within : i < length lines) (is_item : item ≡ get_or lines i item)
+    module _ (old new : AgentView D) (was : GoesOn tell agent old) (goes : GoesOn tell old new)
+        (lines : List Line) (fits : length lines + 2 < 2 ^ 64) (i : ℕ) (item : Line)
+        (within : i < length lines) (is_item : item ≡ get_or lines i item)
         (out : Option (List ℕ)) (waiting : List ℕ) (stands : StandsOn old (steps_of (take i lines)) out waiting) where
       -- it ran
-      pub stepped_on : (now : List ℕ) → Stepped tell old new (step_of item.step) waiting now → StandsOn new (steps_of (take (i + 1) lines)) out now
+      pub stepped_on : (now : List ℕ) → Stepped tell old new (step_of item.step) waiting now
+          → StandsOn new (steps_of (take (i + 1) lines)) out now
       stepped_on now (text, waits, called) =
-          let on = called_on old was (steps_of (take i lines)) (steps_fit lines i (omega (arith, within)) fits) out waiting stands new (Unit {0}) (step_of item.step ∷ []) text called in
+          let on = called_on old was (steps_of (take i lines))
+          (steps_fit lines i (omega (arith, within)) fits) out waiting stands new (Unit {0})
+          (step_of item.step ∷ []) text called in
           let steps : steps_of (take i lines) ++ step_of item.step ∷ [] ≡ steps_of (take (i + 1) lines) =
           ap (λ (l : Line). steps_of (take i lines) ++ step_of l.step ∷ []) is_item ∙ sym (steps_more lines i item within) in (
             on.0,
             on.1,
             on.2 tt,
-            subst (λ ss. OnCourse agent.memory.rules agent.batch x on.0 (may_of new (tell new.disk)) ss (watched new (Unit {0})) first out now) steps
-                (subst (OnCourse agent.memory.rules agent.batch x on.0 (may_of new (tell new.disk)) (steps_of (take i lines) ++ step_of item.step ∷ []) (watched new (Unit {0})) first out) (sym waits) on.3),
+            subst (λ ss. OnCourse agent.memory.rules agent.batch x on.0 (may_of new (tell new.disk)) ss
+                (watched new (Unit {0})) first out now) steps
+                (subst (OnCourse agent.memory.rules agent.batch x on.0 (may_of new (tell new.disk))
+                (steps_of (take i lines) ++ step_of item.step ∷ []) (watched new (Unit {0})) first out) (sym waits) on.3),
           )
 
       -- the run stops at it
-      pub stops_writes : (asked answered : Ending) (later : Option (List ℕ)) (count rose : ℕ) → Stops tell old new (step_of item.step) asked → Ended asked answered out later count rose waiting → Wrote (steps_of lines) answered later new
+      pub stops_writes : (asked answered : Ending) (later : Option (List ℕ)) (count rose : ℕ)
+          → Stops tell old new (step_of item.step) asked → Ended asked answered out later count rose waiting
+          → Wrote (steps_of lines) answered later new
       stops_writes Memory answered later count rose (ran, one, (text, called)) ended =
           let parts = stop_parts lines i item ran within is_item one in
-          memory_stopped old was (steps_of (take i lines)) (steps_fit lines i (omega (arith, within)) fits) out waiting stands new goes ran text called (steps_of lines) parts.0 later answered count rose parts.1 ended
-      stops_writes (Store why) answered later count rose stops ended = absurd (stops.1 (was.tells ∙ opened.tells) stands.0 stands.1)
+          memory_stopped old was (steps_of (take i lines)) (steps_fit lines i (omega (arith, within)) fits)
+          out waiting stands new goes ran text called (steps_of lines) parts.0 later answered count rose parts.1 ended
+      stops_writes (Store why) answered later count rose stops ended =
+          absurd (stops.1 (was.tells ∙ opened.tells) stands.0 stands.1)
       stops_writes Done answered later count rose stops ended = absurd stops
       stops_writes Device answered later count rose stops ended = absurd stops
       stops_writes Write answered later count rose stops ended = absurd stops
 
     -- ---- between two lines
 
-    module _ (old new : AgentView D) (was : GoesOn tell agent old) (goes : GoesOn tell old new) (ran : List PlainStep) (few : length ran + 1 < 2 ^ 64) (out later : Option (List ℕ)) (count rose : ℕ) (waiting : List ℕ) (stands : StandsOn old ran out waiting) where
+    module _ (old new : AgentView D) (was : GoesOn tell agent old) (goes : GoesOn tell old new)
+        (ran : List PlainStep) (few : length ran + 1 < 2 ^ 64) (out later : Option (List ℕ)) (count rose : ℕ)
+        (waiting : List ℕ) (stands : StandsOn old ran out waiting) where
       -- the run goes on
       pub settled_on : (rest : List ℕ) → Settled tell old new out later count rose waiting rest → StandsOn new ran later rest
       settled_on rest (took, same, called) =
-          let on = called_on old was ran few later rest (written_on old was ran few out waiting stands later rest took) new (Unit {0}) [] [] called in (
+          let on = called_on old was ran few later rest
+          (written_on old was ran few out waiting stands later rest took) new (Unit {0}) [] [] called in (
             on.0,
             on.1,
             on.2 tt,
-            subst (λ ss. OnCourse agent.memory.rules agent.batch x on.0 (may_of new (tell new.disk)) ss (watched new (Unit {0})) first later rest) (append-nil ran)
-                (subst (OnCourse agent.memory.rules agent.batch x on.0 (may_of new (tell new.disk)) (ran ++ []) (watched new (Unit {0})) first later) (append-nil rest) on.3),
+            subst (λ ss. OnCourse agent.memory.rules agent.batch x on.0 (may_of new (tell new.disk)) ss
+                (watched new (Unit {0})) first later rest) (append-nil ran)
+                (subst (OnCourse agent.memory.rules agent.batch x on.0 (may_of new (tell new.disk))
+                (ran ++ []) (watched new (Unit {0})) first later) (append-nil rest) on.3),
           )
 
       -- or it stops
-      pub unsettled_writes : (all rest : List PlainStep) → all ≡ ran ++ rest → (ending : Ending) → Unsettled tell old new out later count rose waiting ending → Wrote all ending later new
-      unsettled_writes all rest parts Write (took, fault, same) = subst (Wrote all Write later) (sym same) (write_failed old was ran few out waiting stands all rest later parts took)
+      pub unsettled_writes : (all rest : List PlainStep) → all ≡ ran ++ rest → (ending : Ending)
+          → Unsettled tell old new out later count rose waiting ending → Wrote all ending later new
+      unsettled_writes all rest parts Write (took, fault, same) =
+          subst (Wrote all Write later) (sym same) (write_failed old was ran few out waiting stands all rest later parts took)
       unsettled_writes all rest parts Memory (took, same, called) =
           let front : TakesFront out later waiting [] = (waiting, (took, sym (append-nil waiting))) in
-          memory_stopped old was ran few later [] (written_on old was ran few out waiting stands later [] front) new goes [] [] called all rest later Memory count rose (parts ∙ ap (λ ss. ss ++ rest) (sym (append-nil ran))) (inl (refl, (takes_none later, same)))
+          memory_stopped old was ran few later [] (written_on old was ran few out waiting stands later []
+          front) new goes [] [] called all rest later Memory count rose
+          (parts ∙ ap (λ ss. ss ++ rest) (sym (append-nil ran))) (inl (refl, (takes_none later, same)))
       unsettled_writes all rest parts Done stops = absurd stops
       unsettled_writes all rest parts Device stops = absurd stops
       unsettled_writes all rest parts (Store why) stops = absurd stops
 
     -- ---- behind the last line
 
-    module _ (old here new : AgentView D) (was : GoesOn tell agent old) (goes : GoesOn tell old here) (then : GoesOn tell here new) (ran : List PlainStep) (out later : Option (List ℕ)) (count rose : ℕ) (waiting waits : List ℕ) (stands : StandsOn old ran out waiting) where
-      pub closes_writes : (asking asked answered : Ending) → Ends tell old here asking waiting waits → Ended asking asked out later count rose waits → Closes tell here new asked answered → Wrote ran answered later new
+    module _ (old here new : AgentView D) (was : GoesOn tell agent old) (goes : GoesOn tell old here)
+        (then : GoesOn tell here new) (ran : List PlainStep) (out later : Option (List ℕ)) (count rose : ℕ)
+        (waiting waits : List ℕ) (stands : StandsOn old ran out waiting) where
+      pub closes_writes : (asking asked answered : Ending) → Ends tell old here asking waiting waits
+          → Ended asking asked out later count rose waits → Closes tell here new asked answered → Wrote ran answered later new
       closes_writes asking asked answered ends ended closes =
           let a = stands.0 in
           let all = ends a stands.1 in
-          let with_rules = subst (λ rs. EndsWith rs a all.0 (may_of old (tell old.disk)) (may_of here (tell here.disk)) (tell old.disk) (tell here.disk) asking waiting waits) was.rules all.2 in
+          let with_rules = subst (λ rs. EndsWith rs a all.0 (may_of old (tell old.disk))
+          (may_of here (tell here.disk)) (tell old.disk) (tell here.disk) asking waiting waits) was.rules all.2 in
           let gone = goes_then tell agent old here was goes in
           let first_end : Wrote ran asked later here =
           files_written here gone all.0 all.1 ran asked later
-          (course_ends agent.memory.rules agent.batch x (watched old (Unit {0})) a (may_of old (tell old.disk)) ran first out waiting stands.3 agent.checkpoint all.0 (may_of here (tell here.disk)) (tell old.disk) (tell here.disk) asking asked waits later count rose refl tt stands.2
+          (course_ends agent.memory.rules agent.batch x (watched old (Unit {0})) a
+          (may_of old (tell old.disk)) ran first out waiting stands.3 agent.checkpoint all.0
+          (may_of here (tell here.disk)) (tell old.disk) (tell here.disk) asking asked waits later count rose refl tt stands.2
           with_rules all.3 ended) in
           ⊎_elim
           (λ same. subst (λ e. Wrote ran e later new) (sym same.0) (subst (Wrote ran asked later) (sym same.1) first_end))
@@ -246,8 +327,14 @@ module _ {D : Type 0} (tell : D → View) (agent : AgentView D) (x : AgentOpenin
           let done = ended_done asking asked out later count rose waits ended last.0 in
           let some : agent.checkpoint ≢ 0 = subst (λ n. n ≢ 0) gone.checkpoint (owes_some here last.1) in
           let more = last.3 all.0 all.1 in
-          let checkpoint_rules = subst (λ rs. EndsWith rs all.0 more.0 (may_of here (tell here.disk)) (may_of new (tell new.disk)) (tell here.disk) (tell new.disk) answered [] []) gone.rules more.2 in
+          let checkpoint_rules = subst (λ rs. EndsWith rs all.0 more.0 (may_of here (tell here.disk))
+          (may_of new (tell new.disk)) (tell here.disk) (tell new.disk) answered [] []) gone.rules more.2 in
           files_written new (goes_then tell agent here new gone then) more.0 more.1 ran answered later
-          (course_closes agent.memory.rules agent.batch x (watched old (Unit {0})) a (may_of old (tell old.disk)) ran first out waiting stands.3 agent.checkpoint some all.0 more.0 (may_of here (tell here.disk)) (may_of new (tell new.disk)) (tell old.disk) (tell here.disk) (tell new.disk) waits later refl stands.2
-          (subst (λ e. EndsWith agent.memory.rules a all.0 (may_of old (tell old.disk)) (may_of here (tell here.disk)) (tell old.disk) (tell here.disk) e waiting waits) done.0 with_rules) all.3 more.3 done.1 answered checkpoint_rules))
+          (course_closes agent.memory.rules agent.batch x (watched old (Unit {0})) a
+          (may_of old (tell old.disk)) ran first out waiting stands.3 agent.checkpoint some all.0 more.0
+          (may_of here (tell here.disk)) (may_of new (tell new.disk)) (tell old.disk) (tell here.disk)
+          (tell new.disk) waits later refl stands.2
+          (subst (λ e. EndsWith agent.memory.rules a all.0 (may_of old (tell old.disk))
+          (may_of here (tell here.disk)) (tell old.disk) (tell here.disk) e waiting waits)
+          done.0 with_rules) all.3 more.3 done.1 answered checkpoint_rules))
           closes

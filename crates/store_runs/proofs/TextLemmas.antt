@@ -44,12 +44,16 @@ unfolding replies_text
 texts_none = refl
 
 -- one reply more waits
-pub waits_more : (held now : List ℕ) (replies : List Reply) (i : ℕ) (item : Reply) (waiting : List ℕ) → i < length replies → item ≡ get_or replies i item → waiting ≡ held ++ replies_text (map reply_of (take i replies))
+pub waits_more : (held now : List ℕ) (replies : List Reply) (i : ℕ) (item : Reply) (waiting : List ℕ)
+    → i < length replies → item ≡ get_or replies i item → waiting ≡ held ++ replies_text (map reply_of (take i replies))
     → now ≡ waiting ++ reply_text (reply_of item) → now ≡ held ++ replies_text (map reply_of (take (i + 1) replies))
 waits_more held now replies i item waiting within is was text =
-    let more : replies_text (map reply_of (take (i + 1) replies)) ≡ replies_text (map reply_of (take i replies)) ++ reply_text (reply_of item) =
-    ap (λ rs. replies_text (map reply_of rs)) (take_more replies i item within) ∙ ap replies_text (map-append reply_of (take i replies) (get_or replies i item ∷ [])) ∙ texts_append _ _
-    ∙ ap (λ t. replies_text (map reply_of (take i replies)) ++ t) (texts_one (reply_of (get_or replies i item)) ∙ ap (λ (r : Reply). reply_text (reply_of r)) (sym is)) in
+    let more : replies_text (map reply_of (take (i + 1) replies))
+    ≡ replies_text (map reply_of (take i replies)) ++ reply_text (reply_of item) =
+    ap (λ rs. replies_text (map reply_of rs)) (take_more replies i item within)
+    ∙ ap replies_text (map-append reply_of (take i replies) (get_or replies i item ∷ [])) ∙ texts_append _ _
+    ∙ ap (λ t. replies_text (map reply_of (take i replies)) ++ t)
+    (texts_one (reply_of (get_or replies i item)) ∙ ap (λ (r : Reply). reply_text (reply_of r)) (sym is)) in
     text ∙ ap (λ w. w ++ reply_text (reply_of item)) was ∙ append_assoc held _ _ ∙ ap (λ t. held ++ t) (sym more)
 
 -- no reply waits yet

@@ -1,12 +1,11 @@
 -- What is collected of a line that ran.
-use Rattle.std.proofs.Common.{◌≡◌, ℕ, ◌+◌, ◌-◌, ◌<◌, ◌^◌, Bool, true, false, not, cond, ◌&&◌, ◌||◌, List, [], ◌∷◌, ◌++◌, length, map, refl, sym, ap, subst, ◌∙◌, arith}
+use Rattle.std.proofs.Common.{◌≡◌, ℕ, ◌+◌, ◌-◌, Bool, true, false, not, cond, ◌&&◌, ◌||◌, List, [], ◌∷◌, ◌++◌, length, map, refl, sym, ap, ◌∙◌, arith}
 use Rattle.std.specs.Prelude.{◌↔◌, IsTrue, bytes_eq}
 use Rattle.std.proofs.lemmas.List.{length-append}
 use Rattle.std.proofs.lemmas.Slice.Eq.{bytes_eq-Decides}
 use Rattle.unwinding.specs.CourseSteps.{committed, holding}
 use Rattle.unwinding.specs.Durable.{DurableChange, changes_of_site, line_changes}
 use Rattle.unwinding.specs.FiniteCells.{get_cell}
-use Rattle.unwinding.specs.LocalEntries.{line_entries}
 use Rattle.unwinding.specs.LocalScript.{happenings}
 use Rattle.unwinding.specs.World.{is_in, line_reply, of_site, world_step}
 use Rattle.suffix_list.specs.Suffix.{Rule}
@@ -17,12 +16,10 @@ use Rattle.agent_model.specs.CookieCells.{Cookies, Domain, domain_order}
 use Rattle.agent_model.proofs.CookieCellsLemmas.{equal_cookies-Decides}
 use Rattle.agent_model.specs.Lines.{AgentWorld}
 use Rattle.agent_model.specs.TheMachine.{machine}
-use Rattle.durable_model.specs.Keeping.{keeping}
-use Rattle.local_items.specs.Items.{AgentEntry, entry_of, item_of}
+use Rattle.local_items.specs.Items.{entry_of, item_of}
 use Rattle.script_courses.specs.Collected.{touched_by}
 use Rattle.site_entries.specs.Laws.{are_same}
 use Rattle.site_entries.specs.Seen.{IsGivenIn}
-use Rattle.site_entries.specs.declared.seen_line.SeenLine.{SeenLine}
 use Rattle.site_entries.proofs.LawLemmas.{changes, touches}
 use Rattle.agent_core.specs.Means.{after_commit, after_line}
 use Rattle.agent_core.specs.Seen.{AgentSeen}
@@ -46,7 +43,8 @@ has_held rules a line = record {
   changes = omega (arith, length-append a.pending (line_changes (machine rules) a.world line));
 }
 
-pub has_replied : (rules : List Rule) (a : AgentSeen) (line : PlainAction) → HasRun rules a line (after_commit rules (after_line rules a line))
+pub has_replied : (rules : List Rule) (a : AgentSeen) (line : PlainAction)
+    → HasRun rules a line (after_commit rules (after_line rules a line))
 unfolding holding committed
 has_replied rules a line = record {
   world = refl;
@@ -54,7 +52,8 @@ has_replied rules a line = record {
 }
 
 -- and it was collected
-module _ (rules : List Rule) (site : PlainSite) (a b : AgentSeen) (line : PlainAction) (old new : Collector) (before : Before) (told : IsBefore rules site old.changed a line before) (ran : HasRun rules a line b) where
+module _ (rules : List Rule) (site : PlainSite) (a b : AgentSeen) (line : PlainAction) (old new : Collector)
+    (before : Before) (told : IsBefore rules site old.changed a line before) (ran : HasRun rules a line b) where
   abbrev touched : List Domain
   touched = touched_by site old.changed
 
@@ -65,11 +64,13 @@ module _ (rules : List Rule) (site : PlainSite) (a b : AgentSeen) (line : PlainA
   made = line_changes (machine rules) a.world line
 
   -- how many durable changes are the site's
-  site_made : (own : Bool) (n : ℕ) → n ≡ cond own (b.base.count + length b.pending - before.changes) 0 → n ≡ length (cond own made [])
+  site_made : (own : Bool) (n : ℕ) → n ≡ cond own (b.base.count + length b.pending - before.changes) 0
+      → n ≡ length (cond own made [])
   site_made true n is = omega (arith, is, told.changes, ran.changes)
   site_made false n is = is
 
-  made_is : (n : ℕ) → n ≡ cond before.line.of_site (b.base.count + length b.pending - before.changes) 0 → n ≡ length (changes_of_site (machine rules) site made)
+  made_is : (n : ℕ) → n ≡ cond before.line.of_site (b.base.count + length b.pending - before.changes) 0
+      → n ≡ length (changes_of_site (machine rules) site made)
   made_is n is = site_made before.line.of_site n is ∙ ap length (sym (changes rules site touched a.world line before.line given))
 
   pub takes_line : (changed : Bool) (n : ℕ) → changed ≡ (old.changed || (before.line.asks && not (are_same site a.world b.world)))
@@ -79,7 +80,8 @@ module _ (rules : List Rule) (site : PlainSite) (a b : AgentSeen) (line : PlainA
       let count = made_is n is_made in
       let now =
       took.changed ∙ is_changed ∙ ap (λ w. old.changed || (before.line.asks && not (are_same site a.world w))) ran.world
-      ∙ ap (λ t. t || (before.line.asks && not (are_same site a.world (world_step (machine rules) a.world line)))) (sym (touched_is site old.changed))
+      ∙ ap (λ t. t || (before.line.asks && not (are_same site a.world
+      (world_step (machine rules) a.world line)))) (sym (touched_is site old.changed))
       ∙ sym (touches rules site touched a.world line before.line given) in
       let entries = took.items ∙ ap (λ es. map item_of old.items.items ++ happenings es) given.entries in
       let waits = took.waiting (omega (arith, few, count)) ∙ ap (λ k. old.waiting + k) count in
@@ -87,7 +89,11 @@ module _ (rules : List Rule) (site : PlainSite) (a b : AgentSeen) (line : PlainA
         items = entries i;
         changed = now i;
         answered = record { replies = took.replies i; changes = took.changes i };
-        waiting = record { replies = waiting + length (of_site (machine rules) site (line_reply (machine rules) a.world line ∷ [])); changes = waits i };
+        waiting = record {
+          replies = waiting + length
+              (of_site (machine rules) site (line_reply (machine rules) a.world line ∷ []));
+          changes = waits i;
+        };
       }
 
 -- ---- the steps of code
@@ -104,16 +110,24 @@ both_true false true to from = from refl
 both_true false false to from = refl
 
 -- the cookies of the domain are the same in both worlds
-same_is : (site : PlainSite) (world now : AgentWorld) (before after : Cookies) (same : Bool) → before ≡ get_cell domain_order world.cells site.host → after ≡ get_cell domain_order now.cells site.host
+same_is : (site : PlainSite) (world now : AgentWorld) (before after : Cookies) (same : Bool)
+    → before ≡ get_cell domain_order world.cells site.host → after ≡ get_cell domain_order now.cells site.host
     → (IsTrue same ↔ (before ≡ after)) → same ≡ are_same site world now
 same_is site world now before after same was is law =
-    let decides = equal_cookies-Decides (get_cell domain_order world.cells site.host) (get_cell domain_order now.cells site.host) in
-    both_true same (are_same site world now) (λ yes. decides.1 (sym was ∙ law.0 yes ∙ is)) (λ yes. law.1 (was ∙ decides.0 yes ∙ sym is))
+    let decides = equal_cookies-Decides (get_cell domain_order world.cells site.host)
+    (get_cell domain_order now.cells site.host) in
+    both_true same (are_same site world now) (λ yes. decides.1 (sym was ∙ law.0 yes ∙ is))
+    (λ yes. law.1 (was ∙ decides.0 yes ∙ sym is))
 
-pub changed_then : (site : PlainSite) (world now : AgentWorld) (changed asks found : Bool) → changed ≡ true → found ≡ true → found ≡ (changed || (asks && not (are_same site world now)))
+pub changed_then : (site : PlainSite) (world now : AgentWorld) (changed asks found : Bool) → changed ≡ true
+    → found ≡ true → found ≡ (changed || (asks && not (are_same site world now)))
 changed_then site world now changed asks found is same = same ∙ ap (λ b. b || (asks && not (are_same site world now))) (sym is)
 
-pub changed_else : (site : PlainSite) (world now : AgentWorld) (before after : Cookies) (changed asks same found : Bool) → changed ≡ false → asks ≡ true → before ≡ get_cell domain_order world.cells site.host → after ≡ get_cell domain_order now.cells site.host
+pub changed_else : (site : PlainSite) (world now : AgentWorld) (before after : Cookies)
+    (changed asks same found : Bool) → changed ≡ false → asks ≡ true
+    → before ≡ get_cell domain_order world.cells site.host → after ≡ get_cell domain_order now.cells site.host
     → (IsTrue same ↔ (before ≡ after)) → found ≡ not same → found ≡ (changed || (asks && not (are_same site world now)))
 changed_else site world now before after changed asks same found is asking was are law told =
-    told ∙ ap not (same_is site world now before after same was are law) ∙ ap (λ b. b && not (are_same site world now)) (sym asking) ∙ ap (λ b. b || (asks && not (are_same site world now))) (sym is)
+    told ∙ ap not (same_is site world now before after same was are law)
+    ∙ ap (λ b. b && not (are_same site world now)) (sym asking)
+    ∙ ap (λ b. b || (asks && not (are_same site world now))) (sym is)

@@ -1,6 +1,6 @@
 -- Local scripts that were collected, and how two of them compare.
 -- Source: none; these are the words of the promise.
-use Rattle.std.specs.Prelude.{◌≡◌, ◌≢◌, ◌⊎◌, ℕ, ◌<◌, ◌^◌, List, ◌++◌, ◌∷◌, [], length, map}
+use Rattle.std.specs.Prelude.{◌≡◌, ◌≢◌, ◌⊎◌, ◌<◌, ◌^◌, List, ◌++◌, ◌∷◌, [], length, map}
 use Rattle.script_actions.specs.Action.{PlainStep}
 use Rattle.local_items.specs.Difference.{DifferAt}
 use Rattle.local_items.specs.Items.{AgentItem, item_of}

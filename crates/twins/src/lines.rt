@@ -1,6 +1,6 @@
 //! Lines, run one by one over an agent on a disk in memory that cannot fail, and what is collected
 //! of each.
-ghost use Rattle.std.specs.Prelude.{◌≡◌, ◌≤◌, ◌<◌, ◌+◌, ◌^◌, [], IfOk, OnOk, length, map};
+ghost use Rattle.std.specs.Prelude.{◌≤◌, ◌<◌, ◌+◌, ◌^◌, [], IfOk, OnOk, length};
 ghost use Rattle.unwinding.specs.Admissible.{Acts, Reopens};
 ghost use Rattle.origin_site.specs.Plain.{plain_site};
 ghost use Rattle.origin_site.specs.Site.{PlainSite};

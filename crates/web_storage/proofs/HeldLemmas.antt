@@ -19,12 +19,14 @@ use Rattle.web_storage.specs.Stored.{Entries, areas_in, keys_in, sessions_in, he
 
 module _ (beside : Holdings) (kind : AreaKind) (tab : ℕ) (key : PlainKey) where
   -- a local area is one of the shed
-  pub local_of : kind ≡ Local → (entries : Entries) → area_of kind tab key (held_with beside entries) ≡ get_cell key_order (areas_in entries.local) key
+  pub local_of : kind ≡ Local → (entries : Entries)
+      → area_of kind tab key (held_with beside entries) ≡ get_cell key_order (areas_in entries.local) key
   unfolding held_with
   local_of is entries = ap (λ k. area_of k tab key (held_with beside entries)) is
 
   -- a session area is one of a tab
-  pub session_of : kind ≡ Session → (entries : Entries) → area_of kind tab key (held_with beside entries) ≡ get_cell session_order (sessions_in entries.session) (tab, key)
+  pub session_of : kind ≡ Session → (entries : Entries)
+      → area_of kind tab key (held_with beside entries) ≡ get_cell session_order (sessions_in entries.session) (tab, key)
   unfolding held_with
   session_of is entries = ap (λ k. area_of k tab key (held_with beside entries)) is
 
@@ -38,7 +40,8 @@ module _ (beside : Holdings) (kind : AreaKind) (tab : ℕ) (key : PlainKey) wher
       ∙ ap (λ k. with_area k tab key pairs (held_with beside old)) (sym is)
 
   -- other session areas, which differ at one tab and key
-  pub session_held_with : kind ≡ Session → (pairs : List Pair) (old : Entries) (sessions : List (ℕ × List (StorageKey × List Pair)))
+  pub session_held_with : kind ≡ Session → (pairs : List Pair) (old : Entries)
+      (sessions : List (ℕ × List (StorageKey × List Pair)))
       → sessions_in sessions ≡ set_cell session_order (tab, key) pairs (sessions_in old.session)
       → held_with beside (record { local = old.local; session = sessions }) ≡ with_area kind tab key pairs (held_with beside old)
   unfolding held_with
@@ -57,7 +60,12 @@ module _ (beside : Holdings) (old : Entries) where
   pub session_kept : (sessions : List (ℕ × List (StorageKey × List Pair))) → sessions_in sessions ≡ sessions_in old.session
       → held_with beside (record { local = old.local; session = sessions }) ≡ held_with beside old
   unfolding held_with
-  session_kept sessions same = λ i. record beside { areas = areas_in old.local; persistent = keys_in old.local; sessions = same i }
+  session_kept sessions same = λ i. record beside {
+    areas = areas_in old.local;
+    persistent =
+        keys_in old.local;
+    sessions = same i;
+  }
 
 -- a bucket's area, where it may not be there
 pub area_or : (bucket : Option Bucket) → unwrap_or (option_map (λ b. b.area) bucket) [] ≡ (unwrap_or bucket fresh_bucket).area
@@ -71,7 +79,8 @@ lent_pairs None at pairs is same = sym same ∙ ap (λ a. unwrap_or a []) (sym i
 lent_pairs (Some area) at pairs is same = ap (λ a. unwrap_or a []) is ∙ same
 
 -- the same of what is lent to be changed
-pub lent_pairs_mut : (lent : Option (MutBor (List Pair))) (at : Option (List Pair)) (pairs : List Pair) → option_copied_mut lent ≡ at
+pub lent_pairs_mut : (lent : Option (MutBor (List Pair))) (at : Option (List Pair)) (pairs : List Pair)
+    → option_copied_mut lent ≡ at
     → unwrap_or at [] ≡ pairs → MatchOption lent (pairs ≡ []) (λ area. area.now ≡ pairs)
 lent_pairs_mut None at pairs is same = sym same ∙ ap (λ a. unwrap_or a []) (sym is)
 lent_pairs_mut (Some area) at pairs is same = ap (λ a. unwrap_or a []) is ∙ same
@@ -87,16 +96,19 @@ some_area None is = is
 some_area (Some bucket) is = refl
 
 -- an area that is given the pairs that it has
-pub area_itself : (beside : Holdings) (kind : AreaKind) (tab : ℕ) (key : PlainKey) (pairs : List Pair) (entries : Entries) → pairs ≡ area_of kind tab key (held_with beside entries)
+pub area_itself : (beside : Holdings) (kind : AreaKind) (tab : ℕ) (key : PlainKey) (pairs : List Pair)
+    (entries : Entries) → pairs ≡ area_of kind tab key (held_with beside entries)
     → with_area kind tab key pairs (held_with beside entries) ≡ held_with beside entries
 unfolding held_with
 area_itself beside Local tab key pairs entries is = λ i. record beside {
-  areas = (ap (λ p. set_cell key_order key p (areas_in entries.local)) is ∙ cell_itself key_order key_order_total key_order_same key (areas_in entries.local)) i;
+  areas = (ap (λ p. set_cell key_order key p (areas_in entries.local)) is
+      ∙ cell_itself key_order key_order_total key_order_same key (areas_in entries.local)) i;
   persistent = keys_in entries.local;
   sessions = sessions_in entries.session;
 }
 area_itself beside Session tab key pairs entries is = λ i. record beside {
   areas = areas_in entries.local;
   persistent = keys_in entries.local;
-  sessions = (ap (λ p. set_cell session_order (tab, key) p (sessions_in entries.session)) is ∙ cell_itself session_order session_order_total session_order_same (tab, key) (sessions_in entries.session)) i;
+  sessions = (ap (λ p. set_cell session_order (tab, key) p (sessions_in entries.session)) is
+      ∙ cell_itself session_order session_order_total session_order_same (tab, key) (sessions_in entries.session)) i;
 }

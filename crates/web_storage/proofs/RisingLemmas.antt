@@ -22,7 +22,8 @@ use Rattle.web_storage.proofs.EvictionLemmas.{among_filtered}
 use Rattle.web_storage.proofs.UnderLemmas.{from, none_there, plain_kept, plain_sorted, run_kept, stops_below, stops_from, under}
 
 module _ {X : Type 0} (p : X → Bool) where
-  filter_last : (xs : List X) (x : X) → reverse (filter p (xs ++ x ∷ [])) ≡ cond (p x) (x ∷ reverse (filter p xs)) (reverse (filter p xs))
+  filter_last : (xs : List X) (x : X) → reverse (filter p (xs ++ x ∷ []))
+      ≡ cond (p x) (x ∷ reverse (filter p xs)) (reverse (filter p xs))
   filter_last xs x = ap reverse (filter-append p xs (x ∷ [])) ∙ at (p x)
     where
       at : (b : Bool) → reverse (filter p xs ++ cond b (x ∷ []) []) ≡ cond b (x ∷ reverse (filter p xs)) (reverse (filter p xs))
@@ -58,7 +59,8 @@ module _ (place : PlainKey) where
       )
 
   -- keys that rise are those below a place, and then those from it on
-  in_two : (keys : List PlainKey) → IsStrictlySortedBy key_order keys → filter (λ k. not (from place k)) keys ++ filter (from place) keys ≡ keys
+  in_two : (keys : List PlainKey) → IsStrictlySortedBy key_order keys
+      → filter (λ k. not (from place k)) keys ++ filter (from place) keys ≡ keys
   unfolding IsStrictlySortedBy
   in_two [] sorted = refl
   in_two (k ∷ ks) sorted = at (from place k) refl (in_two ks sorted.1)
@@ -74,11 +76,14 @@ module _ (place : PlainKey) where
       at false is later = ap (λ l. k ∷ l) later
 
   walks_rise : (keys : List PlainKey) → IsStrictlySortedBy key_order keys
-      → reverse (take_while (under place) (reverse (filter (λ l. not (from place l)) keys))) ++ take_while (under place) (filter (from place) keys) ≡ filter (under place) keys
+      → reverse (take_while (under place) (reverse (filter (λ l. not (from place l)) keys)))
+      ++ take_while (under place) (filter (from place) keys) ≡ filter (under place) keys
   walks_rise keys sorted =
-      ap (λ l. reverse l ++ take_while (under place) (filter (from place) keys)) (run_kept (under place) (reverse below) (stops_below place keys sorted))
+      ap (λ l. reverse l ++ take_while (under place) (filter (from place) keys))
+      (run_kept (under place) (reverse below) (stops_below place keys sorted))
       ∙ ap (λ l. l ++ take_while (under place) (filter (from place) keys)) (filter_turned (under place) below)
-      ∙ ap (λ l. filter (under place) below ++ l) (run_kept (under place) (filter (from place) keys) (stops_from place keys sorted))
+      ∙ ap (λ l. filter (under place) below ++ l) (run_kept (under place) (filter (from place) keys)
+      (stops_from place keys sorted))
       ∙ sym (filter-append (under place) below (filter (from place) keys))
       ∙ ap (filter (under place)) (in_two keys sorted)
     where
@@ -95,7 +100,8 @@ turned_keys (key ∷ keys) =
 
 module _ {V : Type 0} where
   -- the keys that the two walks find, in the order of keys
-  pub keys_rise : (site : PlainSite) (place : StorageKey) → plain_site place.top ≡ site → (es : List (StorageKey × V)) → IsStrictlySortedBy key_cmp (keys_of es)
+  pub keys_rise : (site : PlainSite) (place : StorageKey) → plain_site place.top ≡ site
+      → (es : List (StorageKey × V)) → IsStrictlySortedBy key_cmp (keys_of es)
       → reverse (take_while (is_under site) (reverse (map plain_key (keys_of (entries_below key_cmp place es)))))
       ++ take_while (is_under site) (map plain_key (keys_of (entries_from key_cmp place es)))
       ≡ filter (is_under site) (map plain_key (keys_of es))
@@ -111,21 +117,26 @@ module _ {V : Type 0} where
       p = plain_key place
 
   -- they are those of all that are under the site
-  pub are_under : (site : PlainSite) (es : List (StorageKey × V)) (keys : List PlainKey) → keys ≡ filter (is_under site) (map plain_key (keys_of es))
+  pub are_under : (site : PlainSite) (es : List (StorageKey × V)) (keys : List PlainKey)
+      → keys ≡ filter (is_under site) (map plain_key (keys_of es))
       → AreUnder site (map plain_key (keys_of es)) keys
   are_under site es keys is q =
       ap (is_one_of q) is ∙ among_filtered (is_under site) q (map plain_key (keys_of es))
 
   -- without a first key there are none
-  pub none_rise : (site : PlainSite) (es : List (StorageKey × V)) (keys : List StorageKey) → None ≡ next_key key_cmp None es → keys ≡ []
+  pub none_rise : (site : PlainSite) (es : List (StorageKey × V)) (keys : List StorageKey)
+      → None ≡ next_key key_cmp None es → keys ≡ []
       → map plain_key keys ≡ filter (is_under site) (map plain_key (keys_of es))
-  none_rise site es keys none empty = ap (map plain_key) empty ∙ sym (ap (λ l. filter (is_under site) (map plain_key (keys_of l))) (none_there es none))
+  none_rise site es keys none empty = ap (map plain_key) empty
+      ∙ sym (ap (λ l. filter (is_under site) (map plain_key (keys_of l))) (none_there es none))
 
   -- a walk down from nothing, turned, and then a walk up
-  pub walked : (site : PlainSite) (place : StorageKey) → plain_site place.top ≡ site → (es : List (StorageKey × V)) → IsStrictlySortedBy key_cmp (keys_of es)
+  pub walked : (site : PlainSite) (place : StorageKey) → plain_site place.top ≡ site
+      → (es : List (StorageKey × V)) → IsStrictlySortedBy key_cmp (keys_of es)
       → (lower upper : List (StorageKey × V)) → lower ≡ entries_below key_cmp place es → upper ≡ entries_from key_cmp place es
       → (none down turned all : List StorageKey) → none ≡ []
-      → map plain_key down ≡ map plain_key none ++ take_while (is_under site) (reverse (map plain_key (keys_of lower))) → turned ≡ reverse down
+      → map plain_key down ≡ map plain_key none ++ take_while (is_under site)
+      (reverse (map plain_key (keys_of lower))) → turned ≡ reverse down
       → map plain_key all ≡ map plain_key turned ++ take_while (is_under site) (map plain_key (keys_of upper))
       → map plain_key all ≡ filter (is_under site) (map plain_key (keys_of es))
   walked site place is es sorted lower upper low up none down turned all empty first turn second =
@@ -134,5 +145,6 @@ module _ {V : Type 0} where
       ∙ ap (λ l. l ++ take_while (is_under site) (map plain_key (keys_of upper))) (turned_keys down)
       ∙ ap (λ l. reverse l ++ take_while (is_under site) (map plain_key (keys_of upper)))
       (first ∙ ap (λ l. map plain_key l ++ take_while (is_under site) (reverse (map plain_key (keys_of lower)))) empty)
-      ∙ (λ i. reverse (take_while (is_under site) (reverse (map plain_key (keys_of (low i))))) ++ take_while (is_under site) (map plain_key (keys_of (up i))))
+      ∙ (λ i. reverse (take_while (is_under site) (reverse (map plain_key (keys_of (low i)))))
+      ++ take_while (is_under site) (map plain_key (keys_of (up i))))
       ∙ keys_rise site place is es sorted

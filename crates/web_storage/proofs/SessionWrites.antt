@@ -27,11 +27,13 @@ abbrev pub Tabs : Type 0
 Tabs = List (ℕ × List (StorageKey × List Pair))
 
 -- session areas that answer alike are equal
-pub same_sessions : (x y : SessionAreas) → ((n : ℕ) (q : PlainKey) → get_cell session_order x (n, q) ≡ get_cell session_order y (n, q)) → x ≡ y
+pub same_sessions : (x y : SessionAreas) → ((n : ℕ) (q : PlainKey)
+    → get_cell session_order x (n, q) ≡ get_cell session_order y (n, q)) → x ≡ y
 same_sessions x y same = cells.same_cells session_order session_order_total session_order_same x y (λ k. same k.0 k.1)
 
 -- a cell that is set to what it has
-pub cell_itself : {K : Type 0} (cmp : K → K → Ordering) → IsTotalOrder cmp → IsAntisymmetric cmp → (key : K) (m : finite.FinMap cmp (Full Pair))
+pub cell_itself : {K : Type 0} (cmp : K → K → Ordering) → IsTotalOrder cmp → IsAntisymmetric cmp
+    → (key : K) (m : finite.FinMap cmp (Full Pair))
     → set_cell cmp key (get_cell cmp m key) m ≡ m
 cell_itself {K} cmp total same key m = cells.same_cells cmp total same _ _ each
   where
@@ -64,28 +66,33 @@ sessions_kept old new same = same_sessions _ _ (λ n q.
     session_at n q new ∙ ap (λ areas. pairs_or (found q areas)) (same n) ∙ sym (session_at n q old))
 
 -- a tab without areas
-pub sessions_closed : (tab : ℕ) (old new : Tabs) → ChangesTab tab [] old new → sessions_in new ≡ without_areas tab (sessions_in old)
+pub sessions_closed : (tab : ℕ) (old new : Tabs) → ChangesTab tab [] old new
+    → sessions_in new ≡ without_areas tab (sessions_in old)
 sessions_closed tab old new changes = same_sessions _ _ each
   where
-    at : (n : ℕ) (q : PlainKey) (b : Bool) → (n == tab) ≡ b → pairs_or (found q (areas_of n new)) ≡ cond b [] (pairs_or (found q (areas_of n old)))
+    at : (n : ℕ) (q : PlainKey) (b : Bool) → (n == tab) ≡ b
+        → pairs_or (found q (areas_of n new)) ≡ cond b [] (pairs_or (found q (areas_of n old)))
     at n q true is = ap (λ areas. pairs_or (found q areas)) (found_after tab [] old new changes n true is)
     at n q false is = ap (λ areas. pairs_or (found q areas)) (found_after tab [] old new changes n false is)
 
-    each : (n : ℕ) (q : PlainKey) → get_cell session_order (sessions_in new) (n, q) ≡ get_cell session_order (without_areas tab (sessions_in old)) (n, q)
+    each : (n : ℕ) (q : PlainKey) → get_cell session_order (sessions_in new) (n, q)
+        ≡ get_cell session_order (without_areas tab (sessions_in old)) (n, q)
     each n q =
         session_at n q new ∙ at n q (n == tab) refl
         ∙ ap (λ r. cond (n == tab) [] r) (sym (session_at n q old))
         ∙ sym (without_found tab n q (sessions_in old))
 
 -- an area of a tab that was written
-pub sessions_written : (tab : ℕ) (key : PlainKey) (pairs : List Pair) (areas : List (StorageKey × List Pair)) (old new : Tabs) → ChangesTab tab areas old new
+pub sessions_written : (tab : ℕ) (key : PlainKey) (pairs : List Pair) (areas : List (StorageKey × List Pair))
+    (old new : Tabs) → ChangesTab tab areas old new
     → ((q : PlainKey) → pairs_or (found q areas) ≡ cond (eq_by_cmp key_order q key) pairs (pairs_or (found q (areas_of tab old))))
     → sessions_in new ≡ set_cell session_order (tab, key) pairs (sessions_in old)
 sessions_written tab key pairs areas old new changes written = same_sessions _ _ each
   where
     at : (n : ℕ) (q : PlainKey) (b : Bool) → (n == tab) ≡ b
         → pairs_or (found q (areas_of n new))
-        ≡ cond b (cond (eq_by_cmp key_order q key) pairs (pairs_or (found q (areas_of n old)))) (pairs_or (found q (areas_of n old)))
+        ≡ cond b (cond (eq_by_cmp key_order q key) pairs (pairs_or (found q (areas_of n old))))
+        (pairs_or (found q (areas_of n old)))
     at n q true is =
         let same : n ≡ tab = grind (arith, nat_tests) in
         ap (λ areas. pairs_or (found q areas)) (found_after tab areas old new changes n true is)
@@ -97,7 +104,8 @@ sessions_written tab key pairs areas old new changes written = same_sessions _ _
         ≡ get_cell session_order (set_cell session_order (tab, key) pairs (sessions_in old)) (n, q)
     each n q =
         session_at n q new ∙ at n q (n == tab) refl
-        ∙ ap (λ b. cond b (cond (eq_by_cmp key_order q key) pairs (pairs_or (found q (areas_of n old)))) (pairs_or (found q (areas_of n old)))) (sym (tab_tie n tab))
+        ∙ ap (λ b. cond b (cond (eq_by_cmp key_order q key) pairs (pairs_or (found q (areas_of n old))))
+        (pairs_or (found q (areas_of n old)))) (sym (tab_tie n tab))
         ∙ ap (λ r. cond (is_eq (nat_cmp n tab)) (cond (eq_by_cmp key_order q key) pairs r) r) (sym (session_at n q old))
         ∙ sym (set_found tab key n q pairs (sessions_in old))
 
@@ -107,10 +115,12 @@ pub sessions_alike : (tab : ℕ) (areas : List (StorageKey × List Pair)) (old n
 sessions_alike tab areas old new changes same = same_sessions _ _ (λ n q.
     session_at n q new ∙ at n q (n == tab) refl ∙ sym (session_at n q old))
   where
-    at : (n : ℕ) (q : PlainKey) (b : Bool) → (n == tab) ≡ b → pairs_or (found q (areas_of n new)) ≡ pairs_or (found q (areas_of n old))
+    at : (n : ℕ) (q : PlainKey) (b : Bool) → (n == tab) ≡ b
+        → pairs_or (found q (areas_of n new)) ≡ pairs_or (found q (areas_of n old))
     at n q true is =
         let tie : n ≡ tab = grind (arith, nat_tests) in
-        ap (λ areas. pairs_or (found q areas)) (found_after tab areas old new changes n true is) ∙ same q ∙ ap (λ k. pairs_or (found q (areas_of k old))) (sym tie)
+        ap (λ areas. pairs_or (found q areas)) (found_after tab areas old new changes n true is) ∙ same q
+        ∙ ap (λ k. pairs_or (found q (areas_of k old))) (sym tie)
     at n q false is = ap (λ areas. pairs_or (found q areas)) (found_after tab areas old new changes n false is)
 
 none_pairs : (b : Bool) (y : Option (List Pair)) → pairs_or (cond b None y) ≡ cond b [] (pairs_or y)
@@ -126,14 +136,19 @@ empty_pairs None is = cc
 empty_pairs (Some []) is = refl
 empty_pairs (Some (x ∷ xs)) is = grind (arith, nat_tests)
 
-module _ (cmp : StorageKey → StorageKey → Ordering) (alike : (a b : StorageKey) → cmp a b ≡ key_order (plain_key a) (plain_key b)) where
+module _ (cmp : StorageKey → StorageKey → Ordering)
+    (alike : (a b : StorageKey) → cmp a b ≡ key_order (plain_key a) (plain_key b)) where
   -- the pairs that a tab has under a key are those of the plain key
-  pub session_held : (tab : ℕ) (key : StorageKey) (tabs : Tabs) → session_pairs cmp tab key tabs ≡ get_cell session_order (sessions_in tabs) (tab, plain_key key)
-  session_held tab key tabs = ap pairs_or (found-key cmp alike key (areas_of tab tabs)) ∙ sym (session_at tab (plain_key key) tabs)
+  pub session_held : (tab : ℕ) (key : StorageKey) (tabs : Tabs)
+      → session_pairs cmp tab key tabs ≡ get_cell session_order (sessions_in tabs) (tab, plain_key key)
+  session_held tab key tabs = ap pairs_or (found-key cmp alike key (areas_of tab tabs))
+      ∙ sym (session_at tab (plain_key key) tabs)
 
   -- an area that is there was written
-  pub sessions_set : (tab : ℕ) (key : StorageKey) (pairs : List Pair) (old new : Tabs) → is_some (session_area cmp tab key old) ≡ true
-      → ChangesTab tab (map_set cmp key pairs (areas_of tab old)) old new → sessions_in new ≡ set_cell session_order (tab, plain_key key) pairs (sessions_in old)
+  pub sessions_set : (tab : ℕ) (key : StorageKey) (pairs : List Pair) (old new : Tabs)
+      → is_some (session_area cmp tab key old) ≡ true
+      → ChangesTab tab (map_set cmp key pairs (areas_of tab old)) old new
+      → sessions_in new ≡ set_cell session_order (tab, plain_key key) pairs (sessions_in old)
   sessions_set tab key pairs old new there changes =
       sessions_written tab (plain_key key) pairs _ old new changes (λ q.
       ap pairs_or (found-set cmp alike q key pairs (areas_of tab old) there)
@@ -143,14 +158,17 @@ module _ (cmp : StorageKey → StorageKey → Ordering) (alike : (a b : StorageK
   in_place : (q : PlainKey) (key : StorageKey) (areas : List (StorageKey × List Pair)) → pairs_or (map_get cmp key areas) ≡ []
       → cond (eq_by_cmp key_order q (plain_key key)) [] (pairs_or (found q areas)) ≡ pairs_or (found q areas)
   in_place q key areas none =
-      ap (λ p. cond (eq_by_cmp key_order q (plain_key key)) p (pairs_or (found q areas))) (sym none ∙ ap pairs_or (found-key cmp alike key areas))
+      ap (λ p. cond (eq_by_cmp key_order q (plain_key key)) p (pairs_or (found q areas)))
+      (sym none ∙ ap pairs_or (found-key cmp alike key areas))
       ∙ cond_same (λ k. pairs_or (found k areas)) q (plain_key key) (eq_by_cmp key_order q (plain_key key)) refl
 
   -- room for an area
-  pub made_alike : (key : StorageKey) (areas : List (StorageKey × List Pair)) (q : PlainKey) → pairs_or (found q (made_area cmp key areas)) ≡ pairs_or (found q areas)
+  pub made_alike : (key : StorageKey) (areas : List (StorageKey × List Pair)) (q : PlainKey)
+      → pairs_or (found q (made_area cmp key areas)) ≡ pairs_or (found q areas)
   made_alike key areas q = at (is_some (map_get cmp key areas)) refl
     where
-      at : (b : Bool) → is_some (map_get cmp key areas) ≡ b → pairs_or (found q (cond b areas (map_put cmp key [] areas))) ≡ pairs_or (found q areas)
+      at : (b : Bool) → is_some (map_get cmp key areas) ≡ b
+          → pairs_or (found q (cond b areas (map_put cmp key [] areas))) ≡ pairs_or (found q areas)
       at true is = refl
       at false is =
           ap pairs_or (found-put cmp alike q key [] areas)
@@ -158,10 +176,12 @@ module _ (cmp : StorageKey → StorageKey → Ordering) (alike : (a b : StorageK
           ∙ in_place q key areas (no_pairs (map_get cmp key areas) is)
 
   -- an empty area is dropped
-  pub dropped_alike : (key : StorageKey) (areas : List (StorageKey × List Pair)) (q : PlainKey) → pairs_or (found q (without_empty cmp key areas)) ≡ pairs_or (found q areas)
+  pub dropped_alike : (key : StorageKey) (areas : List (StorageKey × List Pair)) (q : PlainKey)
+      → pairs_or (found q (without_empty cmp key areas)) ≡ pairs_or (found q areas)
   dropped_alike key areas q = at (has_empty cmp key areas) refl
     where
-      at : (b : Bool) → has_empty cmp key areas ≡ b → pairs_or (found q (cond b (map_remove cmp key areas) areas)) ≡ pairs_or (found q areas)
+      at : (b : Bool) → has_empty cmp key areas ≡ b
+          → pairs_or (found q (cond b (map_remove cmp key areas) areas)) ≡ pairs_or (found q areas)
       at true is =
           ap pairs_or (found-removed cmp alike q key areas)
           ∙ none_pairs (eq_by_cmp key_order q (plain_key key)) (found q areas)

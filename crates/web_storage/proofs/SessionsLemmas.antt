@@ -32,7 +32,8 @@ tie_parts Greater b x y = refl
 -- one area was set, and another tab or key is looked at
 pub set_found : (tab : ℕ) (key : PlainKey) (n : ℕ) (q : PlainKey) (pairs : List Pair) (sessions : SessionAreas)
     → get_cell session_order (set_cell session_order (tab, key) pairs sessions) (n, q)
-    ≡ cond (is_eq (nat_cmp n tab)) (cond (eq_by_cmp key_order q key) pairs (get_cell session_order sessions (n, q))) (get_cell session_order sessions (n, q))
+    ≡ cond (is_eq (nat_cmp n tab)) (cond (eq_by_cmp key_order q key) pairs
+    (get_cell session_order sessions (n, q))) (get_cell session_order sessions (n, q))
 set_found tab key n q pairs sessions =
     cells.get_set session_order session_order_total session_order_same (n, q) (tab, key) pairs sessions
     ∙ tie_parts (nat_cmp n tab) (key_order q key) pairs (get_cell session_order sessions (n, q))
@@ -40,10 +41,12 @@ set_found tab key n q pairs sessions =
 -- the area of a tab, where its areas stand before others
 with_found : (tab : ℕ) (areas : List (StorageKey × List Pair)) (n : ℕ) (q : PlainKey) (sessions : SessionAreas)
     → get_cell session_order (with_areas tab areas sessions) (n, q)
-    ≡ cond (is_eq (nat_cmp n tab)) (unwrap_or (found q areas) (get_cell session_order sessions (n, q))) (get_cell session_order sessions (n, q))
+    ≡ cond (is_eq (nat_cmp n tab)) (unwrap_or (found q areas) (get_cell session_order sessions (n, q)))
+    (get_cell session_order sessions (n, q))
 with_found tab [] n q sessions = same (is_eq (nat_cmp n tab))
   where
-    same : (b : Bool) → get_cell session_order sessions (n, q) ≡ cond b (get_cell session_order sessions (n, q)) (get_cell session_order sessions (n, q))
+    same : (b : Bool) → get_cell session_order sessions (n, q)
+        ≡ cond b (get_cell session_order sessions (n, q)) (get_cell session_order sessions (n, q))
     same true = refl
     same false = refl
 with_found tab (e ∷ es) n q sessions =
@@ -51,9 +54,12 @@ with_found tab (e ∷ es) n q sessions =
     ∙ at (is_eq (nat_cmp n tab)) (eq_by_cmp key_order q (plain_key e.0)) (with_found tab es n q sessions)
   where
     at : (b c : Bool)
-        → get_cell session_order (with_areas tab es sessions) (n, q) ≡ cond b (unwrap_or (found q es) (get_cell session_order sessions (n, q))) (get_cell session_order sessions (n, q))
-        → cond b (cond c e.1 (get_cell session_order (with_areas tab es sessions) (n, q))) (get_cell session_order (with_areas tab es sessions) (n, q))
-        ≡ cond b (unwrap_or (cond c (Some e.1) (found q es)) (get_cell session_order sessions (n, q))) (get_cell session_order sessions (n, q))
+        → get_cell session_order (with_areas tab es sessions) (n, q)
+        ≡ cond b (unwrap_or (found q es) (get_cell session_order sessions (n, q))) (get_cell session_order sessions (n, q))
+        → cond b (cond c e.1 (get_cell session_order (with_areas tab es sessions) (n, q)))
+        (get_cell session_order (with_areas tab es sessions) (n, q))
+        ≡ cond b (unwrap_or (cond c (Some e.1) (found q es)) (get_cell session_order sessions (n, q)))
+        (get_cell session_order sessions (n, q))
     at true true later = refl
     at true false later = later
     at false c later = later
@@ -63,7 +69,8 @@ pub without_found : (tab n : ℕ) (q : PlainKey) (sessions : SessionAreas)
     → get_cell session_order (without_areas tab sessions) (n, q) ≡ cond (n == tab) [] (get_cell session_order sessions (n, q))
 unfolding get_cell
 without_found tab n q sessions =
-    ap list_of (get-retain_keys sessions (λ key. not (key.0 == tab)) (n, q) (λ x tie. ap (λ k. not (k.0 == tab)) (sym (session_order_same (n, q) x tie))))
+    ap list_of (get-retain_keys sessions (λ key. not (key.0 == tab)) (n, q)
+    (λ x tie. ap (λ k. not (k.0 == tab)) (sym (session_order_same (n, q) x tie))))
     ∙ at (n == tab)
   where
     at : (b : Bool) → list_of (cond (not b) (finite.get sessions (n, q)) None) ≡ cond b [] (list_of (finite.get sessions (n, q)))
@@ -81,7 +88,8 @@ session_at n q (t ∷ ts) =
     ∙ at (is_eq (nat_cmp n t.0)) (n == t.0) (sym (unsigned_tied n t.0)) (session_at n q ts)
   where
     at : (b c : Bool) → c ≡ b → get_cell session_order (sessions_in ts) (n, q) ≡ pairs_or (found q (areas_of n ts))
-        → cond b (unwrap_or (found q t.1) (cond c [] (get_cell session_order (sessions_in ts) (n, q)))) (cond c [] (get_cell session_order (sessions_in ts) (n, q)))
+        → cond b (unwrap_or (found q t.1) (cond c [] (get_cell session_order (sessions_in ts) (n, q))))
+        (cond c [] (get_cell session_order (sessions_in ts) (n, q)))
         ≡ pairs_or (found q (unwrap_or (cond b (Some t.1) (map_get nat_cmp n ts)) []))
     at true true is later = refl
     at true false is later = cc

@@ -49,12 +49,14 @@ first_false true b is = cc
 first_false false b is = (refl, is)
 
 -- where no key that passes a test has a value, no key passes it
-no_key : (sessions : SessionAreas) (test : SessionKey → Bool) → ((key : SessionKey) → test key ≡ true → finite.get sessions key ≡ None)
+no_key : (sessions : SessionAreas) (test : SessionKey → Bool)
+    → ((key : SessionKey) → test key ≡ true → finite.get sessions key ≡ None)
     → list_any test (finite.keys sessions) ≡ false
 no_key sessions test none =
     none_of test (finite.keys sessions)
     (subst (λ s. list_all (λ k. not (test k)) (finite.keys s) ≡ true)
-    (kept.all_kept session_order session_order_total session_order_same sessions (λ k. not (test k)) (λ k is. none k (passes (test k) is)))
+    (kept.all_kept session_order session_order_total session_order_same sessions (λ k. not (test k))
+    (λ k is. none k (passes (test k) is)))
     (kept.kept_pass session_order session_order_total session_order_same sessions (λ k. not (test k))))
   where
     passes : (b : Bool) → not b ≡ false → b ≡ true
@@ -69,17 +71,21 @@ module _ (site : PlainSite) where
       → (q : PlainKey) → is_under site q ≡ true → pairs_or (found q es) ≡ []
   none_found [] none q is = refl
   none_found (e ∷ es) none q is =
-      at (eq_by_cmp key_order q (plain_key e.0)) refl (first_false (has_pairs_under site e) (list_any (has_pairs_under site) es) none)
+      at (eq_by_cmp key_order q (plain_key e.0)) refl
+      (first_false (has_pairs_under site e) (list_any (has_pairs_under site) es) none)
       (λ later. none_found es later q is)
     where
       full : (b c : Bool) → (b && c) ≡ false → c ≡ true → b ≡ false
       full true c both under = cc
       full false c both under = refl
 
-      at : (b : Bool) → eq_by_cmp key_order q (plain_key e.0) ≡ b → (has_pairs_under site e ≡ false) × (list_any (has_pairs_under site) es ≡ false)
-          → (list_any (has_pairs_under site) es ≡ false → pairs_or (found q es) ≡ []) → pairs_or (cond b (Some e.1) (found q es)) ≡ []
+      at : (b : Bool) → eq_by_cmp key_order q (plain_key e.0) ≡ b
+          → (has_pairs_under site e ≡ false) × (list_any (has_pairs_under site) es ≡ false)
+          → (list_any (has_pairs_under site) es ≡ false → pairs_or (found q es) ≡ [])
+          → pairs_or (cond b (Some e.1) (found q es)) ≡ []
       at true tie both more =
-          no_pairs e.1 (full (not (length e.1 == 0)) (is_under site (plain_key e.0)) both.0 (ap (is_under site) (sym (tied_keys q (plain_key e.0) tie)) ∙ is))
+          no_pairs e.1 (full (not (length e.1 == 0)) (is_under site (plain_key e.0)) both.0
+          (ap (is_under site) (sym (tied_keys q (plain_key e.0) tie)) ∙ is))
       at false tie both more = more both.1
 
   -- a key before all keys of some entries is none of theirs
@@ -105,14 +111,16 @@ module _ (site : PlainSite) where
       later : (q : PlainKey) → is_under site q ≡ true → pairs_or (found q es) ≡ []
       later q is = past (eq_by_cmp key_order q (plain_key e.0)) refl (none q is)
         where
-          past : (b : Bool) → eq_by_cmp key_order q (plain_key e.0) ≡ b → pairs_or (cond b (Some e.1) (found q es)) ≡ [] → pairs_or (found q es) ≡ []
+          past : (b : Bool) → eq_by_cmp key_order q (plain_key e.0) ≡ b
+              → pairs_or (cond b (Some e.1) (found q es)) ≡ [] → pairs_or (found q es) ≡ []
           past true tie nothing = ap pairs_or (absent q e.0 (tied_keys q (plain_key e.0) tie) es sorted.0)
           past false tie nothing = nothing
 
       at : (b : Bool) → is_under site (plain_key e.0) ≡ b → list_any (has_pairs_under site) es ≡ false
           → ((not (length e.1 == 0) && is_under site (plain_key e.0)) || list_any (has_pairs_under site) es) ≡ false
       at true is rest =
-          (λ i. (not (length (here (eq_by_cmp key_order (plain_key e.0) (plain_key e.0)) ((eq_by_cmp_equiv key_order_total).refl (plain_key e.0)) (none (plain_key e.0) is) i) == 0)
+          (λ i. (not (length (here (eq_by_cmp key_order (plain_key e.0) (plain_key e.0))
+          ((eq_by_cmp_equiv key_order_total).refl (plain_key e.0)) (none (plain_key e.0) is) i) == 0)
           && is_under site (plain_key e.0)) || list_any (has_pairs_under site) es)
           ∙ rest
       at false is rest = (λ i. (not (length e.1 == 0) && is i) || rest i) ∙ none_of_both (not (length e.1 == 0))
@@ -124,7 +132,8 @@ module _ (site : PlainSite) where
   -- ---- and by all session areas
 
   module _ (tab : ℕ) (tabs : Tabs) where
-    none_above : list_any (has_pairs_under site) (areas_of tab tabs) ≡ false → has_session_under site tab (sessions_in tabs) ≡ false
+    none_above : list_any (has_pairs_under site) (areas_of tab tabs) ≡ false
+        → has_session_under site tab (sessions_in tabs) ≡ false
     unfolding get_cell
     none_above none = no_key (sessions_in tabs) (is_copied site tab) each
       where
@@ -135,7 +144,8 @@ module _ (site : PlainSite) where
             at true tie under =
                 let same : key.0 ≡ tab = grind (arith, nat_tests) in
                 nothing_full (finite.get (sessions_in tabs) key)
-                (session_at key.0 key.1 tabs ∙ ap (λ n. pairs_or (found key.1 (areas_of n tabs))) same ∙ none_found (areas_of tab tabs) none key.1 under)
+                (session_at key.0 key.1 tabs ∙ ap (λ n. pairs_or (found key.1 (areas_of n tabs))) same
+                ∙ none_found (areas_of tab tabs) none key.1 under)
             at false tie under = cc
 
     none_below : IsStrictlySortedBy key_cmp (keys_of (areas_of tab tabs)) → has_session_under site tab (sessions_in tabs) ≡ false
@@ -150,13 +160,15 @@ module _ (site : PlainSite) where
         each : (q : PlainKey) → is_under site q ≡ true → pairs_or (found q (areas_of tab tabs)) ≡ []
         each q is =
             sym (session_at tab q tabs)
-            ∙ ap list_of (kept.none_passes session_order session_order_total session_order_same (sessions_in tabs) (is_copied site tab) none (tab, q)
+            ∙ ap list_of (kept.none_passes session_order session_order_total session_order_same
+            (sessions_in tabs) (is_copied site tab) none (tab, q)
             (of_tab (tab == tab) (grind (arith, nat_tests)) q is))
 
     -- a tab has a session area under the site where one of its areas there has pairs
     pub any_area : IsStrictlySortedBy key_cmp (keys_of (areas_of tab tabs))
         → list_any (has_pairs_under site) (areas_of tab tabs) ≡ has_session_under site tab (sessions_in tabs)
-    any_area sorted = at (list_any (has_pairs_under site) (areas_of tab tabs)) (has_session_under site tab (sessions_in tabs)) none_above (none_below sorted)
+    any_area sorted = at (list_any (has_pairs_under site) (areas_of tab tabs))
+        (has_session_under site tab (sessions_in tabs)) none_above (none_below sorted)
       where
         at : (a b : Bool) → (a ≡ false → b ≡ false) → (b ≡ false → a ≡ false) → a ≡ b
         at true true f g = refl

@@ -28,12 +28,15 @@ plain_copy (e ∷ es) (c ∷ cs) zip = λ i. (zip.0.0 i, zip.0.1 i) ∷ plain_co
 
 pub areas_copied : (es copy : List (StorageKey × Bucket)) → IsPlainCopy es copy → areas_in copy ≡ areas_in es
 areas_copied es copy zip = cells.same_cells key_order key_order_total key_order_same _ _ (λ q.
-    area_at q copy ∙ ap (λ ps. (unwrap_or (map_get key_order q ps) fresh_bucket).area) (plain_copy es copy zip) ∙ sym (area_at q es))
+    area_at q copy ∙ ap (λ ps. (unwrap_or (map_get key_order q ps) fresh_bucket).area)
+    (plain_copy es copy zip) ∙ sym (area_at q es))
 
 pub keys_copied : (es copy : List (StorageKey × Bucket)) → IsPlainCopy es copy → keys_in copy ≡ keys_in es
 keys_copied es copy zip = same_keys _ _ (λ q.
-    mode_at q copy ∙ ap (λ ps. not (is_best_effort (unwrap_or (map_get key_order q ps) fresh_bucket).mode)) (plain_copy es copy zip) ∙ sym (mode_at q es))
+    mode_at q copy ∙ ap (λ ps. not (is_best_effort (unwrap_or (map_get key_order q ps) fresh_bucket).mode))
+    (plain_copy es copy zip) ∙ sym (mode_at q es))
 
-pub sessions_cloned : (old copy : Tabs) → ((tab : ℕ) → IsPlainCopy (areas_of tab old) (areas_of tab copy)) → sessions_in copy ≡ sessions_in old
+pub sessions_cloned : (old copy : Tabs) → ((tab : ℕ) → IsPlainCopy (areas_of tab old) (areas_of tab copy))
+    → sessions_in copy ≡ sessions_in old
 sessions_cloned old copy zip = same_sessions _ _ (λ n q.
     session_at n q copy ∙ ap (λ ps. pairs_or (map_get key_order q ps)) (plain_copy _ _ (zip n)) ∙ sym (session_at n q old))

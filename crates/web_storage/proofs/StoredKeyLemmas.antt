@@ -40,12 +40,14 @@ filter_twice p q [] = refl
 filter_twice p q (x ∷ xs) = at (p x) (filter_twice p q xs)
   where
     at : (b : Bool) → filter q (filter p xs) ≡ filter (λ y. p y && q y) xs
-        → filter q (cond b (x ∷ filter p xs) (filter p xs)) ≡ cond (b && q x) (x ∷ filter (λ y. p y && q y) xs) (filter (λ y. p y && q y) xs)
+        → filter q (cond b (x ∷ filter p xs) (filter p xs))
+        ≡ cond (b && q x) (x ∷ filter (λ y. p y && q y) xs) (filter (λ y. p y && q y) xs)
     at true later = ap (λ l. cond (q x) (x ∷ l) l) later
     at false later = later
 
 -- keys whose plain keys pass a test
-pub plain_those : (test : PlainKey → Bool) (keys : List StorageKey) → map plain_key (filter (λ key. test (plain_key key)) keys) ≡ filter test (map plain_key keys)
+pub plain_those : (test : PlainKey → Bool) (keys : List StorageKey)
+    → map plain_key (filter (λ key. test (plain_key key)) keys) ≡ filter test (map plain_key keys)
 plain_those test [] = refl
 plain_those test (key ∷ keys) = at (test (plain_key key)) (plain_those test keys)
   where
@@ -58,7 +60,8 @@ plain_those test (key ∷ keys) = at (test (plain_key key)) (plain_those test ke
 -- ---- what a shed has
 
 -- a plain key that is found is one of the keys
-found_there : (q : PlainKey) (shed : List (StorageKey × Bucket)) → is_some (found q shed) ≡ true → is_one_of q (map plain_key (keys_of shed)) ≡ true
+found_there : (q : PlainKey) (shed : List (StorageKey × Bucket)) → is_some (found q shed) ≡ true
+    → is_one_of q (map plain_key (keys_of shed)) ≡ true
 found_there q [] is = cc
 found_there q (e ∷ es) is = at (eq_by_cmp key_order q (plain_key e.0)) refl is (found_there q es)
   where
@@ -68,36 +71,46 @@ found_there q (e ∷ es) is = at (eq_by_cmp key_order q (plain_key e.0)) refl is
     flip : eq_by_cmp key_order (plain_key e.0) q ≡ eq_by_cmp key_order q (plain_key e.0)
     flip = eq-flip key_order key_order_total (plain_key e.0) q
 
-    at : (b : Bool) → eq_by_cmp key_order q (plain_key e.0) ≡ b → is_some (cond b (Some e.1) (found q es)) ≡ true → (is_some (found q es) ≡ true → others ≡ true)
+    at : (b : Bool) → eq_by_cmp key_order q (plain_key e.0) ≡ b
+        → is_some (cond b (Some e.1) (found q es)) ≡ true → (is_some (found q es) ≡ true → others ≡ true)
         → (eq_by_cmp key_order (plain_key e.0) q || others) ≡ true
     at true tie is later = ap (λ b. b || others) (flip ∙ tie)
     at false tie is later = ap (λ b. b || others) (flip ∙ tie) ∙ later is
 
 -- a key that has an area is one of a shed's
-area_there : (shed : List (StorageKey × Bucket)) (q : PlainKey) → finite.contains_key (areas_in shed) q ≡ true → is_one_of q (map plain_key (keys_of shed)) ≡ true
+area_there : (shed : List (StorageKey × Bucket)) (q : PlainKey) → finite.contains_key (areas_in shed) q ≡ true
+    → is_one_of q (map plain_key (keys_of shed)) ≡ true
 unfolding get_cell
 area_there shed q is = at (found q shed) refl
   where
     at : (o : Option Bucket) → found q shed ≡ o → is_one_of q (map plain_key (keys_of shed)) ≡ true
     at (Some bucket) there = found_there q shed (ap is_some there)
     at None none =
-        absurd (true≢false (sym is ∙ ap is_some (list_none (finite.get (areas_in shed) q) (area_at q shed ∙ ap (λ o. (unwrap_or o fresh_bucket).area) none))))
+        absurd (true≢false (sym is ∙ ap is_some (list_none (finite.get (areas_in shed) q)
+        (area_at q shed ∙ ap (λ o. (unwrap_or o fresh_bucket).area) none))))
 
 -- and so is one that is persistent
-mode_there : (shed : List (StorageKey × Bucket)) (q : PlainKey) → finite.contains_key (keys_in shed) q ≡ true → is_one_of q (map plain_key (keys_of shed)) ≡ true
+mode_there : (shed : List (StorageKey × Bucket)) (q : PlainKey) → finite.contains_key (keys_in shed) q ≡ true
+    → is_one_of q (map plain_key (keys_of shed)) ≡ true
 mode_there shed q is = at (found q shed) refl
   where
     at : (o : Option Bucket) → found q shed ≡ o → is_one_of q (map plain_key (keys_of shed)) ≡ true
     at (Some bucket) there = found_there q shed (ap is_some there)
-    at None none = absurd (true≢false (sym is ∙ mode_at q shed ∙ ap (λ o. not (is_best_effort (unwrap_or o fresh_bucket).mode)) none))
+    at None none = absurd (true≢false (sym is ∙ mode_at q shed
+        ∙ ap (λ o. not (is_best_effort (unwrap_or o fresh_bucket).mode)) none))
 
 -- the keys of a kind are those of the shed that are of this kind
 pub kind_listed : (with_area : Bool) (shed : List (StorageKey × Bucket)) → IsStrictlySortedBy key_cmp (keys_of shed)
-    → filter (is_of_kind with_area (areas_in shed) (keys_in shed)) (map plain_key (keys_of shed)) ≡ keys_of_kind with_area (areas_in shed) (keys_in shed)
-kind_listed true shed sorted = keys_had key_order key_order_total key_order_same (areas_in shed) (map plain_key (keys_of shed)) (plain_sorted (keys_of shed) sorted) (area_there shed)
+    → filter (is_of_kind with_area (areas_in shed) (keys_in shed)) (map plain_key (keys_of shed))
+    ≡ keys_of_kind with_area (areas_in shed) (keys_in shed)
+kind_listed true shed sorted = keys_had key_order key_order_total key_order_same (areas_in shed)
+    (map plain_key (keys_of shed)) (plain_sorted (keys_of shed) sorted) (area_there shed)
 kind_listed false shed sorted =
-    sym (filter_twice (finite.contains_key (keys_in shed)) (λ key. not (finite.contains_key (areas_in shed) key)) (map plain_key (keys_of shed)))
-    ∙ ap (filter (λ key. not (finite.contains_key (areas_in shed) key))) (keys_had key_order key_order_total key_order_same (keys_in shed) (map plain_key (keys_of shed)) (plain_sorted (keys_of shed) sorted) (mode_there shed))
+    sym (filter_twice (finite.contains_key (keys_in shed))
+    (λ key. not (finite.contains_key (areas_in shed) key)) (map plain_key (keys_of shed)))
+    ∙ ap (filter (λ key. not (finite.contains_key (areas_in shed) key)))
+    (keys_had key_order key_order_total key_order_same (keys_in shed) (map plain_key (keys_of shed))
+    (plain_sorted (keys_of shed) sorted) (mode_there shed))
 
 -- a key has an area, and its bucket is not persistent
 abbrev pub may_be_taken : List (StorageKey × Bucket) → PlainKey → Bool
@@ -105,11 +118,14 @@ may_be_taken shed key = finite.contains_key (areas_in shed) key && not (finite.c
 
 -- the keys whose areas an eviction takes are those under the site that may be taken
 pub taken_listed : (site : PlainSite) (shed : List (StorageKey × Bucket)) → IsStrictlySortedBy key_cmp (keys_of shed)
-    → filter (may_be_taken shed) (filter (is_under site) (map plain_key (keys_of shed))) ≡ finite.keys (areas_taken_by site (keys_in shed) (areas_in shed))
+    → filter (may_be_taken shed) (filter (is_under site) (map plain_key (keys_of shed)))
+    ≡ finite.keys (areas_taken_by site (keys_in shed) (areas_in shed))
 taken_listed site shed sorted =
     filter_twice (is_under site) (may_be_taken shed) all
     ∙ filter_agree (λ q. is_under site q && may_be_taken shed q) (finite.contains_key taken) (λ q. sym (has q)) all
-    ∙ keys_had key_order key_order_total key_order_same taken all (plain_sorted (keys_of shed) sorted) (λ q is. area_there shed q (first (is_under site q) (finite.contains_key (areas_in shed) q) (finite.contains_key (keys_in shed) q) (sym (has q) ∙ is)))
+    ∙ keys_had key_order key_order_total key_order_same taken all (plain_sorted (keys_of shed) sorted)
+    (λ q is. area_there shed q (first (is_under site q) (finite.contains_key (areas_in shed) q)
+    (finite.contains_key (keys_in shed) q) (sym (has q) ∙ is)))
   where
     all : List PlainKey
     all = map plain_key (keys_of shed)
@@ -141,7 +157,8 @@ has_first None = refl
 has_first (Some full) = sym (some_length full.first full.rest)
 
 -- a key has an area where the pairs that are told of it are not none
-pub told_pairs : (key : StorageKey) (shed : List (StorageKey × Bucket)) (told : Option (List Pair)) → told ≡ option_map (λ bucket. bucket.area) (map_get order key shed)
+pub told_pairs : (key : StorageKey) (shed : List (StorageKey × Bucket)) (told : Option (List Pair))
+    → told ≡ option_map (λ bucket. bucket.area) (map_get order key shed)
     → not (length (unwrap_or told []) == 0) ≡ finite.contains_key (areas_in shed) (plain_key key)
 unfolding get_cell
 told_pairs key shed told is =
@@ -154,18 +171,22 @@ told_pairs key shed told is =
 -- the walk from the first key on finds the keys of a kind
 pub walked_all : (with_area : Bool) (shed one two all : List (StorageKey × Bucket)) (first : StorageKey) → one ≡ shed → two ≡ shed
     → IsStrictlySortedBy key_cmp (keys_of one) → Some first ≡ next_key key_cmp None one → all ≡ entries_from key_cmp first two
-    → filter (is_of_kind with_area (areas_in shed) (keys_in shed)) (map plain_key (keys_of all)) ≡ keys_of_kind with_area (areas_in shed) (keys_in shed)
+    → filter (is_of_kind with_area (areas_in shed) (keys_in shed)) (map plain_key (keys_of all))
+    ≡ keys_of_kind with_area (areas_in shed) (keys_in shed)
 walked_all with_area shed one two all first is same sorted found from =
     ap (λ es. filter (is_of_kind with_area (areas_in shed) (keys_in shed)) (map plain_key (keys_of es)))
-    (from ∙ ap (entries_from key_cmp first) same ∙ from_first key_cmp (on_total plain_key key_order_total) first shed rises (found ∙ ap (next_key key_cmp None) is))
+    (from ∙ ap (entries_from key_cmp first) same ∙ from_first key_cmp (on_total plain_key key_order_total)
+    first shed rises (found ∙ ap (next_key key_cmp None) is))
     ∙ kind_listed with_area shed rises
   where
     rises : IsStrictlySortedBy key_cmp (keys_of shed)
     rises = subst (λ es. IsStrictlySortedBy key_cmp (keys_of es)) is sorted
 
 -- without a first key there are none
-pub none_of_kind : (with_area : Bool) (shed one : List (StorageKey × Bucket)) → one ≡ shed → IsStrictlySortedBy key_cmp (keys_of one)
+pub none_of_kind : (with_area : Bool) (shed one : List (StorageKey × Bucket)) → one ≡ shed
+    → IsStrictlySortedBy key_cmp (keys_of one)
     → None ≡ next_key key_cmp None one → [] ≡ keys_of_kind with_area (areas_in shed) (keys_in shed)
 none_of_kind with_area shed one is sorted none =
-    ap (λ es. filter (is_of_kind with_area (areas_in shed) (keys_in shed)) (map plain_key (keys_of es))) (sym (none_there shed (none ∙ ap (next_key key_cmp None) is)))
+    ap (λ es. filter (is_of_kind with_area (areas_in shed) (keys_in shed)) (map plain_key (keys_of es)))
+    (sym (none_there shed (none ∙ ap (next_key key_cmp None) is)))
     ∙ kind_listed with_area shed (subst (λ es. IsStrictlySortedBy key_cmp (keys_of es)) is sorted)

@@ -39,12 +39,14 @@ module _ {X : Type 0} (p : X → Bool) where
   run_kept [] stops = refl
   run_kept (x ∷ xs) stops = take_while-cons p x xs ∙ at (p x) refl (run_kept xs stops.1)
     where
-      at : (b : Bool) → p x ≡ b → take_while p xs ≡ filter p xs → cond b (x ∷ take_while p xs) [] ≡ cond b (x ∷ filter p xs) (filter p xs)
+      at : (b : Bool) → p x ≡ b → take_while p xs ≡ filter p xs
+          → cond b (x ∷ take_while p xs) [] ≡ cond b (x ∷ filter p xs) (filter p xs)
       at true is later = ap (λ r. x ∷ r) later
       at false is later = sym (none_kept xs (stops.0 is))
 
   -- a walk goes on, stops at an item, or comes to the end
-  pub walk-on : (x : X) (rest done whole : List X) → p x ≡ true → done ++ take_while p (x ∷ rest) ≡ whole → (done ++ x ∷ []) ++ take_while p rest ≡ whole
+  pub walk-on : (x : X) (rest done whole : List X) → p x ≡ true → done ++ take_while p (x ∷ rest) ≡ whole
+      → (done ++ x ∷ []) ++ take_while p rest ≡ whole
   walk-on x rest done whole passes is =
       append_assoc done (x ∷ []) (take_while p rest)
       ∙ ap (λ r. done ++ r) (sym (take_while-cons p x rest ∙ ap (λ b. cond b (x ∷ take_while p rest) []) passes))
@@ -62,7 +64,8 @@ module _ {X : Type 0} (p : X → Bool) where
   -- an item more at the end
   stops-last : (xs : List X) (x : X) → Stops xs → AllByRecursion (λ y. p y ≡ false → p x ≡ false) xs → Stops (xs ++ x ∷ [])
   stops-last [] x stops all = ((λ fails. tt), tt)
-  stops-last (y ∷ ys) x stops all = ((λ fails. all-last (λ z. p z ≡ false) ys x (stops.0 fails) (all.0 fails)), stops-last ys x stops.1 all.1)
+  stops-last (y ∷ ys) x stops all =
+      ((λ fails. all-last (λ z. p z ≡ false) ys x (stops.0 fails) (all.0 fails)), stops-last ys x stops.1 all.1)
     where
       all-last : (P : X → Type 0) (zs : List X) (z : X) → AllByRecursion P zs → P z → AllByRecursion P (zs ++ z ∷ [])
       all-last P [] z each last = (last, tt)
@@ -114,7 +117,8 @@ past_more s k l less rises = at (site_order k l) refl rises
     at : (o : Ordering) → site_order k l ≡ o → is_gt o ≡ false → site_order s l ≡ Less
     at Less is more = site_order_total.trans s k l less is
     at Equal is more =
-        site_order_total.antisymm s l ∙ ap ordering_reverse (sym (site_order_total.congr k l s is)) ∙ sym (site_order_total.antisymm s k) ∙ less
+        site_order_total.antisymm s l ∙ ap ordering_reverse (sym (site_order_total.congr k l s is))
+        ∙ sym (site_order_total.antisymm s k) ∙ less
     at Greater is more = cc
 
 -- and one that is before another at lesser sites
@@ -149,9 +153,11 @@ module _ (place : PlainKey) where
   past_each test k less (l ∷ ls) rises = at (test l) (past_each test k less ls rises.1)
     where
       fails : under l ≡ false
-      fails = side-of l ∙ ap is_eq (past_more place.top k.top l.top less (first_rises (site_order k.top l.top) (within k l) rises.0))
+      fails = side-of l ∙ ap is_eq (past_more place.top k.top l.top less
+          (first_rises (site_order k.top l.top) (within k l) rises.0))
 
-      at : (b : Bool) → AllByRecursion (λ l. under l ≡ false) (filter test ls) → AllByRecursion (λ l. under l ≡ false) (cond b (l ∷ filter test ls) (filter test ls))
+      at : (b : Bool) → AllByRecursion (λ l. under l ≡ false) (filter test ls)
+          → AllByRecursion (λ l. under l ≡ false) (cond b (l ∷ filter test ls) (filter test ls))
       at true later = (fails, later)
       at false later = later
 
@@ -161,8 +167,11 @@ module _ (place : PlainKey) where
   stops_from (k ∷ ks) sorted = at (from k) refl (stops_from ks sorted.1)
     where
       at : (b : Bool) → from k ≡ b → Stops under (filter from ks) → Stops under (cond b (k ∷ filter from ks) (filter from ks))
-      at true is later =
-          ((λ fails. past_each from k (is_less (site_order place.top k.top) (sym (side-of k) ∙ fails) (first_from (site_order place.top k.top) (within place k) is)) ks sorted.0), later)
+      at true is later = (
+        (λ fails. past_each from k (is_less (site_order place.top k.top) (sym (side-of k) ∙ fails)
+            (first_from (site_order place.top k.top) (within place k) is)) ks sorted.0),
+        later,
+      )
       at false is later = later
 
   before_each : (k : PlainKey) (ls : List PlainKey) → AllByRecursion (λ l. key_order k l ≡ Less) ls
@@ -171,15 +180,20 @@ module _ (place : PlainKey) where
   before_each k (l ∷ ls) rises = at (not (from l)) refl (before_each k ls rises.1)
     where
       at : (b : Bool) → not (from l) ≡ b → AllByRecursion (λ y. under y ≡ false → under k ≡ false) (filter (λ y. not (from y)) ls)
-          → AllByRecursion (λ y. under y ≡ false → under k ≡ false) (cond b (l ∷ filter (λ y. not (from y)) ls) (filter (λ y. not (from y)) ls))
+          → AllByRecursion (λ y. under y ≡ false → under k ≡ false)
+          (cond b (l ∷ filter (λ y. not (from y)) ls) (filter (λ y. not (from y)) ls))
       at true is later = (
         (λ fails.
-            side-of k ∙ ap is_eq (before_less place.top k.top l.top (is_greater (site_order place.top l.top) (sym (side-of l) ∙ fails) (first_below (site_order place.top l.top) (within place l) is)) (first_rises (site_order k.top l.top) (within k l) rises.0))),
+            side-of k ∙ ap is_eq (before_less place.top k.top l.top
+            (is_greater (site_order place.top l.top) (sym (side-of l) ∙ fails)
+            (first_below (site_order place.top l.top) (within place l) is))
+            (first_rises (site_order k.top l.top) (within k l) rises.0))),
         later,
       )
       at false is later = later
 
-  pub stops_below : (keys : List PlainKey) → IsStrictlySortedBy key_order keys → Stops under (reverse (filter (λ l. not (from l)) keys))
+  pub stops_below : (keys : List PlainKey) → IsStrictlySortedBy key_order keys
+      → Stops under (reverse (filter (λ l. not (from l)) keys))
   unfolding IsStrictlySortedBy
   stops_below [] sorted = tt
   stops_below (k ∷ ks) sorted = at (not (from k)) (stops_below ks sorted.1)
@@ -190,7 +204,8 @@ module _ (place : PlainKey) where
       at : (b : Bool) → Stops under (reverse rest) → Stops under (reverse (cond b (k ∷ rest) rest))
       at true later =
           subst (Stops under) (sym (reverse-append (k ∷ []) rest))
-          (stops-last under (reverse rest) k later (all_reversed (λ y. under y ≡ false → under k ≡ false) rest (before_each k ks sorted.0)))
+          (stops-last under (reverse rest) k later
+          (all_reversed (λ y. under y ≡ false → under k ≡ false) rest (before_each k ks sorted.0)))
       at false later = later
 
   -- ---- which keys are found
@@ -217,9 +232,12 @@ module _ (place : PlainKey) where
       others = filter (λ x. not (test x)) keys
 
       at : (b : Bool) → (is_one_of q yes || is_one_of q others) ≡ is_one_of q keys
-          → (is_one_of q (cond b (k ∷ yes) yes) || is_one_of q (cond (not b) (k ∷ others) others)) ≡ (eq_by_cmp key_order k q || is_one_of q keys)
-      at true later = or_moved (eq_by_cmp key_order k q) (is_one_of q yes) (is_one_of q others) ∙ ap (λ r. eq_by_cmp key_order k q || r) later
-      at false later = or_swap (is_one_of q yes) (eq_by_cmp key_order k q) (is_one_of q others) ∙ ap (λ r. eq_by_cmp key_order k q || r) later
+          → (is_one_of q (cond b (k ∷ yes) yes) || is_one_of q (cond (not b) (k ∷ others) others))
+          ≡ (eq_by_cmp key_order k q || is_one_of q keys)
+      at true later = or_moved (eq_by_cmp key_order k q) (is_one_of q yes) (is_one_of q others)
+          ∙ ap (λ r. eq_by_cmp key_order k q || r) later
+      at false later = or_swap (is_one_of q yes) (eq_by_cmp key_order k q) (is_one_of q others)
+          ∙ ap (λ r. eq_by_cmp key_order k q || r) later
 
   one_of_reversed : (q : PlainKey) (keys : List PlainKey) → is_one_of q (reverse keys) ≡ is_one_of q keys
   one_of_reversed q [] = refl
@@ -242,10 +260,12 @@ module _ (place : PlainKey) where
   and_out false b u = refl
 
   found_each : (keys : List PlainKey) → IsStrictlySortedBy key_order keys → (q : PlainKey)
-      → is_one_of q (take_while under (filter from keys) ++ take_while under (reverse (filter (λ l. not (from l)) keys))) ≡ (is_one_of q keys && under q)
+      → is_one_of q (take_while under (filter from keys)
+      ++ take_while under (reverse (filter (λ l. not (from l)) keys))) ≡ (is_one_of q keys && under q)
   found_each keys sorted q =
       list_any-append (λ x. eq_by_cmp key_order x q) (take_while under (filter from keys)) (take_while under (reverse below))
-      ∙ (λ i. is_one_of q (run_kept under (filter from keys) (stops_from keys sorted) i) || is_one_of q (run_kept under (reverse below) (stops_below keys sorted) i))
+      ∙ (λ i. is_one_of q (run_kept under (filter from keys) (stops_from keys sorted) i)
+      || is_one_of q (run_kept under (reverse below) (stops_below keys sorted) i))
       ∙ (λ i. among_filtered under q (filter from keys) i || among_filtered under q (reverse below) i)
       ∙ ap (λ b. (is_one_of q (filter from keys) && under q) || (b && under q)) (one_of_reversed q below)
       ∙ and_out (is_one_of q (filter from keys)) (is_one_of q below) (under q)
@@ -262,13 +282,15 @@ unfolding IsStrictlySortedBy
 plain_sorted [] sorted = tt
 plain_sorted (k ∷ ks) sorted = (rises ks sorted.0, plain_sorted ks sorted.1)
   where
-    rises : (ls : List StorageKey) → AllByRecursion (λ l. key_cmp k l ≡ Less) ls → AllByRecursion (λ l. key_order (plain_key k) l ≡ Less) (map plain_key ls)
+    rises : (ls : List StorageKey) → AllByRecursion (λ l. key_cmp k l ≡ Less) ls
+        → AllByRecursion (λ l. key_order (plain_key k) l ≡ Less) (map plain_key ls)
     rises [] all = tt
     rises (l ∷ ls) all = (all.0, rises ls all.1)
 
 module _ {V : Type 0} where
   -- entries whose plain keys pass a test
-  pub plain_kept : (test : PlainKey → Bool) (es : List (StorageKey × V)) → map plain_key (keys_of (filter (λ e. test (plain_key e.0)) es)) ≡ filter test (map plain_key (keys_of es))
+  pub plain_kept : (test : PlainKey → Bool) (es : List (StorageKey × V))
+      → map plain_key (keys_of (filter (λ e. test (plain_key e.0)) es)) ≡ filter test (map plain_key (keys_of es))
   plain_kept test [] = refl
   plain_kept test (e ∷ es) = at (test (plain_key e.0)) (plain_kept test es)
     where
@@ -278,7 +300,8 @@ module _ {V : Type 0} where
       at true later = ap (λ r. plain_key e.0 ∷ r) later
       at false later = later
 
-  pub plain_last : (es : List (StorageKey × V)) (e : StorageKey × V) → map plain_key (keys_of (es ++ e ∷ [])) ≡ map plain_key (keys_of es) ++ plain_key e.0 ∷ []
+  pub plain_last : (es : List (StorageKey × V)) (e : StorageKey × V)
+      → map plain_key (keys_of (es ++ e ∷ [])) ≡ map plain_key (keys_of es) ++ plain_key e.0 ∷ []
   plain_last [] e = refl
   plain_last (x ∷ xs) e = ap (λ r. plain_key x.0 ∷ r) (plain_last xs e)
 
@@ -292,7 +315,8 @@ module _ {V : Type 0} where
   none_there (e ∷ es) none = absurd (cc none)
 
   -- the keys that the two walks find
-  pub keys_found : (site : PlainSite) (place : StorageKey) → plain_site place.top ≡ site → (es : List (StorageKey × V)) → IsStrictlySortedBy key_cmp (keys_of es)
+  pub keys_found : (site : PlainSite) (place : StorageKey) → plain_site place.top ≡ site
+      → (es : List (StorageKey × V)) → IsStrictlySortedBy key_cmp (keys_of es)
       → AreUnder site (map plain_key (keys_of es))
       (take_while (is_under site) (map plain_key (keys_of (entries_from key_cmp place es)))
       ++ take_while (is_under site) (reverse (map plain_key (keys_of (entries_below key_cmp place es)))))

@@ -41,7 +41,8 @@ pub tied_keys : (a b : PlainKey) → eq_by_cmp key_order a b ≡ true → a ≡ 
 tied_keys a b is = key_order_same a b (equal_tie (key_order a b) is)
 
 -- what is there at a key where it ties with another, and as before else
-pub cond_same : {X : Type 0} (f : PlainKey → X) (q key : PlainKey) (b : Bool) → eq_by_cmp key_order q key ≡ b → cond b (f key) (f q) ≡ f q
+pub cond_same : {X : Type 0} (f : PlainKey → X) (q key : PlainKey) (b : Bool) → eq_by_cmp key_order q key ≡ b
+    → cond b (f key) (f q) ≡ f q
 cond_same f q key true is = ap f (sym (tied_keys q key is))
 cond_same f q key false is = refl
 
@@ -53,7 +54,8 @@ unit_same (Some u) (Some v) is = refl
 
 -- sets of keys with the same members are equal
 pub same_keys : (x y : Keys) → ((key : PlainKey) → finite.contains_key x key ≡ finite.contains_key y key) → x ≡ y
-same_keys x y same = same_map key_order_total key_order_same x y (λ key. unit_same (finite.get x key) (finite.get y key) (same key))
+same_keys x y same = same_map key_order_total key_order_same x y
+    (λ key. unit_same (finite.get x key) (finite.get y key) (same key))
 
 pick_bucket : {X : Type 0} (f : Bucket → X) (b : Bool) (x y : Bucket) → f (cond b x y) ≡ cond b (f x) (f y)
 pick_bucket f true x y = refl
@@ -94,7 +96,8 @@ module _ (key : PlainKey) (bucket : Bucket) (old new : List (StorageKey × Bucke
   mode_made persistent = same_keys _ _ (λ q.
       mode_written q
       ∙ ap (λ m. cond (eq_by_cmp key_order q key) (not m) (finite.contains_key (keys_in old) q)) persistent
-      ∙ sym (ap is_some (get-insert key_order_total (keys_in old) key tt q) ∙ some (eq_by_cmp key_order q key) (finite.get (keys_in old) q)))
+      ∙ sym (ap is_some (get-insert key_order_total (keys_in old) key tt q)
+      ∙ some (eq_by_cmp key_order q key) (finite.get (keys_in old) q)))
     where
       some : (c : Bool) (x : Option (Unit {0})) → is_some (cond c (Some tt) x) ≡ cond c true (is_some x)
       some true x = refl
@@ -111,11 +114,13 @@ module _ (key : PlainKey) (bucket : Bucket) (old new : List (StorageKey × Bucke
       ∙ cond_same (get_cell key_order (areas_in old)) q key (eq_by_cmp key_order q key) refl)
 
 -- a bucket that may not be there, as one that may be fresh
-bucket_cond : (b : Bool) (x : Bucket) (y : Option Bucket) → unwrap_or (cond b (Some x) y) fresh_bucket ≡ cond b x (unwrap_or y fresh_bucket)
+bucket_cond : (b : Bool) (x : Bucket) (y : Option Bucket)
+    → unwrap_or (cond b (Some x) y) fresh_bucket ≡ cond b x (unwrap_or y fresh_bucket)
 bucket_cond true x y = refl
 bucket_cond false x y = refl
 
-none_cond : (b : Bool) (y : Option Bucket) → unwrap_or (cond b None y) fresh_bucket ≡ cond b fresh_bucket (unwrap_or y fresh_bucket)
+none_cond : (b : Bool) (y : Option Bucket) → unwrap_or (cond b None y) fresh_bucket
+    ≡ cond b fresh_bucket (unwrap_or y fresh_bucket)
 none_cond true y = refl
 none_cond false y = refl
 
@@ -127,23 +132,31 @@ fresh_parts bucket is = at (is_best_effort bucket.mode) bucket.area is
     at true (x ∷ xs) is = grind (arith, nat_tests)
     at false pairs is = cc
 
-module _ (cmp : StorageKey → StorageKey → Ordering) (alike : (a b : StorageKey) → cmp a b ≡ key_order (plain_key a) (plain_key b)) where
+module _ (cmp : StorageKey → StorageKey → Ordering)
+    (alike : (a b : StorageKey) → cmp a b ≡ key_order (plain_key a) (plain_key b)) where
   -- the bucket of a key is that of its plain key
-  pub bucket_found : (key : StorageKey) (shed : List (StorageKey × Bucket)) → bucket_at_key cmp key shed ≡ bucket_at (plain_key key) shed
+  pub bucket_found : (key : StorageKey) (shed : List (StorageKey × Bucket))
+      → bucket_at_key cmp key shed ≡ bucket_at (plain_key key) shed
   bucket_found key shed = ap (λ o. unwrap_or o fresh_bucket) (found-key cmp alike key shed)
 
-  pub bucket_put : (key : StorageKey) (bucket : Bucket) (shed : List (StorageKey × Bucket)) → HasBucket (plain_key key) bucket shed (map_put cmp key bucket shed)
+  pub bucket_put : (key : StorageKey) (bucket : Bucket) (shed : List (StorageKey × Bucket))
+      → HasBucket (plain_key key) bucket shed (map_put cmp key bucket shed)
   bucket_put key bucket shed = λ q.
-      ap (λ o. unwrap_or o fresh_bucket) (found-put cmp alike q key bucket shed) ∙ bucket_cond (eq_by_cmp key_order q (plain_key key)) bucket (found q shed)
+      ap (λ o. unwrap_or o fresh_bucket) (found-put cmp alike q key bucket shed)
+      ∙ bucket_cond (eq_by_cmp key_order q (plain_key key)) bucket (found q shed)
 
-  pub bucket_set : (key : StorageKey) (bucket : Bucket) (shed : List (StorageKey × Bucket)) → is_some (map_get cmp key shed) ≡ true
+  pub bucket_set : (key : StorageKey) (bucket : Bucket) (shed : List (StorageKey × Bucket))
+      → is_some (map_get cmp key shed) ≡ true
       → HasBucket (plain_key key) bucket shed (map_set cmp key bucket shed)
   bucket_set key bucket shed there = λ q.
-      ap (λ o. unwrap_or o fresh_bucket) (found-set cmp alike q key bucket shed there) ∙ bucket_cond (eq_by_cmp key_order q (plain_key key)) bucket (found q shed)
+      ap (λ o. unwrap_or o fresh_bucket) (found-set cmp alike q key bucket shed there)
+      ∙ bucket_cond (eq_by_cmp key_order q (plain_key key)) bucket (found q shed)
 
-  pub bucket_removed : (key : StorageKey) (shed : List (StorageKey × Bucket)) → HasBucket (plain_key key) fresh_bucket shed (map_remove cmp key shed)
+  pub bucket_removed : (key : StorageKey) (shed : List (StorageKey × Bucket))
+      → HasBucket (plain_key key) fresh_bucket shed (map_remove cmp key shed)
   bucket_removed key shed = λ q.
-      ap (λ o. unwrap_or o fresh_bucket) (found-removed cmp alike q key shed) ∙ none_cond (eq_by_cmp key_order q (plain_key key)) (found q shed)
+      ap (λ o. unwrap_or o fresh_bucket) (found-removed cmp alike q key shed)
+      ∙ none_cond (eq_by_cmp key_order q (plain_key key)) (found q shed)
 
   missing : (b : Bool) (o : Option Bucket) → is_some o ≡ b → b ≡ false → unwrap_or o fresh_bucket ≡ fresh_bucket
   missing b None is none = refl
@@ -155,15 +168,19 @@ module _ (cmp : StorageKey → StorageKey → Ordering) (alike : (a b : StorageK
   made_same key shed = at (is_some (map_get cmp key shed)) refl
     where
       at : (b : Bool) → is_some (map_get cmp key shed) ≡ b
-          → (areas_in (cond b shed (map_put cmp key fresh_bucket shed)) ≡ areas_in shed) × (keys_in (cond b shed (map_put cmp key fresh_bucket shed)) ≡ keys_in shed)
+          → (areas_in (cond b shed (map_put cmp key fresh_bucket shed)) ≡ areas_in shed)
+          × (keys_in (cond b shed (map_put cmp key fresh_bucket shed)) ≡ keys_in shed)
       at true is = (refl, refl)
       at false is =
-          let fresh : fresh_bucket ≡ bucket_at (plain_key key) shed = sym (missing false (map_get cmp key shed) is refl) ∙ bucket_found key shed in (
+          let fresh : fresh_bucket ≡ bucket_at (plain_key key) shed =
+          sym (missing false (map_get cmp key shed) is refl) ∙ bucket_found key shed in (
             areas_kept (plain_key key) fresh_bucket shed _ (bucket_put key fresh_bucket shed) (ap (λ b. b.area) fresh),
-            modes_kept (plain_key key) fresh_bucket shed _ (bucket_put key fresh_bucket shed) (ap (λ b. is_best_effort b.mode) fresh),
+            modes_kept (plain_key key) fresh_bucket shed _ (bucket_put key fresh_bucket shed)
+                (ap (λ b. is_best_effort b.mode) fresh),
           )
 
-  has_fresh_bucket : (o : Option Bucket) → unwrap_or (option_map is_fresh o) false ≡ true → is_fresh (unwrap_or o fresh_bucket) ≡ true
+  has_fresh_bucket : (o : Option Bucket) → unwrap_or (option_map is_fresh o) false ≡ true
+      → is_fresh (unwrap_or o fresh_bucket) ≡ true
   has_fresh_bucket None is = cc
   has_fresh_bucket (Some x) is = is
 
@@ -173,30 +190,38 @@ module _ (cmp : StorageKey → StorageKey → Ordering) (alike : (a b : StorageK
   dropped_same key shed = at (has_fresh cmp key shed) refl
     where
       at : (b : Bool) → has_fresh cmp key shed ≡ b
-          → (areas_in (cond b (map_remove cmp key shed) shed) ≡ areas_in shed) × (keys_in (cond b (map_remove cmp key shed) shed) ≡ keys_in shed)
+          → (areas_in (cond b (map_remove cmp key shed) shed) ≡ areas_in shed)
+          × (keys_in (cond b (map_remove cmp key shed) shed) ≡ keys_in shed)
       at true is =
           let parts = fresh_parts (bucket_at_key cmp key shed) (has_fresh_bucket (map_get cmp key shed) is) in (
-            areas_kept (plain_key key) fresh_bucket shed _ (bucket_removed key shed) (sym (ap (λ b. b.area) (sym (bucket_found key shed)) ∙ parts.1)),
-            modes_kept (plain_key key) fresh_bucket shed _ (bucket_removed key shed) (sym (ap (λ b. is_best_effort b.mode) (sym (bucket_found key shed)) ∙ parts.0)),
+            areas_kept (plain_key key) fresh_bucket shed _ (bucket_removed key shed)
+                (sym (ap (λ b. b.area) (sym (bucket_found key shed)) ∙ parts.1)),
+            modes_kept (plain_key key) fresh_bucket shed _ (bucket_removed key shed)
+                (sym (ap (λ b. is_best_effort b.mode) (sym (bucket_found key shed)) ∙ parts.0)),
           )
       at false is = (refl, refl)
 
   -- the pairs that a key has are those of its plain key
-  pub held_found : (key : StorageKey) (shed : List (StorageKey × Bucket)) → pairs_at cmp key shed ≡ get_cell key_order (areas_in shed) (plain_key key)
+  pub held_found : (key : StorageKey) (shed : List (StorageKey × Bucket))
+      → pairs_at cmp key shed ≡ get_cell key_order (areas_in shed) (plain_key key)
   held_found key shed = ap (λ b. b.area) (bucket_found key shed) ∙ sym (area_at (plain_key key) shed)
 
   -- an area that was lent, and is written
-  pub pairs_written : (key : StorageKey) (pairs : List Pair) (shed : List (StorageKey × Bucket)) → is_some (map_get cmp key shed) ≡ true
-      → (areas_in (with_pairs cmp key pairs shed) ≡ set_cell key_order (plain_key key) pairs (areas_in shed)) × (keys_in (with_pairs cmp key pairs shed) ≡ keys_in shed)
+  pub pairs_written : (key : StorageKey) (pairs : List Pair) (shed : List (StorageKey × Bucket))
+      → is_some (map_get cmp key shed) ≡ true
+      → (areas_in (with_pairs cmp key pairs shed) ≡ set_cell key_order (plain_key key) pairs (areas_in shed))
+      × (keys_in (with_pairs cmp key pairs shed) ≡ keys_in shed)
   pairs_written key pairs shed there =
       let bucket : Bucket = record { mode = mode_at_key cmp key shed; area = pairs } in (
         area_written (plain_key key) bucket shed _ (bucket_set key bucket shed there),
-        modes_kept (plain_key key) bucket shed _ (bucket_set key bucket shed there) (ap (λ b. is_best_effort b.mode) (bucket_found key shed)),
+        modes_kept (plain_key key) bucket shed _ (bucket_set key bucket shed there)
+            (ap (λ b. is_best_effort b.mode) (bucket_found key shed)),
       )
 
   -- a bucket that is there is made persistent
   pub persisted_keys : (key : StorageKey) (shed : List (StorageKey × Bucket)) → is_some (map_get cmp key shed) ≡ true
-      → (areas_in (persisted cmp key shed) ≡ areas_in shed) × (keys_in (persisted cmp key shed) ≡ finite.insert (keys_in shed) (plain_key key) tt)
+      → (areas_in (persisted cmp key shed) ≡ areas_in shed)
+      × (keys_in (persisted cmp key shed) ≡ finite.insert (keys_in shed) (plain_key key) tt)
   persisted_keys key shed there =
       let bucket : Bucket = persistent_bucket (bucket_at_key cmp key shed) in (
         areas_kept (plain_key key) bucket shed _ (bucket_set key bucket shed there) (ap (λ b. b.area) (bucket_found key shed)),
@@ -204,7 +229,8 @@ module _ (cmp : StorageKey → StorageKey → Ordering) (alike : (a b : StorageK
       )
 
   -- the mode that a key has says whether its plain key is persistent
-  pub mode_found : (key : StorageKey) (shed : List (StorageKey × Bucket)) → not (is_best_effort (mode_at_key cmp key shed)) ≡ finite.contains_key (keys_in shed) (plain_key key)
+  pub mode_found : (key : StorageKey) (shed : List (StorageKey × Bucket))
+      → not (is_best_effort (mode_at_key cmp key shed)) ≡ finite.contains_key (keys_in shed) (plain_key key)
   mode_found key shed = ap (λ b. not (is_best_effort b.mode)) (bucket_found key shed) ∙ sym (mode_at (plain_key key) shed)
 
   -- a key without a bucket has no pairs, and is not persistent
@@ -217,11 +243,14 @@ module _ (cmp : StorageKey → StorageKey → Ordering) (alike : (a b : StorageK
       )
 
   -- a key has a bucket once there is room for a key of the same plain key
-  pub made_there : (key own : StorageKey) (shed : List (StorageKey × Bucket)) → plain_key own ≡ plain_key key → is_some (map_get cmp key (made cmp own shed)) ≡ true
+  pub made_there : (key own : StorageKey) (shed : List (StorageKey × Bucket)) → plain_key own ≡ plain_key key
+      → is_some (map_get cmp key (made cmp own shed)) ≡ true
   made_there key own shed same =
-      ap is_some (found-key cmp alike key (made cmp own shed) ∙ ap (λ q. found q (made cmp own shed)) (sym same)) ∙ at (is_some (map_get cmp own shed)) refl
+      ap is_some (found-key cmp alike key (made cmp own shed)
+      ∙ ap (λ q. found q (made cmp own shed)) (sym same)) ∙ at (is_some (map_get cmp own shed)) refl
     where
-      at : (b : Bool) → is_some (map_get cmp own shed) ≡ b → is_some (found (plain_key own) (cond b shed (map_put cmp own fresh_bucket shed))) ≡ true
+      at : (b : Bool) → is_some (map_get cmp own shed) ≡ b
+          → is_some (found (plain_key own) (cond b shed (map_put cmp own fresh_bucket shed))) ≡ true
       at true is = ap is_some (sym (found-key cmp alike own shed)) ∙ is
       at false is =
           ap is_some (found-put cmp alike (plain_key own) own fresh_bucket shed)

@@ -1,5 +1,5 @@
 //! The keys that an eviction takes, and those that are stored, by their texts.
-ghost use Rattle.std.specs.Prelude.{◌≡◌, ◌++◌, ◌&&◌, IfOk, OnOk, filter, map, not};
+ghost use Rattle.std.specs.Prelude.{◌≡◌, ◌++◌, IfOk, OnOk, filter, map};
 ghost use Rattle.std.specs.FinMap as finite;
 ghost use Rattle.std.specs.Map.{keys_of};
 ghost use Rattle.origin_site.specs.Plain.{plain_site};

@@ -1,5 +1,5 @@
 //! Local and session areas of all sites, by storage key.
-ghost use Rattle.std.specs.Prelude.{◌≡◌, ◌<◌, ◌↔◌, ◌⊎◌, [], Err, IfErr, IfOk, IsOk, None, OnOk, OnErr, MatchOption, map, option_map, string_bytes, true, false};
+ghost use Rattle.std.specs.Prelude.{◌≡◌, ◌<◌, ◌↔◌, ◌⊎◌, [], Err, IfErr, IfOk, IsOk, None, OnOk, OnErr, MatchOption, map, option_map, string_bytes, false};
 ghost use Rattle.std.specs.Borrow.{sem};
 ghost use Rattle.origin_site.specs.Plain.{plain_site};
 ghost use Rattle.storage_key.specs.Plain.{plain_key};

@@ -20,12 +20,12 @@ ghost use Rattle.agent_memory.specs.Writes.{WritesIn};
 
 use crate::body::Body;
 use crate::clock::signed;
-use crate::holdings::requests::target_of;
 use crate::holdings::{Holdings, open_tab};
 use crate::replies::answer;
 use access_grants::{Answer, Decision, Facts, GrantRow, Grants, Outcome, Permission, Refusal};
 use agent_base::{Label, NoMemory};
 use frame_tree::{Document, Tab};
+use line_events::target_of;
 use live_state::Live;
 use origin_site::Site;
 use reply_lines::ReplyBody;

@@ -7,10 +7,10 @@ ghost use Rattle.script_actions.specs.Plain.{action_of};
 ghost use Rattle.agent_model.specs.Rest.{last_moment};
 ghost use Rattle.agent_model.specs.Documents.{with_key};
 ghost use Rattle.agent_model.specs.SiteStep.{act_in};
-ghost use Rattle.agent_memory.specs.ActionKinds.{by_keyed, document_action, is_keyed};
+ghost use Rattle.line_events.specs.Events.{label_of};
+ghost use Rattle.agent_memory.specs.ActionKinds.{by_keyed, document_action, is_keyed, is_reading};
 ghost use Rattle.agent_memory.specs.Actions.{ActsAt, ActsIn};
 ghost use Rattle.agent_memory.specs.Writes.{WritesAt, WritesIn};
-ghost use Rattle.agent_memory.specs.ActionKinds.{is_reading, label_of};
 
 use crate::body::Body;
 use crate::holdings::{Found, Holdings, key_at};

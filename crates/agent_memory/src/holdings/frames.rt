@@ -23,11 +23,12 @@ ghost use Rattle.agent_memory.specs.Requests.{IsPerformed};
 ghost use Rattle.agent_memory.specs.Writes.{WritesIn};
 
 use crate::body::Body;
-use crate::holdings::requests::{is_granted_nav, prepare_below, prepare_nav, write_rows};
+use crate::holdings::requests::{prepare_below, prepare_nav, write_rows};
 use crate::holdings::{Holdings, open_tab};
 use crate::replies::answer;
 use agent_base::{Label, NoMemory};
 use frame_tree::{Sandbox, TreeFault};
+use line_events::is_granted_nav;
 use live_state::Live;
 use origin_site::Address;
 use reply_lines::ReplyBody;

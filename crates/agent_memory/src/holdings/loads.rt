@@ -3,7 +3,6 @@ ghost use Rattle.std.specs.Prelude.{◌≡◌, ◌≤◌, ℕ, false, true, IfOk
 ghost use Rattle.std.specs.FinMap as finite;
 ghost use Rattle.origin_site.specs.Plain.{plain_address, plain_site};
 ghost use Rattle.origin_site.specs.Site.{site_of_address};
-ghost use Rattle.live_state.specs.Tabs.{is_open};
 ghost use Rattle.script_actions.specs.Plain.{head_field_of};
 ghost use Rattle.reply_lines.specs.Plain.{body_of};
 ghost use Rattle.agent_model.specs.Lines.{is_same_site, placed};
@@ -18,9 +17,10 @@ ghost use Rattle.row_changes.specs.Appended.{Appends};
 
 use crate::body::Body;
 use crate::holdings::Holdings;
-use crate::holdings::requests::{prepare_top, target_of, write_rows};
+use crate::holdings::requests::{prepare_top, write_rows};
 use agent_base::NoMemory;
 use frame_tree::Tab;
+use line_events::target_of;
 use origin_site::{Address, Site};
 use reply_lines::ReplyBody;
 use script_actions::{HeadField, Method};

@@ -1,12 +1,9 @@
 //! Requests: which use of cookies each kind is, and what is prepared for it.
-ghost use Rattle.std.specs.Prelude.{◌≡◌, ◌≤◌, ◌-◌, IfOk, OnOk, Some, false, length, map, take, true};
+ghost use Rattle.std.specs.Prelude.{◌≡◌, ◌≤◌, OnOk, Some, false, map, true};
 ghost use Rattle.origin_site.specs.Plain.{plain_address, plain_site};
-ghost use Rattle.origin_site.specs.Site.{PlainSite, site_of_address};
-ghost use Rattle.storage_key.specs.Context.{context_of};
+ghost use Rattle.origin_site.specs.Site.{PlainSite};
 ghost use Rattle.storage_key.specs.Plain.{plain_context, plain_key};
 ghost use Rattle.frame_tree.specs.Document.{PlainDocument};
-ghost use Rattle.frame_tree.specs.Plain.{plain_document};
-ghost use Rattle.frame_tree.specs.Keys.{sites};
 ghost use Rattle.frame_tree.specs.Tree.{chain_of, document_of, has_frame, top_site};
 ghost use Rattle.script_actions.specs.Plain.{head_field_of};
 ghost use Rattle.agent_model.specs.CookieUses as spec;
@@ -22,9 +19,11 @@ ghost use Rattle.agent_memory.specs.Writes.{AreRows};
 use crate::body::Body;
 use crate::holdings::open_tab;
 use agent_base::{Label, NoMemory};
-use frame_tree::{Document, Tab};
+use frame_tree::Tab;
+pub use line_events::is_granted_at;
+use line_events::{context_above, target_of};
 use live_state::Live;
-use origin_site::{Address, Site, same_origin, same_site, site_of};
+use origin_site::{Address, Site, same_site};
 use script_actions::{HeadField, Method};
 use std::alloc::Global;
 use storage_key::{Context, StorageKey};
@@ -145,25 +144,6 @@ pub fn prepare_nav(
     cookies.prepare(alloc, list, now, &how, head)
 }
 
-// The context of a load below the parent of a frame.
-fn context_above(tab: &Tab, frame: u8, target: &Site) -> Result<Context, NoMemory>
-    requires there { has_frame frame tab.now ≡ true }
-    ensures { IfOk result (λ context. plain_context context
-        ≡ context_of (sites (spec.chain_above frame tab.now)) (plain_site target.now)) }
-{
-    match tab.chain(frame) {
-        Ok(chain) => Ok(Context::of(above(chain.as_slice()), target)),
-        Err(_) => Err(NoMemory),
-    }
-}
-
-// A chain without its last document.
-fn above(chain: &[Option<Site>]) -> &[Option<Site>]
-    ensures { result.now ≡ take (length chain.now - 1) chain.now }
-{
-    &chain[..chain.len().saturating_sub(1)]
-}
-
 // The use of a request in a tab.
 fn request_use<'a>(
     tab: &'a Tab,
@@ -194,49 +174,6 @@ fn request_use<'a>(
         safe: is_safe(method),
         script: false,
         granted,
-    }
-}
-
-/// Whether access is granted to the load of a frame that goes to another address.
-pub fn is_granted_nav(
-    alloc: Global,
-    tab: &Tab,
-    frame: u8,
-    url: &Address,
-    by_self: bool,
-) -> Result<bool, NoMemory>
-    ensures { let granted = spec.is_granted_nav by_self frame tab.now (plain_address url.now) in
-        IfOk result (λ is. is ≡ granted) }
-{
-    if by_self {
-        is_granted_at(alloc, tab, frame, url)
-    } else {
-        Ok(false)
-    }
-}
-
-/// Whether access is granted to a request of a frame's document.
-pub fn is_granted_at(alloc: Global, tab: &Tab, frame: u8, url: &Address) -> Result<bool, NoMemory>
-    ensures { let granted = spec.is_granted_at frame tab.now (plain_address url.now) in
-        IfOk result (λ is. is ≡ granted) }
-{
-    match tab.document(frame) {
-        Some(document) => is_granted_to(alloc, document, url),
-        None => Ok(false),
-    }
-}
-
-// Whether access is granted to a request of a document.
-fn is_granted_to(alloc: Global, document: &Document, url: &Address) -> Result<bool, NoMemory>
-    ensures { let own = Some (plain_document document.now) in
-        IfOk result (λ is. is ≡ spec.is_granted_to (plain_address url.now) own) }
-{
-    if !document.flag {
-        return Ok(false);
-    }
-    match &document.origin {
-        Some(origin) => Ok(same_origin(origin, &url.origin(alloc)?)),
-        None => Ok(false),
     }
 }
 
@@ -273,15 +210,6 @@ pub fn write_rows(prepared: &Prepared, body: &mut Body) -> Result<(), NoMemory>
     ensures limit { body.new.limit ≡ body.old.limit }
 {
     body.append_all(prepared.rows())
-}
-
-/// The site that a load reaches.
-pub fn target_of(alloc: Global, list: &SuffixList, url: &Address) -> Result<Site, NoMemory>
-    ensures { let target = site_of_address list.now.rules (plain_address url.now) in
-        IfOk result (λ site. plain_site site ≡ target) }
-{
-    let origin = url.origin(alloc)?;
-    site_of(alloc, &origin, list)
 }
 
 // Whether a method is safe.

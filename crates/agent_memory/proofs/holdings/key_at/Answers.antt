@@ -24,5 +24,6 @@ returns-in-Some-document c = record {
 
 pub returns-in-None-document : goal.returns-in-None-document
 returns-in-None-document c = record {
-  found = subst (λ document. IsFound (option_map (key_of_document c.args.frame c.args.tab.now) document) NoFrame) c.in-None-document.ensures.document tt;
+  found = subst (λ document. IsFound (option_map (key_of_document c.args.frame c.args.tab.now) document)
+      NoFrame) c.in-None-document.ensures.document tt;
 }

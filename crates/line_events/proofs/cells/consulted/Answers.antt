@@ -16,8 +16,10 @@ returns-in-Frame c =
     record {
       cells = subst (λ action. IfOk c.of_frame.result (ActNames rules frames (action_of action))) (sym s.is)
           (IfOk-weaker c.of_frame.result _ _
-          (λ domain. frame_acts rules frames s.at domain s.parent (plain_address s.url.value) (option_map (λ t. string_bytes t.value) s.sandbox) s.deny (map head_field_of s.head.items))
-          (subst (λ url. IfOk c.of_frame.result (FrameNames rules frames s.at.frame s.parent (plain_address url))) c.deref.ensures c.of_frame.ensures.cells));
+          (λ domain. frame_acts rules frames s.at domain s.parent (plain_address s.url.value)
+          (option_map (λ t. string_bytes t.value) s.sandbox) s.deny (map head_field_of s.head.items))
+          (subst (λ url. IfOk c.of_frame.result (FrameNames rules frames s.at.frame s.parent
+          (plain_address url))) c.deref.ensures c.of_frame.ensures.cells));
     }
 
 pub returns-in-Nav : goal.returns-in-Nav
@@ -28,8 +30,11 @@ returns-in-Nav c =
     record {
       cells = subst (λ action. IfOk c.of_navigation.result (ActNames rules frames (action_of action))) (sym s.is)
           (IfOk-weaker c.of_navigation.result _ _
-          (λ domain. nav_acts rules frames s.at domain (plain_address s.url.value) s.by_self s.method (map head_field_of s.head.items))
-          (subst (λ url. IfOk c.of_navigation.result (NavNames rules frames s.at.frame (plain_address url) s.by_self)) c.deref-in-Nav.ensures c.of_navigation.ensures.cells));
+          (λ domain. nav_acts rules frames s.at domain (plain_address s.url.value) s.by_self s.method
+          (map head_field_of s.head.items))
+          (subst (λ url. IfOk c.of_navigation.result
+          (NavNames rules frames s.at.frame (plain_address url) s.by_self))
+          c.deref-in-Nav.ensures c.of_navigation.ensures.cells));
     }
 
 pub returns-in-Fetch : goal.returns-in-Fetch
@@ -41,5 +46,6 @@ returns-in-Fetch c =
       cells = subst (λ action. IfOk c.of_request.result (ActNames rules frames (action_of action))) (sym s.is)
           (IfOk-weaker c.of_request.result _ _
           (λ domain. fetch_acts rules frames s.at domain (plain_address s.url.value) s.method (map head_field_of s.head.items))
-          (subst (λ url. IfOk c.of_request.result (FetchNames rules frames s.at.frame (plain_address url))) c.deref-in-Fetch.ensures c.of_request.ensures.cells));
+          (subst (λ url. IfOk c.of_request.result (FetchNames rules frames s.at.frame (plain_address url)))
+          c.deref-in-Fetch.ensures c.of_request.ensures.cells));
     }

@@ -8,6 +8,7 @@ use Rattle.line_events.proofs.cells.of_script.Goals as goal
 pub returns : goal.returns
 returns c = record {
   cells =
-      script_is c.args.list.now.rules c.args.tab.now c.args.frame (plain_document c.in_ok-document.document.now) (plain_key c.in_ok-key.key.now) c.used.result
+      script_is c.args.list.now.rules c.args.tab.now c.args.frame
+      (plain_document c.in_ok-document.document.now) (plain_key c.in_ok-key.key.now) c.used.result
       (sym c.in_ok-document.ensures.document) (sym c.in_ok-key.ensures.key) c.used.ensures.used;
 }

@@ -11,7 +11,8 @@ use Rattle.line_events.proofs.main_events.main_event.Goals as goal
 
 pub returns-in-Tick : goal.returns-in-Tick
 returns-in-Tick c = record {
-  event = subst (λ action. IsMain c.args.list.now.rules c.args.live.now.tabs (action_of action) None) (sym c.in-Tick.is) (ticking c.args.list.now.rules c.args.live.now.tabs c.in-Tick.s);
+  event = subst (λ action. IsMain c.args.list.now.rules c.args.live.now.tabs (action_of action) None)
+      (sym c.in-Tick.is) (ticking c.args.list.now.rules c.args.live.now.tabs c.in-Tick.s);
 }
 
 pub returns-in-Open : goal.returns-in-Open
@@ -21,13 +22,16 @@ returns-in-Open c =
     let s = c.in-Open in
     record {
       event = subst (λ action. IfOk c.of_opening.result (IsMain rules tabs (action_of action))) (sym s.is)
-          (subst (λ url. IfOk c.of_opening.result (IsMain rules tabs (plain.Open s.tab (plain_address url) s.opener s.noopener s.method (map head_field_of s.head.items)))) c.deref.ensures
+          (subst (λ url. IfOk c.of_opening.result (IsMain rules tabs
+          (plain.Open s.tab (plain_address url) s.opener s.noopener s.method
+          (map head_field_of s.head.items)))) c.deref.ensures
           (c.of_opening.ensures.event s.noopener s.method (map head_field_of s.head.items)));
     }
 
 pub returns-in-Close : goal.returns-in-Close
 returns-in-Close c = record {
-  event = subst (λ action. IfOk c.of_closing.result (IsMain c.args.list.now.rules c.args.live.now.tabs (action_of action))) (sym c.in-Close.is)
+  event = subst (λ action. IfOk c.of_closing.result
+      (IsMain c.args.list.now.rules c.args.live.now.tabs (action_of action))) (sym c.in-Close.is)
       (c.of_closing.ensures.event c.args.list.now.rules);
 }
 
@@ -38,7 +42,8 @@ returns-in-Go c =
     let s = c.in-Go in
     record {
       event = subst (λ action. IfOk c.of_going.result (IsMain rules tabs (action_of action))) (sym s.is)
-          (subst (λ url. IfOk c.of_going.result (IsMain rules tabs (plain.Go s.tab (plain_address url) s.by_page s.method (map head_field_of s.head.items)))) c.deref-in-Go.ensures
+          (subst (λ url. IfOk c.of_going.result (IsMain rules tabs
+          (plain.Go s.tab (plain_address url) s.by_page s.method (map head_field_of s.head.items)))) c.deref-in-Go.ensures
           (c.of_going.ensures.event s.method (map head_field_of s.head.items)));
     }
 
@@ -46,6 +51,8 @@ pub returns-in_ok-copy-in-Evict : goal.returns-in_ok-copy-in-Evict
 returns-in_ok-copy-in-Evict c =
     let made : MainEvent = record { site = c.in_ok-copy-in-Evict.field-0; same_site = false; domain = None } in
     record {
-      event = subst (λ action. IsMain c.args.list.now.rules c.args.live.now.tabs (action_of action) (Some made)) (sym c.in-Evict.is)
-          (evicting c.args.list.now.rules c.args.live.now.tabs (plain_site c.in-Evict.site) made c.in_ok-copy-in-Evict.ensures.same refl);
+      event = subst (λ action. IsMain c.args.list.now.rules c.args.live.now.tabs (action_of action)
+          (Some made)) (sym c.in-Evict.is)
+          (evicting c.args.list.now.rules c.args.live.now.tabs (plain_site c.in-Evict.site)
+          made c.in_ok-copy-in-Evict.ensures.same refl);
     }

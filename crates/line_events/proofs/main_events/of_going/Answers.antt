@@ -17,5 +17,6 @@ returns c = record {
   event = λ method head.
       going_is c.args.list.now.rules c.args.live.now.tabs c.args.tab (plain_address c.args.url.now) c.args.by_page method head _
       (some_seen (λ s. plain_site s.now) c.place.result _ c.place.ensures.place ∙ c.is_none.ensures ∙ ap not c.if-is_none.false)
-      (subst (λ starter. IsArrival c.args.list.now.rules c.args.live.now.tabs (plain_address c.args.url.now) starter c.in_ok-arrival.field-0) c.page_of.ensures.page c.in_ok-arrival.ensures.event);
+      (subst (λ starter. IsArrival c.args.list.now.rules c.args.live.now.tabs (plain_address c.args.url.now)
+      starter c.in_ok-arrival.field-0) c.page_of.ensures.page c.in_ok-arrival.ensures.event);
 }

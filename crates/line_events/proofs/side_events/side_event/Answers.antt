@@ -17,7 +17,8 @@ returns-in-Open c =
     let s = c.in-Open in
     record {
       event = subst (λ action. IsSide rules tabs (action_of action) site c.args.areas c.copies.result) (sym s.is)
-          (opening_side rules tabs site c.args.areas c.copies.result s.tab (plain_address s.url.value) s.opener s.noopener s.method (map head_field_of s.head.items) c.copies.ensures.event);
+          (opening_side rules tabs site c.args.areas c.copies.result s.tab (plain_address s.url.value)
+          s.opener s.noopener s.method (map head_field_of s.head.items) c.copies.ensures.event);
     }
 
 pub returns-in-Go : goal.returns-in-Go
@@ -29,8 +30,10 @@ returns-in-Go c =
     record {
       event = subst (λ action. IfOk c.leaves.result (IsSide rules tabs (action_of action) site c.args.areas)) (sym s.is)
           (IfOk-weaker c.leaves.result _ _
-          (λ found. going_side rules tabs site c.args.areas found s.tab (plain_address s.url.value) s.by_page s.method (map head_field_of s.head.items))
-          (subst (λ url. IfOk c.leaves.result (LeavesSide rules tabs s.tab (plain_address url) site)) c.deref.ensures c.leaves.ensures.event));
+          (λ found. going_side rules tabs site c.args.areas found s.tab (plain_address s.url.value)
+          s.by_page s.method (map head_field_of s.head.items))
+          (subst (λ url. IfOk c.leaves.result (LeavesSide rules tabs s.tab (plain_address url) site))
+          c.deref.ensures c.leaves.ensures.event));
     }
 
 pub returns-in-Close : goal.returns-in-Close
@@ -46,6 +49,7 @@ returns-in-Close c =
 pub returns-in_default : goal.returns-in_default
 returns-in_default c = record {
   event =
-      no_side c.args.list.now.rules c.args.live.now.tabs (plain_site c.args.site.now) c.args.areas None (action_of c.args.action.now)
+      no_side c.args.list.now.rules c.args.live.now.tabs (plain_site c.args.site.now) c.args.areas None
+      (action_of c.args.action.now)
       (no_side_of c.args.action.now c.in_default.not-Open c.in_default.not-Close c.in_default.not-Go) refl;
 }

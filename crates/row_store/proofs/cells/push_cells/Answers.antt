@@ -12,6 +12,7 @@ pub loop-cell-preserved : goal.loop-cell-preserved
 loop-cell-preserved g c =
     let cells = c.args.cells.now in
     let index = c.loop-cell.cell-index in
-    item_more g.S.RowSink.adds g.met.S.RowSink.then (cell_rows_in c.args.which c.args.cookies.now) plain_key cells index c.cell-item.result _ _ _
+    item_more g.S.RowSink.adds g.met.S.RowSink.then (cell_rows_in c.args.which c.args.cookies.now)
+    plain_key cells index c.cell-item.result _ _ _
     (take_more cells index c.cell-item.result c.loop-cell-test.true ∙ ap (λ x. take index cells ++ x ∷ []) (sym c.cell-item.is))
     c.loop-cell.invariant c.in_ok-push_cell.ensures.pushed

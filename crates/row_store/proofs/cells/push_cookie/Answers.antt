@@ -14,15 +14,18 @@ none_next : (here : List PlainCookie) (place : ℕ) → here ≡ [] → place �
 none_next here place is = let none : length here ≡ 0 = ap (λ l. length l) is in omega (arith, none)
 
 -- one that is found and passes, or does not
-one_chosen : (test : PlainCookie → Bool) (c : PlainCookie) (here : List PlainCookie) → here ≡ c ∷ [] → test c ≡ true → filter test here ≡ c ∷ []
+one_chosen : (test : PlainCookie → Bool) (c : PlainCookie) (here : List PlainCookie) → here ≡ c ∷ []
+    → test c ≡ true → filter test here ≡ c ∷ []
 one_chosen test c here is passes = ap (filter test) is ∙ ap (λ b. cond b (c ∷ []) []) passes
 
-none_chosen : (test : PlainCookie → Bool) (c : PlainCookie) (here : List PlainCookie) → here ≡ c ∷ [] → test c ≡ false → filter test here ≡ []
+none_chosen : (test : PlainCookie → Bool) (c : PlainCookie) (here : List PlainCookie) → here ≡ c ∷ []
+    → test c ≡ false → filter test here ≡ []
 none_chosen test c here is fails = ap (filter test) is ∙ ap (λ b. cond b (c ∷ []) []) fails
 
 pub returns-in_default-clause-next : goal.returns-in_default-clause-next
 returns-in_default-clause-next g c =
-    none_next _ c.args.place (ap (filter (is_chosen c.args.which)) (none_found c.args.jar.now.cookies c.args.index c.in_default.ensures.value))
+    none_next _ c.args.place (ap (filter (is_chosen c.args.which))
+    (none_found c.args.jar.now.cookies c.args.index c.in_default.ensures.value))
 
 pub returns-in_default-clause-pushed : goal.returns-in_default-clause-pushed
 returns-in_default-clause-pushed g c =

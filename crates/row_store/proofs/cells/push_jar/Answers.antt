@@ -14,5 +14,7 @@ loop-index-preserved g c =
     let index = c.loop-index.index in
     record {
       place = place_next these cookies index c.loop-index.place _ c.loop-index.invariant.place c.in_ok-place.ensures.next;
-      added = cookies_more g.S.RowSink.adds g.met.S.RowSink.then these (plain_key c.args.cell.now) cookies index c.loop-index.place _ _ _ c.loop-index.invariant.place c.loop-index.invariant.added c.in_ok-place.ensures.pushed;
+      added = cookies_more g.S.RowSink.adds g.met.S.RowSink.then these (plain_key c.args.cell.now)
+          cookies index c.loop-index.place _ _ _ c.loop-index.invariant.place c.loop-index.invariant.added
+          c.in_ok-place.ensures.pushed;
     }

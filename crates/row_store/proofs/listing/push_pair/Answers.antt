@@ -11,7 +11,8 @@ returns-in-Some g c = record {
   pushed =
       subst (λ more. OnOk c.add.result (g.S.RowSink.adds c.args.sink.now more c.add.new.self))
       (ap (pair_rows (plain_key c.args.key.now))
-      (sym (found_there c.args.area.now c.args.place (record { name = c.in-Some.name.now; value = c.in-Some.value.now }) c.in-Some.ensures.pair)))
+      (sym (found_there c.args.area.now c.args.place
+      (record { name = c.in-Some.name.now; value = c.in-Some.value.now }) c.in-Some.ensures.pair)))
       c.add.ensures.added;
 }
 

@@ -1,4 +1,4 @@
-use Rattle.std.proofs.Common.{◌≡◌, ◌⊎◌, inl, inr, List, ℕ, [], Ok, Err, ap, refl, sym, ◌∙◌, arith}
+use Rattle.std.proofs.Common.{◌≡◌, ◌⊎◌, inl, inr, [], Ok, Err, ap, refl, sym, ◌∙◌, arith}
 use Rattle.std.specs.Prelude.{IsErrOf, Result}
 use Rattle.std.specs.Str.{chars, is_utf8}
 use Rattle.agent_base.specs.Counts.{Rose}
@@ -16,7 +16,8 @@ differ : {T E : Type 0} (value : T) (why : E) → ◌≡◌ {A = Result T E} (Ok
 differ value why is = cc
 
 -- no other fault can come
-memory_alone : (why : ListFault) → (why ≡ NoMemory) ⊎ ((why ≡ ReadFault) ⊎ (list_of [] ≡ Err why)) → (IsErrOf {T = RuleList} (Err why) ReadFault → Rose 0 0) → why ≡ NoMemory
+memory_alone : (why : ListFault) → (why ≡ NoMemory) ⊎ ((why ≡ ReadFault) ⊎ (list_of [] ≡ Err why))
+    → (IsErrOf {T = RuleList} (Err why) ReadFault → Rose 0 0) → why ≡ NoMemory
 memory_alone why (inl is) read = is
 memory_alone why (inr (inl is)) read =
     let rose : Rose 0 0 = read (ap Err is) in

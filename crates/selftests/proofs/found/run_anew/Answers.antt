@@ -5,8 +5,11 @@ use Rattle.selftests.proofs.found.run_anew.Goals as goal
 
 pub returns-clause-ran : goal.returns-clause-ran
 returns-clause-ran c =
-    disk_anew c.new.result.items c.new-3.result.items c.new-2.result.items c.new-disk.result c.run_on.result.disk c.args.list.now c.run_on.result.ending (steps_of c.args.lines.now)
-    (Some c.args.printed.now.text.items) (Some c.run_on.new.out.text.items) c.new.ensures.items c.new-2.ensures.items c.new-3.ensures.items c.new-disk.ensures.contents c.new-disk.ensures.plan c.new-disk.ensures.cuts c.run_on.ensures.written
+    disk_anew c.new.result.items c.new-3.result.items c.new-2.result.items c.new-disk.result
+    c.run_on.result.disk c.args.list.now c.run_on.result.ending (steps_of c.args.lines.now)
+    (Some c.args.printed.now.text.items) (Some c.run_on.new.out.text.items)
+    c.new.ensures.items c.new-2.ensures.items c.new-3.ensures.items c.new-disk.ensures.contents
+    c.new-disk.ensures.plan c.new-disk.ensures.cuts c.run_on.ensures.written
 
 pub returns-clause-tidy : goal.returns-clause-tidy
 returns-clause-tidy c = c.run_on.ensures.tidy refl

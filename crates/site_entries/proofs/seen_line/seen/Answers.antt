@@ -10,8 +10,10 @@ pub returns : goal.returns
 returns c =
     let seen : SeenLine = record { entries = c.in_ok-both.field-0; asks = c.is_asked.result; of_site = c.is_own.result } in
     record {
-      given = given_line (plain_present c.args.present.now) (action_of c.args.action.now) (plain_site c.args.site.now) c.args.touched c.args.areas
+      given = given_line (plain_present c.args.present.now) (action_of c.args.action.now)
+          (plain_site c.args.site.now) c.args.touched c.args.areas
           c.in_ok-side.side c.in_ok-main.main c.side_entry.result c.in_ok-entry.entry seen
-          c.in_ok-side.ensures.event c.in_ok-main.ensures.event c.side_entry.ensures.entry c.in_ok-entry.ensures.entry c.in_ok-both.ensures.both
+          c.in_ok-side.ensures.event c.in_ok-main.ensures.event c.side_entry.ensures.entry
+          c.in_ok-entry.ensures.entry c.in_ok-both.ensures.both
           c.is_asked.ensures.asks c.is_own.ensures.own;
     }

@@ -60,4 +60,5 @@ returns-in_err-open-clause-opening g c =
     } in
     let is : c.from_residual.result ≡ Err c.in_err-open.field-0.0 = search rules in
     subst (λ r. OpensStore c.args.list.now old new (opened r)) (sym is)
-    (subst (λ l. OpensStore l old new (Err c.in_err-open.field-0.0)) same (opened_as given old new (Err c.in_err-open.field-0.0) here))
+    (subst (λ l. OpensStore l old new (Err c.in_err-open.field-0.0)) same
+    (opened_as given old new (Err c.in_err-open.field-0.0) here))

@@ -16,10 +16,12 @@ loop-row-preserved g c =
     let i = c.loop-row.row-index in
     let held = c.loop-row.waiting.items in
     let now = c.hold.new.waiting.items in
-    let front = next_held first out rows i c.row-item.result held now c.loop-row-test.true c.row-item.is c.loop-row.invariant.text c.in_ok-hold.ensures in
+    let front = next_held first out rows i c.row-item.result held now c.loop-row-test.true c.row-item.is
+    c.loop-row.invariant.text c.in_ok-hold.ensures in
     record {
       still = c.in_ok-write_many.ensures.cause.still ∙ c.loop-row.invariant.still;
-      text = front_then first out later (first_text rows (i + 1)) now front c.write_many.new.waiting.items c.in_ok-write_many.ensures.written;
+      text = front_then first out later (first_text rows (i + 1))
+          now front c.write_many.new.waiting.items c.in_ok-write_many.ensures.written;
     }
 
 pub returns-in_err-hold-clause-written : goal.returns-in_err-hold-clause-written
@@ -40,7 +42,8 @@ returns-in_err-write_many-clause-written g c =
     let i = c.loop-row.row-index in
     let held = c.loop-row.waiting.items in
     let now = c.hold.new.waiting.items in
-    let front = next_held first out rows i c.row-item.result held now c.loop-row-test.true c.row-item.is c.loop-row.invariant.text c.in_ok-hold.ensures in
+    let front = next_held first out rows i c.row-item.result held now c.loop-row-test.true c.row-item.is
+    c.loop-row.invariant.text c.in_ok-hold.ensures in
     let is : c.from_residual-in_err-write_many.result ≡ Err Write = search rules in
     subst (λ r. Writes (rows_text (map plain_change rows)) r first later) (sym is)
     (failed first later rows (i + 1) out now front c.in_err-write_many.ensures.prefix)
@@ -65,6 +68,7 @@ returns-clause-written g c =
     let rows = c.args.rows.now in
     let i = c.loop-row.row-index in
     let held = c.loop-row.waiting.items in
-    let all : first_text rows i ≡ rows_text (map plain_change rows) = ap (λ rs. rows_text (map plain_change rs)) (take_all i rows (omega (arith, c.loop-row-test.false))) in
+    let all : first_text rows i ≡ rows_text (map plain_change rows) =
+    ap (λ rs. rows_text (map plain_change rs)) (take_all i rows (omega (arith, c.loop-row-test.false))) in
     let takes = subst (Takes out later) c.deref.ensures.value c.in_ok-write_all.ensures.all in
     subst (Takes first later) all (front_end first out later (first_text rows i) held c.loop-row.invariant.text takes)

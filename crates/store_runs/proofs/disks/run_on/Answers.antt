@@ -27,11 +27,17 @@ returns-in-Ok-clause-written g c = λ told.
     let seen = c.in-Ok.ensures.seen in
     let base = seen.0 in
     let under = c.in-Ok.ensures.rules in
-    let opened = opened_here list start batch checkpoint old view agent base under.0 under.1 under.2 under.3 (c.in-Ok.ensures.tells ∙ told) c.requires.batch.0 seen.2.0 seen.2.1 in
+    let opened = opened_here list start batch checkpoint old view agent base under.0 under.1 under.2 under.3
+    (c.in-Ok.ensures.tells ∙ told) c.requires.batch.0 seen.2.0 seen.2.1 in
     let cuts : OpensByCuts (Ok tt) old = λ bytes numbers contents on cut.
-    opens_past old view (opening_calls bytes) (g.met.D.Disk.lawful c.args.disk) (g.met.D.Disk.lawful agent.disk) c.in-Ok.ensures.powered (c.in-Ok.ensures.calls bytes contents).all numbers cut in
-    subst (λ disk. WritesOn c.run_lines-ending.result list start batch checkpoint old steps before after (g.D.Disk.view disk)) (sym c.into_disk.ensures)
-    (opened_writes list start batch checkpoint old view agent base under.0 under.1 under.2 under.3 seen.1 c.run_lines-ending.result (g.D.Disk.view c.run_lines-ending.new.agent.disk) steps before after c.in-Ok.ensures.powered c.in-Ok.ensures.others.faults seen.2.2 cuts (c.run_lines-ending.ensures.written (opened_at start base) opened))
+    opens_past old view (opening_calls bytes) (g.met.D.Disk.lawful c.args.disk)
+    (g.met.D.Disk.lawful agent.disk) c.in-Ok.ensures.powered (c.in-Ok.ensures.calls bytes contents).all numbers cut in
+    subst (λ disk. WritesOn c.run_lines-ending.result list start batch checkpoint old steps before after
+    (g.D.Disk.view disk)) (sym c.into_disk.ensures)
+    (opened_writes list start batch checkpoint old view agent base under.0 under.1 under.2 under.3 seen.1
+    c.run_lines-ending.result (g.D.Disk.view c.run_lines-ending.new.agent.disk)
+    steps before after c.in-Ok.ensures.powered c.in-Ok.ensures.others.faults seen.2.2 cuts
+    (c.run_lines-ending.ensures.written (opened_at start base) opened))
 
 pub returns-in-Ok-clause-refused : goal.returns-in-Ok-clause-refused
 returns-in-Ok-clause-refused g c = λ why bytes contents of is. absurd (c.in-Ok.ensures.exactly why bytes contents of is)
@@ -48,9 +54,11 @@ returns-in-Ok-clause-device g c = λ told device.
     let seen = c.in-Ok.ensures.seen in
     let base = seen.0 in
     let under = c.in-Ok.ensures.rules in
-    let opened = opened_here list start batch checkpoint old view agent base under.0 under.1 under.2 under.3 (c.in-Ok.ensures.tells ∙ told) c.requires.batch.0 seen.2.0 seen.2.1 in
+    let opened = opened_here list start batch checkpoint old view agent base under.0 under.1 under.2 under.3
+    (c.in-Ok.ensures.tells ∙ told) c.requires.batch.0 seen.2.0 seen.2.1 in
     subst (λ disk. Rose old.faults (g.D.Disk.view disk).faults) (sym c.into_disk.ensures)
-    (subst (λ n. Rose n (g.D.Disk.view c.run_lines-ending.new.agent.disk).faults) c.in-Ok.ensures.others.faults (c.run_lines-ending.ensures.device (opened_at start base) opened device))
+    (subst (λ n. Rose n (g.D.Disk.view c.run_lines-ending.new.agent.disk).faults)
+    c.in-Ok.ensures.others.faults (c.run_lines-ending.ensures.device (opened_at start base) opened device))
 
 pub returns-in-Ok-clause-tidy : goal.returns-in-Ok-clause-tidy
 returns-in-Ok-clause-tidy g c = λ told done.
@@ -63,25 +71,36 @@ returns-in-Ok-clause-tidy g c = λ told done.
     let checkpoint = c.args.options.checkpoint in
     let seen = c.in-Ok.ensures.seen in
     let under = c.in-Ok.ensures.rules in
-    let opened = opened_here list start batch checkpoint old (g.D.Disk.view agent.disk) agent seen.0 under.0 under.1 under.2 under.3 (c.in-Ok.ensures.tells ∙ told) c.requires.batch.0 seen.2.0 seen.2.1 in
+    let opened = opened_here list start batch checkpoint old (g.D.Disk.view agent.disk)
+    agent seen.0 under.0 under.1 under.2 under.3 (c.in-Ok.ensures.tells ∙ told) c.requires.batch.0 seen.2.0 seen.2.1 in
     let goes = c.run_lines-ending.ensures.goes_on in
     subst (λ disk. LeavesTidy checkpoint list.digest (g.D.Disk.view disk).may_leave) (sym c.into_disk.ensures)
-    (tidy_under checkpoint new.checkpoint list.digest new.journal.digest (g.D.Disk.view new.disk).may_leave (goes.checkpoint ∙ under.3) (goes.digest ∙ under.1) (c.run_lines-ending.ensures.tidy (opened_at start seen.0) opened done).1)
+    (tidy_under checkpoint new.checkpoint list.digest new.journal.digest (g.D.Disk.view new.disk).may_leave
+    (goes.checkpoint ∙ under.3) (goes.digest ∙ under.1)
+    (c.run_lines-ending.ensures.tidy (opened_at start seen.0) opened done).1)
 
 pub returns-in-Ok-clause-tells : goal.returns-in-Ok-clause-tells
-returns-in-Ok-clause-tells g c = ap (λ disk. (g.D.Disk.view disk).tells) c.into_disk.ensures ∙ c.run_lines-ending.ensures.goes_on.tells ∙ c.in-Ok.ensures.tells
+returns-in-Ok-clause-tells g c = ap (λ disk. (g.D.Disk.view disk).tells) c.into_disk.ensures
+    ∙ c.run_lines-ending.ensures.goes_on.tells ∙ c.in-Ok.ensures.tells
 
 pub returns-in-Err-clause-written : goal.returns-in-Err-clause-written
 returns-in-Err-clause-written g c = λ told.
-    refused_writes c.refused.result c.args.list.now c.args.options.start c.args.options.batch c.args.options.checkpoint c.in-Err.refusal.why (g.D.Disk.view c.args.disk) (g.D.Disk.view c.in-Err.refusal.disk) (steps_of c.args.lines.now) (g.O.Sink.taken c.args.out.now) c.refused.ensures
+    refused_writes c.refused.result c.args.list.now c.args.options.start c.args.options.batch
+    c.args.options.checkpoint c.in-Err.refusal.why (g.D.Disk.view c.args.disk)
+    (g.D.Disk.view c.in-Err.refusal.disk) (steps_of c.args.lines.now) (g.O.Sink.taken c.args.out.now) c.refused.ensures
     c.in-Err.ensures.refused c.in-Err.ensures.device
-    (λ bytes numbers contents on cut. fails_within (g.D.Disk.view c.args.disk) (g.D.Disk.view c.in-Err.refusal.disk) (opening_calls bytes) (g.met.D.Disk.lawful c.args.disk) (g.met.D.Disk.lawful c.in-Err.refusal.disk) c.in-Err.refusal.why
+    (λ bytes numbers contents on cut. fails_within (g.D.Disk.view c.args.disk)
+    (g.D.Disk.view c.in-Err.refusal.disk) (opening_calls bytes) (g.met.D.Disk.lawful c.args.disk)
+    (g.met.D.Disk.lawful c.in-Err.refusal.disk) c.in-Err.refusal.why
     (λ is. (c.in-Err.ensures.device is).1) (c.in-Err.ensures.calls bytes contents).most on numbers cut)
     c.in-Err.ensures.unchanged c.in-Err.ensures.any_moment (g.met.D.Disk.lawful c.in-Err.refusal.disk)
 
 pub returns-in-Err-clause-refused : goal.returns-in-Err-clause-refused
-returns-in-Err-clause-refused g c = λ why bytes contents of is.
-    (takes_none (g.O.Sink.taken c.args.out.now), refused_ends c.in-Err.refusal.why why c.refused.result c.refused.ensures of (c.in-Err.ensures.exactly why bytes contents of is))
+returns-in-Err-clause-refused g c = λ why bytes contents of is. (
+  takes_none (g.O.Sink.taken c.args.out.now),
+  refused_ends c.in-Err.refusal.why why c.refused.result
+      c.refused.ensures of (c.in-Err.ensures.exactly why bytes contents of is),
+)
 
 pub returns-in-Err-clause-store : goal.returns-in-Err-clause-store
 returns-in-Err-clause-store g c = subst IsStoreEnding (sym c.refused.ensures) (refused_store c.in-Err.refusal.why)
@@ -94,4 +113,6 @@ returns-in-Err-clause-device g c = λ told device.
     (c.in-Err.ensures.device (refused_device c.in-Err.refusal.why (sym c.refused.ensures ∙ device))).0
 
 pub returns-in-Err-clause-write : goal.returns-in-Err-clause-write
-returns-in-Err-clause-write g c = subst (λ e. WriteCounts e (g.O.Sink.faults c.args.out.now) (g.O.Sink.faults c.args.out.now)) (sym c.refused.ensures) (refused_stays c.in-Err.refusal.why (g.O.Sink.faults c.args.out.now))
+returns-in-Err-clause-write g c = subst (λ e. WriteCounts e (g.O.Sink.faults c.args.out.now)
+    (g.O.Sink.faults c.args.out.now)) (sym c.refused.ensures)
+    (refused_stays c.in-Err.refusal.why (g.O.Sink.faults c.args.out.now))

@@ -1,4 +1,4 @@
-use Rattle.std.proofs.Common.{[], ◌++◌, map, sym, ap, subst, ◌∙◌, append-nil}
+use Rattle.std.proofs.Common.{[], ◌++◌, map, sym, ap, ◌∙◌, append-nil}
 use Rattle.reply_lines.specs.Plain.{reply_of}
 use Rattle.reply_lines.specs.Reply.{reply_text}
 use Rattle.agent_model.specs.Isolation.{printed}
@@ -6,10 +6,8 @@ use Rattle.script_actions.specs.Plain.{action_of}
 use Rattle.unwinding.specs.Admissible.{Acts}
 use Rattle.agent_core.specs.declared.outcome.Outcome.TheVariants.{Replies, Held, Down, NoMemory}
 use Rattle.printed_model.specs.Histories.{down_reply}
-use Rattle.store_runs.specs.Calls.{Stepped, Stops}
 use Rattle.store_runs.specs.Waiting.{replies_text}
-use Rattle.store_runs.specs.declared.ending.Ending.TheVariants.{Memory}
-use Rattle.store_runs.proofs.AgentLemmas.{line_called, line_text, memory_stops, stops_ran, wanting_stops}
+use Rattle.store_runs.proofs.AgentLemmas.{line_called, line_text, memory_stops, stepped_as, wanting_ran}
 use Rattle.store_runs.proofs.lines.act.Goals as goal
 
 pub returns-in_ok-hold_all-in-Replies-clause-stepped : goal.returns-in_ok-hold_all-in-Replies-clause-stepped
@@ -17,63 +15,52 @@ returns-in_ok-hold_all-in-Replies-clause-stepped g c =
     let old = c.args.agent.now in
     let new = c.line.new.self in
     let before = c.args.waiting.now.items in
-    let now = c.hold_all.new.waiting.items in
     let l = action_of c.args.action.now in
-    let all : Stepped g.D.Disk.view old new (Acts l) before now = (
-      line_text l (Replies c.in-Replies.replies),
-      c.in_ok-hold_all-in-Replies.ensures.text ∙ ap (λ items. before ++ replies_text (map reply_of items)) c.deref.ensures.value,
-      line_called g.D.Disk.view old new l (Replies c.in-Replies.replies) c.in-Replies.ensures.means c.in-Replies.ensures.device c.line.ensures.off,
-    ) in
-    subst (λ step. Stepped g.D.Disk.view old new step before now) (sym c.requires) all
+    let told = Replies c.in-Replies.replies in
+    stepped_as g.D.Disk.view old new _ (Acts l) (line_text l told) c.requires
+    (line_called g.D.Disk.view old new l told c.in-Replies.ensures.means c.in-Replies.ensures.device c.line.ensures.off)
+    before c.hold_all.new.waiting.items
+    (c.in_ok-hold_all-in-Replies.ensures.text ∙ ap (λ items. before ++ replies_text (map reply_of items)) c.deref.ensures.value)
 
 pub returns-in_err-hold_all-in-Replies-clause-stops : goal.returns-in_err-hold_all-in-Replies-clause-stops
 returns-in_err-hold_all-in-Replies-clause-stops g c =
-    let old = c.args.agent.now in
-    let new = c.line.new.self in
     let l = action_of c.args.action.now in
-    let stops : Stops g.D.Disk.view old new (Acts l) Memory = stops_ran g.D.Disk.view old new (Acts l) (line_text l (Replies c.in-Replies.replies))
-    (line_called g.D.Disk.view old new l (Replies c.in-Replies.replies) c.in-Replies.ensures.means c.in-Replies.ensures.device c.line.ensures.off) in
-    wanting_stops c.from_residual.result (Stops g.D.Disk.view old new _) c.from_residual.ensures.1 (subst (λ step. Stops g.D.Disk.view old new step Memory) (sym c.requires) stops)
+    let told = Replies c.in-Replies.replies in
+    wanting_ran g.D.Disk.view c.args.agent.now c.line.new.self _ (Acts l) (line_text l told) c.requires
+    (line_called g.D.Disk.view c.args.agent.now c.line.new.self l told c.in-Replies.ensures.means c.in-Replies.ensures.device
+    c.line.ensures.off) c.from_residual.result c.from_residual.ensures.1
 
 pub returns-in-Held-clause-stepped : goal.returns-in-Held-clause-stepped
 returns-in-Held-clause-stepped g c =
-    let old = c.args.agent.now in
-    let new = c.line.new.self in
-    let before = c.args.waiting.now.items in
     let l = action_of c.args.action.now in
-    let all : Stepped g.D.Disk.view old new (Acts l) before before = (
-      [],
-      sym (append-nil before),
-      line_called g.D.Disk.view old new l Held c.in-Held.ensures.means c.in-Held.ensures.device c.line.ensures.off,
-    ) in
-    subst (λ step. Stepped g.D.Disk.view old new step before before) (sym c.requires) all
+    let before = c.args.waiting.now.items in
+    stepped_as g.D.Disk.view c.args.agent.now c.line.new.self _ (Acts l) [] c.requires
+    (line_called g.D.Disk.view c.args.agent.now c.line.new.self l Held c.in-Held.ensures.means c.in-Held.ensures.device
+    c.line.ensures.off) before before (sym (append-nil before))
 
 pub returns-in_ok-hold-in-Down-clause-stepped : goal.returns-in_ok-hold-in-Down-clause-stepped
 returns-in_ok-hold-in-Down-clause-stepped g c =
     let old = c.args.agent.now in
     let new = c.line.new.self in
     let before = c.args.waiting.now.items in
-    let now = c.hold.new.waiting.items in
     let l = action_of c.args.action.now in
-    let all : Stepped g.D.Disk.view old new (Acts l) before now = (
-      line_text l Down,
-      c.in_ok-hold-in-Down.ensures.text ∙ ap (λ reply. before ++ reply_text reply) (c.down.ensures ∙ ap (λ step. printed (down_reply step)) c.requires),
-      line_called g.D.Disk.view old new l Down c.in-Down.ensures.means c.in-Down.ensures.device c.line.ensures.off,
-    ) in
-    subst (λ step. Stepped g.D.Disk.view old new step before now) (sym c.requires) all
+    stepped_as g.D.Disk.view old new _ (Acts l) (line_text l Down) c.requires
+    (line_called g.D.Disk.view old new l Down c.in-Down.ensures.means c.in-Down.ensures.device c.line.ensures.off) before
+    c.hold.new.waiting.items
+    (c.in_ok-hold-in-Down.ensures.text ∙ ap (λ reply. before ++ reply_text reply)
+    (c.down.ensures ∙ ap (λ step. printed (down_reply step)) c.requires))
 
 pub returns-in_err-hold-in-Down-clause-stops : goal.returns-in_err-hold-in-Down-clause-stops
 returns-in_err-hold-in-Down-clause-stops g c =
-    let old = c.args.agent.now in
-    let new = c.line.new.self in
     let l = action_of c.args.action.now in
-    let stops : Stops g.D.Disk.view old new (Acts l) Memory = stops_ran g.D.Disk.view old new (Acts l) (line_text l Down)
-    (line_called g.D.Disk.view old new l Down c.in-Down.ensures.means c.in-Down.ensures.device c.line.ensures.off) in
-    wanting_stops c.from_residual-in_err-hold-in-Down.result (Stops g.D.Disk.view old new _) c.from_residual-in_err-hold-in-Down.ensures.1 (subst (λ step. Stops g.D.Disk.view old new step Memory) (sym c.requires) stops)
+    wanting_ran g.D.Disk.view c.args.agent.now c.line.new.self _ (Acts l) (line_text l Down) c.requires
+    (line_called g.D.Disk.view c.args.agent.now c.line.new.self l Down c.in-Down.ensures.means c.in-Down.ensures.device
+    c.line.ensures.off) c.from_residual-in_err-hold-in-Down.result c.from_residual-in_err-hold-in-Down.ensures.1
 
 pub returns-in-NoMemory-clause-stops : goal.returns-in-NoMemory-clause-stops
 returns-in-NoMemory-clause-stops g c =
-    let old = c.args.agent.now in
-    let new = c.line.new.self in
     let l = action_of c.args.action.now in
-    memory_stops g.D.Disk.view old new _ (line_called g.D.Disk.view old new l NoMemory c.in-NoMemory.ensures.means c.in-NoMemory.ensures.device c.line.ensures.off)
+    memory_stops g.D.Disk.view c.args.agent.now c.line.new.self _
+    (line_called g.D.Disk.view c.args.agent.now c.line.new.self l NoMemory c.in-NoMemory.ensures.means
+    c.in-NoMemory.ensures.device
+    c.line.ensures.off)

@@ -5,10 +5,9 @@ use Rattle.reply_lines.specs.Reply.{reply_text}
 use Rattle.agent_model.specs.Isolation.{printed}
 use Rattle.unwinding.specs.Admissible.{Reopens}
 use Rattle.printed_model.specs.Histories.{down_reply}
-use Rattle.store_runs.specs.Calls.{Stepped, Stops}
+use Rattle.store_runs.specs.Calls.{Stops}
 use Rattle.store_runs.specs.Endings.{ending_of}
-use Rattle.store_runs.specs.declared.ending.Ending.TheVariants.{Memory}
-use Rattle.store_runs.proofs.AgentLemmas.{restart_called, restart_stops, restart_text, stops_ran, wanting_stops}
+use Rattle.store_runs.proofs.AgentLemmas.{restart_called, restart_stops, restart_text, stepped_as, wanting_ran}
 use Rattle.store_runs.proofs.lines.reopen.Goals as goal
 
 pub returns-in_ok-hold-in-Ok-clause-stepped : goal.returns-in_ok-hold-in-Ok-clause-stepped
@@ -16,46 +15,48 @@ returns-in_ok-hold-in-Ok-clause-stepped g c =
     let old = c.args.agent.now in
     let new = c.restart.new.self in
     let before = c.args.waiting.now.items in
-    let now = c.hold.new.waiting.items in
-    let all : Stepped g.D.Disk.view old new Reopens before now = (
-      restart_text (Ok c.in-Ok.kept),
-      c.in_ok-hold-in-Ok.ensures.text ∙ ap (λ reply. before ++ reply_text reply) c.restarted.ensures,
-      restart_called g.D.Disk.view old new (Ok c.in-Ok.kept) c.in-Ok.ensures.means c.in-Ok.ensures.device,
-    ) in
-    subst (λ step. Stepped g.D.Disk.view old new step before now) (sym c.requires) all
+    stepped_as g.D.Disk.view old new _ Reopens (restart_text (Ok c.in-Ok.kept)) c.requires
+    (restart_called g.D.Disk.view old new (Ok c.in-Ok.kept) c.in-Ok.ensures.means c.in-Ok.ensures.device) before
+    c.hold.new.waiting.items
+    (c.in_ok-hold-in-Ok.ensures.text ∙ ap (λ reply. before ++ reply_text reply) c.restarted.ensures)
 
 pub returns-in_err-hold-in-Ok-clause-stops : goal.returns-in_err-hold-in-Ok-clause-stops
 returns-in_err-hold-in-Ok-clause-stops g c =
     let old = c.args.agent.now in
     let new = c.restart.new.self in
-    let stops : Stops g.D.Disk.view old new Reopens Memory = stops_ran g.D.Disk.view old new Reopens (restart_text (Ok c.in-Ok.kept))
-    (restart_called g.D.Disk.view old new (Ok c.in-Ok.kept) c.in-Ok.ensures.means c.in-Ok.ensures.device) in
-    wanting_stops c.from_residual.result (Stops g.D.Disk.view old new _) c.from_residual.ensures.1 (subst (λ step. Stops g.D.Disk.view old new step Memory) (sym c.requires) stops)
+    wanting_ran g.D.Disk.view old new _ Reopens (restart_text (Ok c.in-Ok.kept)) c.requires
+    (restart_called g.D.Disk.view old new (Ok c.in-Ok.kept) c.in-Ok.ensures.means c.in-Ok.ensures.device)
+    c.from_residual.result c.from_residual.ensures.1
 
 pub returns-in_ok-hold-in-DeviceFault-clause-stepped : goal.returns-in_ok-hold-in-DeviceFault-clause-stepped
 returns-in_ok-hold-in-DeviceFault-clause-stepped g c =
     let old = c.args.agent.now in
     let new = c.restart.new.self in
     let before = c.args.waiting.now.items in
-    let now = c.hold-in-DeviceFault.new.waiting.items in
-    let all : Stepped g.D.Disk.view old new Reopens before now = (
-      restart_text (Err fault.DeviceFault),
-      c.in_ok-hold-in-DeviceFault.ensures.text ∙ ap (λ reply. before ++ reply_text reply) (c.down.ensures ∙ ap (λ step. printed (down_reply step)) c.requires),
-      restart_called g.D.Disk.view old new (Err fault.DeviceFault) (rw c.in-DeviceFault.is at c.in-Err.ensures.means) (rw c.in-DeviceFault.is at c.in-Err.ensures.device),
-    ) in
-    subst (λ step. Stepped g.D.Disk.view old new step before now) (sym c.requires) all
+    let met = Err fault.DeviceFault in
+    stepped_as g.D.Disk.view old new _ Reopens (restart_text met) c.requires
+    (restart_called g.D.Disk.view old new met (rw c.in-DeviceFault.is at c.in-Err.ensures.means)
+    (rw c.in-DeviceFault.is at c.in-Err.ensures.device))
+    before c.hold-in-DeviceFault.new.waiting.items
+    (c.in_ok-hold-in-DeviceFault.ensures.text
+    ∙ ap (λ reply. before ++ reply_text reply) (c.down.ensures ∙ ap (λ step. printed (down_reply step)) c.requires))
 
 pub returns-in_err-hold-in-DeviceFault-clause-stops : goal.returns-in_err-hold-in-DeviceFault-clause-stops
 returns-in_err-hold-in-DeviceFault-clause-stops g c =
     let old = c.args.agent.now in
     let new = c.restart.new.self in
-    let stops : Stops g.D.Disk.view old new Reopens Memory = stops_ran g.D.Disk.view old new Reopens (restart_text (Err fault.DeviceFault))
-    (restart_called g.D.Disk.view old new (Err fault.DeviceFault) (rw c.in-DeviceFault.is at c.in-Err.ensures.means) (rw c.in-DeviceFault.is at c.in-Err.ensures.device)) in
-    wanting_stops c.from_residual-in_err-hold-in-DeviceFault.result (Stops g.D.Disk.view old new _) c.from_residual-in_err-hold-in-DeviceFault.ensures.1 (subst (λ step. Stops g.D.Disk.view old new step Memory) (sym c.requires) stops)
+    let met = Err fault.DeviceFault in
+    wanting_ran g.D.Disk.view old new _ Reopens (restart_text met) c.requires
+    (restart_called g.D.Disk.view old new met (rw c.in-DeviceFault.is at c.in-Err.ensures.means)
+    (rw c.in-DeviceFault.is at c.in-Err.ensures.device))
+    c.from_residual-in_err-hold-in-DeviceFault.result c.from_residual-in_err-hold-in-DeviceFault.ensures.1
 
 pub returns-in_default-clause-stops : goal.returns-in_default-clause-stops
 returns-in_default-clause-stops g c =
     let old = c.args.agent.now in
     let new = c.restart.new.self in
-    let stops : Stops g.D.Disk.view old new Reopens (ending_of c.in-Err.why) = restart_stops g.D.Disk.view old new c.in-Err.why c.in_default.not-DeviceFault c.in-Err.ensures.means c.in-Err.ensures.device in
-    subst (λ step. Stops g.D.Disk.view old new step c.refused.result) (sym c.requires) (subst (Stops g.D.Disk.view old new Reopens) (sym c.refused.ensures) stops)
+    let stops : Stops g.D.Disk.view old new Reopens (ending_of c.in-Err.why) =
+    restart_stops g.D.Disk.view old new c.in-Err.why c.in_default.not-DeviceFault c.in-Err.ensures.means
+    c.in-Err.ensures.device in
+    subst (λ step. Stops g.D.Disk.view old new step c.refused.result) (sym c.requires)
+    (subst (Stops g.D.Disk.view old new Reopens) (sym c.refused.ensures) stops)

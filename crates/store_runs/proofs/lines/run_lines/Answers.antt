@@ -29,8 +29,10 @@ loop-line-init g c =
             a,
             opened.seen,
             (λ none. (opens_up rules x, none.0, none.1)),
-            subst (OnCourse rules batch x a (may_of c.args.agent.now view) [] (over_run view view (Unit {0})) out out) (sym c.new-waiting.ensures.items)
-                (course_begins rules batch x (over_run view view (Unit {0})) a (may_of c.args.agent.now view) out (omega arith) (opens_up rules x) opened.batch refl opened.base),
+            subst (OnCourse rules batch x a (may_of c.args.agent.now view) [] (over_run view view (Unit {0}))
+                out out) (sym c.new-waiting.ensures.items)
+                (course_begins rules batch x (over_run view view (Unit {0})) a (may_of c.args.agent.now view)
+                out (omega arith) (opens_up rules x) opened.batch refl opened.base),
           );
     }
 
@@ -51,9 +53,14 @@ loop-line-preserved g c =
       goes = goes_then view first between next goes c.settle.ensures.goes_on;
       still = c.in-Ok-settle.ensures.settled.1 ∙ was.still;
       course = λ x opened.
-          let stepped = stepped_on view first x before opened here between was.goes c.step.ensures.goes_on lines c.requires.fits i c.line-item.result c.loop-line-test.true c.line-item.is out c.loop-line.waiting.items (was.course x opened) c.step.new.waiting.items c.in-Ok.ensures.stepped in
-          settled_on view first x before opened between next goes c.settle.ensures.goes_on (steps_of (take (i + 1) lines)) (steps_fit lines (i + 1) (omega (arith, c.loop-line-test.true)) c.requires.fits) out (g.O.Sink.taken c.settle.new.out)
-          (g.O.Sink.faults c.loop-line.out) (g.O.Sink.faults c.settle.new.out) c.step.new.waiting.items stepped c.settle.new.waiting.items c.in-Ok-settle.ensures.settled;
+          let stepped = stepped_on view first x before opened here between was.goes c.step.ensures.goes_on
+          lines c.requires.fits i c.line-item.result c.loop-line-test.true c.line-item.is out
+          c.loop-line.waiting.items (was.course x opened) c.step.new.waiting.items c.in-Ok.ensures.stepped in
+          settled_on view first x before opened between next goes c.settle.ensures.goes_on
+          (steps_of (take (i + 1) lines)) (steps_fit lines (i + 1) (omega (arith, c.loop-line-test.true))
+          c.requires.fits) out (g.O.Sink.taken c.settle.new.out)
+          (g.O.Sink.faults c.loop-line.out) (g.O.Sink.faults c.settle.new.out)
+          c.step.new.waiting.items stepped c.settle.new.waiting.items c.in-Ok-settle.ensures.settled;
     }
 
 -- ---- a line stops the run
@@ -64,31 +71,49 @@ returns-in-Err-clause-written g c =
     let later = g.O.Sink.taken c.end.new.out in
     let was = c.loop-line.invariant in
     λ x opened.
-    stops_writes g.D.Disk.view c.args.agent.now x (g.O.Sink.taken c.args.out.now) opened c.loop-line.agent c.step.new.agent was.goes c.step.ensures.goes_on c.args.lines.now c.requires.fits c.loop-line.line-index c.line-item.result c.loop-line-test.true c.line-item.is
-    out c.loop-line.waiting.items (was.course x opened) c.in-Err.ending c.end.result later (g.O.Sink.faults c.loop-line.out) (g.O.Sink.faults c.end.new.out) c.in-Err.ensures.stops
-    (subst (Ended c.in-Err.ending c.end.result out later (g.O.Sink.faults c.loop-line.out) (g.O.Sink.faults c.end.new.out)) (c.deref.ensures.value ∙ c.in-Err.ensures.unchanged) c.end.ensures)
+    stops_writes g.D.Disk.view c.args.agent.now x (g.O.Sink.taken c.args.out.now)
+    opened c.loop-line.agent c.step.new.agent was.goes c.step.ensures.goes_on c.args.lines.now
+    c.requires.fits c.loop-line.line-index c.line-item.result c.loop-line-test.true c.line-item.is
+    out c.loop-line.waiting.items (was.course x opened) c.in-Err.ending c.end.result later
+    (g.O.Sink.faults c.loop-line.out) (g.O.Sink.faults c.end.new.out) c.in-Err.ensures.stops
+    (subst (Ended c.in-Err.ending c.end.result out later (g.O.Sink.faults c.loop-line.out)
+    (g.O.Sink.faults c.end.new.out)) (c.deref.ensures.value ∙ c.in-Err.ensures.unchanged) c.end.ensures)
 
 pub returns-in-Err-clause-power : goal.returns-in-Err-clause-power
 returns-in-Err-clause-power g c = λ x opened.
-    ended_so (λ e. TellsPower e c.step.new.agent.power) c.in-Err.ending c.end.result _ _ _ _ c.deref.result.now (stop_power g.D.Disk.view c.loop-line.agent c.step.new.agent (step_of c.line-item.result.step) c.in-Err.ending c.step.new.agent.power c.in-Err.ensures.stops) tt c.end.ensures
+    ended_so (λ e. TellsPower e c.step.new.agent.power)
+    c.in-Err.ending c.end.result _ _ _ _ c.deref.result.now
+    (stop_power g.D.Disk.view c.loop-line.agent c.step.new.agent (step_of c.line-item.result.step)
+    c.in-Err.ending c.step.new.agent.power c.in-Err.ensures.stops) tt c.end.ensures
 
 pub returns-in-Err-clause-device : goal.returns-in-Err-clause-device
 returns-in-Err-clause-device g c = λ x opened.
-    ended_so (λ e. e ≡ Device → Rose (g.D.Disk.view c.args.agent.now.disk).faults (g.D.Disk.view c.step.new.agent.disk).faults) c.in-Err.ending c.end.result _ _ _ _ c.deref.result.now (stop_device g.D.Disk.view c.loop-line.agent c.step.new.agent (step_of c.line-item.result.step) (Rose (g.D.Disk.view c.args.agent.now.disk).faults (g.D.Disk.view c.step.new.agent.disk).faults) c.in-Err.ending c.in-Err.ensures.stops) (λ e. absurd (write_device e)) c.end.ensures
+    ended_so (λ e. e ≡ Device → Rose (g.D.Disk.view c.args.agent.now.disk).faults
+    (g.D.Disk.view c.step.new.agent.disk).faults) c.in-Err.ending c.end.result _ _ _ _ c.deref.result.now
+    (stop_device g.D.Disk.view c.loop-line.agent c.step.new.agent (step_of c.line-item.result.step)
+    (Rose (g.D.Disk.view c.args.agent.now.disk).faults (g.D.Disk.view c.step.new.agent.disk).faults)
+    c.in-Err.ending c.in-Err.ensures.stops) (λ e. absurd (write_device e)) c.end.ensures
 
 pub returns-in-Err-clause-tidy : goal.returns-in-Err-clause-tidy
 returns-in-Err-clause-tidy g c = λ x opened.
     let view = g.D.Disk.view c.step.new.agent.disk in
-    ended_so (λ e. e ≡ Done → IsTidyAt c.step.new.agent view) c.in-Err.ending c.end.result _ _ _ _ c.deref.result.now (stop_done g.D.Disk.view c.loop-line.agent c.step.new.agent (step_of c.line-item.result.step) (IsTidyAt c.step.new.agent view) c.in-Err.ending c.in-Err.ensures.stops) (λ e. absurd (write_done e)) c.end.ensures
+    ended_so (λ e. e ≡ Done → IsTidyAt c.step.new.agent view)
+    c.in-Err.ending c.end.result _ _ _ _ c.deref.result.now
+    (stop_done g.D.Disk.view c.loop-line.agent c.step.new.agent (step_of c.line-item.result.step)
+    (IsTidyAt c.step.new.agent view) c.in-Err.ending c.in-Err.ensures.stops) (λ e. absurd (write_done e)) c.end.ensures
 
 pub returns-in-Err-clause-store : goal.returns-in-Err-clause-store
 returns-in-Err-clause-store g c =
-    ended_so IsStoreEnding c.in-Err.ending c.end.result _ _ _ _ c.deref.result.now (stop_store g.D.Disk.view c.loop-line.agent c.step.new.agent (step_of c.line-item.result.step) c.in-Err.ending c.in-Err.ensures.stops) tt c.end.ensures
+    ended_so IsStoreEnding c.in-Err.ending c.end.result _ _ _ _ c.deref.result.now
+    (stop_store g.D.Disk.view c.loop-line.agent c.step.new.agent (step_of c.line-item.result.step)
+    c.in-Err.ending c.in-Err.ensures.stops) tt c.end.ensures
 
 pub returns-in-Err-clause-write : goal.returns-in-Err-clause-write
 returns-in-Err-clause-write g c =
-    ended_counts c.in-Err.ending c.end.result _ _ (g.O.Sink.faults c.args.out.now) _ _ c.deref.result.now c.loop-line.invariant.still
-    (stop_stays g.D.Disk.view c.loop-line.agent c.step.new.agent (step_of c.line-item.result.step) c.in-Err.ending (g.O.Sink.faults c.args.out.now) (g.O.Sink.faults c.end.new.out) c.in-Err.ensures.stops) c.end.ensures
+    ended_counts c.in-Err.ending c.end.result _ _ (g.O.Sink.faults c.args.out.now)
+    _ _ c.deref.result.now c.loop-line.invariant.still
+    (stop_stays g.D.Disk.view c.loop-line.agent c.step.new.agent (step_of c.line-item.result.step)
+    c.in-Err.ending (g.O.Sink.faults c.args.out.now) (g.O.Sink.faults c.end.new.out) c.in-Err.ensures.stops) c.end.ensures
 
 -- ---- the run stops between two lines
 
@@ -104,29 +129,47 @@ returns-in-Err-settle-clause-written g c =
     let out = g.O.Sink.taken c.loop-line.out in
     let was = c.loop-line.invariant in
     λ x opened.
-    let stepped = stepped_on view first x before opened here between was.goes c.step.ensures.goes_on lines c.requires.fits i c.line-item.result c.loop-line-test.true c.line-item.is out c.loop-line.waiting.items (was.course x opened) c.step.new.waiting.items c.in-Ok.ensures.stepped in
-    unsettled_writes view first x before opened between c.settle.new.agent (goes_then view first here between was.goes c.step.ensures.goes_on) c.settle.ensures.goes_on (steps_of (take (i + 1) lines)) (steps_fit lines (i + 1) (omega (arith, c.loop-line-test.true)) c.requires.fits) out (g.O.Sink.taken c.settle.new.out)
-    (g.O.Sink.faults c.loop-line.out) (g.O.Sink.faults c.settle.new.out) c.step.new.waiting.items stepped (steps_of lines) (steps_of (drop (i + 1) lines)) (steps_parts lines (i + 1)) c.in-Err-settle.ending c.in-Err-settle.ensures.stops
+    let stepped = stepped_on view first x before opened here between was.goes c.step.ensures.goes_on lines
+    c.requires.fits i c.line-item.result c.loop-line-test.true c.line-item.is out
+    c.loop-line.waiting.items (was.course x opened) c.step.new.waiting.items c.in-Ok.ensures.stepped in
+    unsettled_writes view first x before opened between c.settle.new.agent
+    (goes_then view first here between was.goes c.step.ensures.goes_on) c.settle.ensures.goes_on
+    (steps_of (take (i + 1) lines)) (steps_fit lines (i + 1) (omega (arith, c.loop-line-test.true))
+    c.requires.fits) out (g.O.Sink.taken c.settle.new.out)
+    (g.O.Sink.faults c.loop-line.out) (g.O.Sink.faults c.settle.new.out) c.step.new.waiting.items stepped
+    (steps_of lines) (steps_of (drop (i + 1) lines)) (steps_parts lines (i + 1))
+    c.in-Err-settle.ending c.in-Err-settle.ensures.stops
 
 pub returns-in-Err-settle-clause-power : goal.returns-in-Err-settle-clause-power
 returns-in-Err-settle-clause-power g c = λ x opened.
-    unsettled_power g.D.Disk.view c.step.new.agent c.settle.new.agent (g.O.Sink.taken c.loop-line.out) (g.O.Sink.taken c.settle.new.out) (g.O.Sink.faults c.loop-line.out) (g.O.Sink.faults c.settle.new.out) c.step.new.waiting.items c.in-Err-settle.ending c.settle.new.agent.power c.in-Err-settle.ensures.stops
+    unsettled_power g.D.Disk.view c.step.new.agent c.settle.new.agent (g.O.Sink.taken c.loop-line.out)
+    (g.O.Sink.taken c.settle.new.out) (g.O.Sink.faults c.loop-line.out) (g.O.Sink.faults c.settle.new.out)
+    c.step.new.waiting.items c.in-Err-settle.ending c.settle.new.agent.power c.in-Err-settle.ensures.stops
 
 pub returns-in-Err-settle-clause-device : goal.returns-in-Err-settle-clause-device
 returns-in-Err-settle-clause-device g c = λ x opened.
-    unsettled_device g.D.Disk.view c.step.new.agent c.settle.new.agent (g.O.Sink.taken c.loop-line.out) (g.O.Sink.taken c.settle.new.out) (g.O.Sink.faults c.loop-line.out) (g.O.Sink.faults c.settle.new.out) c.step.new.waiting.items _ c.in-Err-settle.ending c.in-Err-settle.ensures.stops
+    unsettled_device g.D.Disk.view c.step.new.agent c.settle.new.agent (g.O.Sink.taken c.loop-line.out)
+    (g.O.Sink.taken c.settle.new.out) (g.O.Sink.faults c.loop-line.out) (g.O.Sink.faults c.settle.new.out)
+    c.step.new.waiting.items _ c.in-Err-settle.ending c.in-Err-settle.ensures.stops
 
 pub returns-in-Err-settle-clause-tidy : goal.returns-in-Err-settle-clause-tidy
 returns-in-Err-settle-clause-tidy g c = λ x opened.
-    unsettled_done g.D.Disk.view c.step.new.agent c.settle.new.agent (g.O.Sink.taken c.loop-line.out) (g.O.Sink.taken c.settle.new.out) (g.O.Sink.faults c.loop-line.out) (g.O.Sink.faults c.settle.new.out) c.step.new.waiting.items _ c.in-Err-settle.ending c.in-Err-settle.ensures.stops
+    unsettled_done g.D.Disk.view c.step.new.agent c.settle.new.agent (g.O.Sink.taken c.loop-line.out)
+    (g.O.Sink.taken c.settle.new.out) (g.O.Sink.faults c.loop-line.out) (g.O.Sink.faults c.settle.new.out)
+    c.step.new.waiting.items _ c.in-Err-settle.ending c.in-Err-settle.ensures.stops
 
 pub returns-in-Err-settle-clause-store : goal.returns-in-Err-settle-clause-store
 returns-in-Err-settle-clause-store g c =
-    unsettled_store g.D.Disk.view c.step.new.agent c.settle.new.agent (g.O.Sink.taken c.loop-line.out) (g.O.Sink.taken c.settle.new.out) (g.O.Sink.faults c.loop-line.out) (g.O.Sink.faults c.settle.new.out) c.step.new.waiting.items c.in-Err-settle.ending c.in-Err-settle.ensures.stops
+    unsettled_store g.D.Disk.view c.step.new.agent c.settle.new.agent (g.O.Sink.taken c.loop-line.out)
+    (g.O.Sink.taken c.settle.new.out) (g.O.Sink.faults c.loop-line.out) (g.O.Sink.faults c.settle.new.out)
+    c.step.new.waiting.items c.in-Err-settle.ending c.in-Err-settle.ensures.stops
 
 pub returns-in-Err-settle-clause-write : goal.returns-in-Err-settle-clause-write
 returns-in-Err-settle-clause-write g c =
-    unsettled_stays g.D.Disk.view c.step.new.agent c.settle.new.agent (g.O.Sink.taken c.loop-line.out) (g.O.Sink.taken c.settle.new.out) (g.O.Sink.faults c.loop-line.out) (g.O.Sink.faults c.settle.new.out) c.step.new.waiting.items c.in-Err-settle.ending (g.O.Sink.faults c.args.out.now) c.loop-line.invariant.still c.in-Err-settle.ensures.stops
+    unsettled_stays g.D.Disk.view c.step.new.agent c.settle.new.agent (g.O.Sink.taken c.loop-line.out)
+    (g.O.Sink.taken c.settle.new.out) (g.O.Sink.faults c.loop-line.out) (g.O.Sink.faults c.settle.new.out)
+    c.step.new.waiting.items c.in-Err-settle.ending (g.O.Sink.faults c.args.out.now)
+    c.loop-line.invariant.still c.in-Err-settle.ensures.stops
 
 -- ---- the end of the lines
 
@@ -140,19 +183,31 @@ returns-clause-written g c =
     let later = g.O.Sink.taken c.end-ending.new.out in
     let was = c.loop-line.invariant in
     λ x opened.
-    let stands = subst (λ ss. StandsOn g.D.Disk.view first x before c.loop-line.agent ss out c.loop-line.waiting.items) (ap steps_of (take_all i lines (omega (arith, c.loop-line-test.false)))) (was.course x opened) in
-    closes_writes g.D.Disk.view first x before opened c.loop-line.agent c.last_commit-ending.new.agent c.last_checkpoint.new.agent was.goes c.last_commit-ending.ensures.goes_on c.last_checkpoint.ensures.goes_on (steps_of lines) out later
-    (g.O.Sink.faults c.loop-line.out) (g.O.Sink.faults c.end-ending.new.out) c.loop-line.waiting.items c.last_commit-ending.new.waiting.items stands c.last_commit-ending.result c.end-ending.result c.last_checkpoint.result c.last_commit-ending.ensures.ends
-    (subst (Ended c.last_commit-ending.result c.end-ending.result out later (g.O.Sink.faults c.loop-line.out) (g.O.Sink.faults c.end-ending.new.out)) c.deref-2.ensures.value c.end-ending.ensures) c.last_checkpoint.ensures.closes
+    let stands = subst (λ ss. StandsOn g.D.Disk.view first x before c.loop-line.agent ss out
+    c.loop-line.waiting.items) (ap steps_of (take_all i lines (omega (arith, c.loop-line-test.false))))
+    (was.course x opened) in
+    closes_writes g.D.Disk.view first x before opened c.loop-line.agent c.last_commit-ending.new.agent
+    c.last_checkpoint.new.agent was.goes c.last_commit-ending.ensures.goes_on
+    c.last_checkpoint.ensures.goes_on (steps_of lines) out later
+    (g.O.Sink.faults c.loop-line.out) (g.O.Sink.faults c.end-ending.new.out)
+    c.loop-line.waiting.items c.last_commit-ending.new.waiting.items stands c.last_commit-ending.result
+    c.end-ending.result c.last_checkpoint.result c.last_commit-ending.ensures.ends
+    (subst (Ended c.last_commit-ending.result c.end-ending.result out later (g.O.Sink.faults c.loop-line.out)
+    (g.O.Sink.faults c.end-ending.new.out)) c.deref-2.ensures.value c.end-ending.ensures) c.last_checkpoint.ensures.closes
 
 pub returns-clause-power : goal.returns-clause-power
 returns-clause-power g c = λ x opened.
     let all = c.loop-line.invariant.course x opened in
     let here = c.last_commit-ending.new.agent in
     let ends = c.last_commit-ending.ensures.ends all.0 all.1 in
-    closes_power g.D.Disk.view here c.last_checkpoint.new.agent c.end-ending.result c.last_checkpoint.result c.last_checkpoint.ensures.closes ends.0 ends.1
+    closes_power g.D.Disk.view here c.last_checkpoint.new.agent c.end-ending.result c.last_checkpoint.result
+    c.last_checkpoint.ensures.closes ends.0 ends.1
     (ended_so (λ e. TellsPower e here.power) c.last_commit-ending.result c.end-ending.result _ _ _ _ c.deref-2.result.now
-    (ends_power c.loop-line.agent.memory.rules all.0 ends.0 (may_of c.loop-line.agent (g.D.Disk.view c.loop-line.agent.disk)) (may_of here (g.D.Disk.view here.disk)) (g.D.Disk.view c.loop-line.agent.disk) (g.D.Disk.view here.disk) c.last_commit-ending.result _ _ here.power ends.1.up.0 ends.1.up.1 ends.2) tt c.end-ending.ensures)
+    (ends_power c.loop-line.agent.memory.rules all.0 ends.0
+    (may_of c.loop-line.agent (g.D.Disk.view c.loop-line.agent.disk))
+    (may_of here (g.D.Disk.view here.disk)) (g.D.Disk.view c.loop-line.agent.disk)
+    (g.D.Disk.view here.disk) c.last_commit-ending.result _ _ here.power ends.1.up.0 ends.1.up.1 ends.2)
+    tt c.end-ending.ensures)
 
 pub returns-clause-device : goal.returns-clause-device
 returns-clause-device g c = λ x opened.
@@ -163,29 +218,50 @@ returns-clause-device g c = λ x opened.
     let may' = may_of here (g.D.Disk.view here.disk) in
     let ends = c.last_commit-ending.ensures.ends all.0 all.1 in
     let steps = steps_of (take c.loop-line.line-index c.args.lines.now) in
-    closes_device g.D.Disk.view here c.last_checkpoint.new.agent c.end-ending.result c.last_checkpoint.result c.last_checkpoint.ensures.closes ends.0 ends.1 (g.D.Disk.view first.disk).faults
-    (ended_so (λ e. e ≡ Device → Rose (g.D.Disk.view first.disk).faults (g.D.Disk.view here.disk).faults) c.last_commit-ending.result c.end-ending.result _ _ _ _ c.deref-2.result.now
-    (ends_device first.memory.rules first.batch x (g.D.Disk.view first.disk) (g.D.Disk.view c.loop-line.agent.disk) all.0 may steps (g.O.Sink.taken c.args.out.now) (g.O.Sink.taken c.loop-line.out) c.loop-line.waiting.items all.3
-    c.loop-line.agent.memory.rules ends.0 may' (g.D.Disk.view here.disk) c.last_commit-ending.result c.last_commit-ending.new.waiting.items ends.2 ends.3) (λ e. absurd (write_device e)) c.end-ending.ensures)
-    (λ done. ends_later first.memory.rules first.batch x (g.D.Disk.view first.disk) (g.D.Disk.view c.loop-line.agent.disk) all.0 may steps (g.O.Sink.taken c.args.out.now) (g.O.Sink.taken c.loop-line.out) c.loop-line.waiting.items all.3
-    c.loop-line.agent.memory.rules ends.0 may' (g.D.Disk.view here.disk) c.last_commit-ending.result c.last_commit-ending.new.waiting.items ends.2 ends.3 (ended_done c.last_commit-ending.result c.end-ending.result _ _ _ _ c.deref-2.result.now c.end-ending.ensures done).0)
+    closes_device g.D.Disk.view here c.last_checkpoint.new.agent c.end-ending.result c.last_checkpoint.result
+    c.last_checkpoint.ensures.closes ends.0 ends.1 (g.D.Disk.view first.disk).faults
+    (ended_so (λ e. e ≡ Device → Rose (g.D.Disk.view first.disk).faults (g.D.Disk.view here.disk).faults)
+    c.last_commit-ending.result c.end-ending.result _ _ _ _ c.deref-2.result.now
+    (ends_device first.memory.rules first.batch x (g.D.Disk.view first.disk)
+    (g.D.Disk.view c.loop-line.agent.disk) all.0 may steps (g.O.Sink.taken c.args.out.now)
+    (g.O.Sink.taken c.loop-line.out) c.loop-line.waiting.items all.3
+    c.loop-line.agent.memory.rules ends.0 may' (g.D.Disk.view here.disk)
+    c.last_commit-ending.result c.last_commit-ending.new.waiting.items ends.2 ends.3)
+    (λ e. absurd (write_device e)) c.end-ending.ensures)
+    (λ done. ends_later first.memory.rules first.batch x (g.D.Disk.view first.disk)
+    (g.D.Disk.view c.loop-line.agent.disk) all.0 may steps (g.O.Sink.taken c.args.out.now)
+    (g.O.Sink.taken c.loop-line.out) c.loop-line.waiting.items all.3
+    c.loop-line.agent.memory.rules ends.0 may' (g.D.Disk.view here.disk)
+    c.last_commit-ending.result c.last_commit-ending.new.waiting.items ends.2 ends.3
+    (ended_done c.last_commit-ending.result c.end-ending.result _ _ _ _ c.deref-2.result.now c.end-ending.ensures done).0)
 
 pub returns-clause-tidy : goal.returns-clause-tidy
 returns-clause-tidy g c = λ x opened is.
     let all = c.loop-line.invariant.course x opened in
     let here = c.last_commit-ending.new.agent in
     let ends = c.last_commit-ending.ensures.ends all.0 all.1 in
-    closes_tidy g.D.Disk.view here c.last_checkpoint.new.agent c.end-ending.result c.last_checkpoint.result c.last_checkpoint.ensures.closes ends.0 ends.1
-    (λ done owed. ends_tidy here (g.D.Disk.view here.disk) c.loop-line.agent.memory.rules all.0 ends.0 (may_of c.loop-line.agent (g.D.Disk.view c.loop-line.agent.disk)) (may_of here (g.D.Disk.view here.disk)) (g.D.Disk.view c.loop-line.agent.disk) (g.D.Disk.view here.disk) c.last_commit-ending.result _ _ ends.1 ends.2
-    (ended_done c.last_commit-ending.result c.end-ending.result _ _ _ _ c.deref-2.result.now c.end-ending.ensures done).0 owed) is (c.last_checkpoint.ensures.tidy is)
+    closes_tidy g.D.Disk.view here c.last_checkpoint.new.agent c.end-ending.result c.last_checkpoint.result
+    c.last_checkpoint.ensures.closes ends.0 ends.1
+    (λ done owed. ends_tidy here (g.D.Disk.view here.disk) c.loop-line.agent.memory.rules all.0 ends.0
+    (may_of c.loop-line.agent (g.D.Disk.view c.loop-line.agent.disk))
+    (may_of here (g.D.Disk.view here.disk)) (g.D.Disk.view c.loop-line.agent.disk)
+    (g.D.Disk.view here.disk) c.last_commit-ending.result _ _ ends.1 ends.2
+    (ended_done c.last_commit-ending.result c.end-ending.result _ _ _ _ c.deref-2.result.now
+    c.end-ending.ensures done).0 owed) is (c.last_checkpoint.ensures.tidy is)
 
 pub returns-clause-store : goal.returns-clause-store
 returns-clause-store g c =
-    closes_store g.D.Disk.view c.last_commit-ending.new.agent c.last_checkpoint.new.agent c.end-ending.result c.last_checkpoint.result c.last_checkpoint.ensures.closes
-    (ended_so IsStoreEnding c.last_commit-ending.result c.end-ending.result _ _ _ _ c.deref-2.result.now (end_store c.last_commit-ending.result c.last_commit-ending.ensures.ending) tt c.end-ending.ensures)
+    closes_store g.D.Disk.view c.last_commit-ending.new.agent c.last_checkpoint.new.agent c.end-ending.result
+    c.last_checkpoint.result c.last_checkpoint.ensures.closes
+    (ended_so IsStoreEnding c.last_commit-ending.result c.end-ending.result _ _ _ _ c.deref-2.result.now
+    (end_store c.last_commit-ending.result c.last_commit-ending.ensures.ending) tt c.end-ending.ensures)
 
 pub returns-clause-write : goal.returns-clause-write
 returns-clause-write g c =
-    closes_stays g.D.Disk.view c.last_commit-ending.new.agent c.last_checkpoint.new.agent c.end-ending.result c.last_checkpoint.result c.last_checkpoint.ensures.closes (g.O.Sink.faults c.args.out.now) (g.O.Sink.faults c.end-ending.new.out)
-    (ended_counts c.last_commit-ending.result c.end-ending.result _ _ (g.O.Sink.faults c.args.out.now) _ _ c.deref-2.result.now c.loop-line.invariant.still
-    (end_stays c.last_commit-ending.result (g.O.Sink.faults c.args.out.now) (g.O.Sink.faults c.end-ending.new.out) c.last_commit-ending.ensures.ending) c.end-ending.ensures)
+    closes_stays g.D.Disk.view c.last_commit-ending.new.agent c.last_checkpoint.new.agent c.end-ending.result
+    c.last_checkpoint.result c.last_checkpoint.ensures.closes (g.O.Sink.faults c.args.out.now)
+    (g.O.Sink.faults c.end-ending.new.out)
+    (ended_counts c.last_commit-ending.result c.end-ending.result _ _ (g.O.Sink.faults c.args.out.now)
+    _ _ c.deref-2.result.now c.loop-line.invariant.still
+    (end_stays c.last_commit-ending.result (g.O.Sink.faults c.args.out.now)
+    (g.O.Sink.faults c.end-ending.new.out) c.last_commit-ending.ensures.ending) c.end-ending.ensures)

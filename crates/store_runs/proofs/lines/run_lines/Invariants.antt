@@ -11,5 +11,6 @@ invariant-loop-line g l = record {
   goes : GoesOn g.D.Disk.view l.fn.agent l.agent;
   still : g.O.Sink.faults l.out ≡ g.O.Sink.faults l.fn.out;
   course : (opening : AgentOpening) → IsOpenedAt l.fn.agent (g.D.Disk.view l.fn.agent.disk) opening
-      → StandsOn g.D.Disk.view l.fn.agent opening (g.O.Sink.taken l.fn.out) l.agent (steps_of (take l.line-index l.lines)) (g.O.Sink.taken l.out) l.waiting.items;
+      → StandsOn g.D.Disk.view l.fn.agent opening (g.O.Sink.taken l.fn.out) l.agent
+      (steps_of (take l.line-index l.lines)) (g.O.Sink.taken l.out) l.waiting.items;
 }

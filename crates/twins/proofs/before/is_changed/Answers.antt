@@ -14,7 +14,10 @@ returns c = record {
       let here = subst (IsKept site world asks) c.in-Some.is kept in
       let after = c.in_ok-after.ensures.up b seen up ∙ ap (λ d. get_cell domain_order b.world.cells d) c.as_str.ensures.value in
       elim c.if-changed.branch [
-        | then-changed w ↦ changed_then site world b.world c.args.changed asks c.if-changed.result w.if-changed.true (w.result-is ∙ w.if-changed.true)
-        | else-changed w ↦ changed_else site world b.world c.in-Some.before.cookies c.in_ok-after.after.cookies c.args.changed asks w.same_cookies.result c.if-changed.result w.if-changed.false here.0 here.1 after w.same_cookies.ensures.same w.result-is
+        | then-changed w ↦ changed_then site world b.world c.args.changed asks c.if-changed.result
+            w.if-changed.true (w.result-is ∙ w.if-changed.true)
+        | else-changed w ↦ changed_else site world b.world c.in-Some.before.cookies
+            c.in_ok-after.after.cookies c.args.changed asks w.same_cookies.result c.if-changed.result
+            w.if-changed.false here.0 here.1 after w.same_cookies.ensures.same w.result-is
       ];
 }

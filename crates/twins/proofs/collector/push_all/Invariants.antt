@@ -6,4 +6,6 @@ use Rattle.local_items.specs.Items.{entry_of, item_of}
 use Rattle.twins.proofs.collector.push_all.Given as goal
 
 abbrev pub invariant-loop-entry : goal.invariant-loop-entry
-invariant-loop-entry l = map item_of l.items.items ++ happenings (map entry_of (into_iter_items l.entry-iterator)) ≡ map item_of l.fn.items.items ++ happenings (map entry_of l.fn.entries.items)
+invariant-loop-entry l = map item_of l.items.items
+    ++ happenings (map entry_of (into_iter_items l.entry-iterator)) ≡ map item_of l.fn.items.items
+    ++ happenings (map entry_of l.fn.entries.items)

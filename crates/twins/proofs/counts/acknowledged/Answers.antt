@@ -1,4 +1,4 @@
-use Rattle.std.proofs.Common.{◌≡◌, ◌+◌, ◌<◌, ◌≤◌, ◌^◌, length, map, take, sym, ap, ◌∙◌, arith, [], ◌∷◌}
+use Rattle.std.proofs.Common.{◌+◌, sym, ap, ◌∙◌, arith, [], ◌∷◌}
 use Rattle.local_items.specs.Items.{item_of}
 use Rattle.script_courses.specs.Twins.{acknowledged_in}
 use Rattle.twins.proofs.CountLemmas.{acknowledged_few, acknowledged_more}
@@ -19,6 +19,8 @@ loop-item-preserved c =
     let i = c.loop-item.item-index in
     let more = acknowledged_more items i c.item-item.result c.loop-item-test.true in
     elim c.match-item.branch [
-      | in-Restarts w ↦ let one = ap (λ x. acknowledged_in (item_of x ∷ [])) (sym c.item-item.is ∙ w.in-Restarts.is) in omega (arith, more, one, c.loop-item.invariant, w.count-is)
-      | in_default w ↦ let one = ap (λ x. acknowledged_in (item_of x ∷ [])) (sym c.item-item.is ∙ w.in_default.is) in omega (arith, more, one, c.loop-item.invariant, w.count-is)
+      | in-Restarts w ↦ let one = ap (λ x. acknowledged_in (item_of x ∷ []))
+          (sym c.item-item.is ∙ w.in-Restarts.is) in omega (arith, more, one, c.loop-item.invariant, w.count-is)
+      | in_default w ↦ let one = ap (λ x. acknowledged_in (item_of x ∷ []))
+          (sym c.item-item.is ∙ w.in_default.is) in omega (arith, more, one, c.loop-item.invariant, w.count-is)
     ]

@@ -26,7 +26,8 @@ loop-line-preserved c =
     let few = steps_fit lines i c.loop-line.auto.line-index-end c.requires.fits in
     let all = c.in_ok-step.ensures.leads at (steps_of (take i lines)) refl few c.loop-line.invariant in
     subst (λ ss. Collects at c.step.new.agent ss c.step.new.found)
-    (ap (λ (l : Line). steps_of (take i lines) ++ step_of l.step ∷ []) c.line-item.is ∙ sym (steps_more lines i c.line-item.result c.loop-line-test.true)) all
+    (ap (λ (l : Line). steps_of (take i lines) ++ step_of l.step ∷ []) c.line-item.is
+    ∙ sym (steps_more lines i c.line-item.result c.loop-line-test.true)) all
 
 pub returns : goal.returns
 returns c =
@@ -37,5 +38,7 @@ returns c =
     let few = steps_fit lines i c.loop-line.auto.line-index-end c.requires.fits in
     record {
       given = IfOk-weaker c.close.result (EndsAs site c.loop-line.agent c.loop-line.found) (Gives at (steps_of lines))
-          (λ script ends. subst (λ (ls : List Line). Gives at (steps_of ls) script) (take_all i lines (omega (arith, c.loop-line-test.false))) (ends at (steps_of (take i lines)) refl few c.loop-line.invariant)) c.close.ensures.ends;
+          (λ script ends. subst (λ (ls : List Line). Gives at (steps_of ls) script)
+          (take_all i lines (omega (arith, c.loop-line-test.false)))
+          (ends at (steps_of (take i lines)) refl few c.loop-line.invariant)) c.close.ensures.ends;
     }

@@ -7,4 +7,5 @@ use Rattle.twins.specs.Settings.{setting}
 use Rattle.twins.proofs.lines.collect.Given as goal
 
 abbrev pub invariant-loop-line : goal.invariant-loop-line
-invariant-loop-line l = Collects (setting l.list (plain_site l.site) l.fn.options) l.agent (steps_of (take l.line-index l.lines)) l.found
+invariant-loop-line l = Collects (setting l.list (plain_site l.site) l.fn.options) l.agent
+    (steps_of (take l.line-index l.lines)) l.found

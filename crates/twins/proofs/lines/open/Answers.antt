@@ -12,8 +12,10 @@ returns-in-Ok c = record {
       let seen = c.in-Ok.ensures.seen in
       let rules = c.in-Ok.ensures.rules in
       let powered = c.in-Ok.ensures.powered in
-      let empty = held_nothing c.new-disk.result.past (c.new-disk.ensures.contents.0 ∙ c.new.ensures.items) c.new-disk.ensures.contents.1 in
+      let empty = held_nothing c.new-disk.result.past (c.new-disk.ensures.contents.0 ∙ c.new.ensures.items)
+      c.new-disk.ensures.contents.1 in
       let nothing : seen.0 ≡ nothing_saved = seen.2.2 [] nothing_saved 0 empty (inr (inl (omega arith), refl, refl)) in
-      leads_begin (setting c.args.list.now site c.args.options) c.in-Ok.agent seen.0 nothing rules.0 rules.2 (omega (arith, c.requires.batch.0)) seen.2.0 seen.2.1 powered.after
+      leads_begin (setting c.args.list.now site c.args.options) c.in-Ok.agent seen.0 nothing rules.0 rules.2
+      (omega (arith, c.requires.batch.0)) seen.2.0 seen.2.1 powered.after
       (powered.cuts ∙ c.new-disk.ensures.cuts c.new-3.ensures.items ∙ ap (λ cuts. Some (numbers_of cuts)) c.new-2.ensures.items);
 }

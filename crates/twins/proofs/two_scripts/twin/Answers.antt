@@ -7,6 +7,7 @@ use Rattle.twins.proofs.two_scripts.twin.Goals as goal
 
 pub returns : goal.returns
 returns c = record {
-  answer = leads_answer (setting c.args.list.now (plain_site c.args.site.now) c.args.options) (steps_of c.args.first.now) (steps_of c.args.second.now) c.in_ok-one.one c.in_ok-other.other (plain_twin c.compare.result)
+  answer = leads_answer (setting c.args.list.now (plain_site c.args.site.now) c.args.options)
+      (steps_of c.args.first.now) (steps_of c.args.second.now) c.in_ok-one.one c.in_ok-other.other (plain_twin c.compare.result)
       c.in_ok-one.ensures.given c.in_ok-other.ensures.given c.compare.ensures.compares;
 }

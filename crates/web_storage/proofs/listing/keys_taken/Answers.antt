@@ -10,7 +10,8 @@ use Rattle.web_storage.proofs.listing.keys_taken.Goals as goal
 
 pub returns : goal.returns
 returns c =
-    let kept = filter_same _ (λ key. may_be_taken c.args.shed.now (plain_key key)) _ (λ x b f' k. search rules) _ _ c.retain.ensures.filtered in
+    let kept = filter_same _ (λ key. may_be_taken c.args.shed.now (plain_key key)) _
+    (λ x b f' k. search rules) _ _ c.retain.ensures.filtered in
     record {
       keys =
           subst (λ all. IfOk c.by_text.result (λ keys. map plain_key keys.items ≡ by_text all))

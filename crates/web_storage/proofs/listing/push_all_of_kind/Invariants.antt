@@ -9,5 +9,7 @@ use Rattle.web_storage.proofs.listing.push_all_of_kind.Given as goal
 
 abbrev pub invariant-loop-key : goal.invariant-loop-key
 invariant-loop-key l =
-    map plain_key l.keys.items ++ filter (is_of_kind l.with_area (areas_in l.shed) (keys_in l.shed)) (map plain_key (keys_of l.key-iterator))
-    ≡ map plain_key l.fn.keys.items ++ filter (is_of_kind l.with_area (areas_in l.shed) (keys_in l.shed)) (map plain_key (keys_of l.fn.range))
+    map plain_key l.keys.items ++ filter (is_of_kind l.with_area (areas_in l.shed) (keys_in l.shed))
+    (map plain_key (keys_of l.key-iterator))
+    ≡ map plain_key l.fn.keys.items ++ filter (is_of_kind l.with_area (areas_in l.shed) (keys_in l.shed))
+    (map plain_key (keys_of l.fn.range))

@@ -12,10 +12,12 @@ use Rattle.web_storage.proofs.local.shed_keys_under.Goals as goal
 pub returns : goal.returns
 returns c = record {
   keys =
-      subst (λ es. IfOk c.keys_under.result (λ keys. AreUnder (plain_site c.args.site.now) (map plain_key (keys_of es)) (map plain_key keys.items)))
+      subst (λ es. IfOk c.keys_under.result (λ keys. AreUnder (plain_site c.args.site.now)
+      (map plain_key (keys_of es)) (map plain_key keys.items)))
       c.buckets.ensures.buckets c.keys_under.ensures.keys;
   rising =
-      subst (λ es. IfOk c.keys_under.result (λ keys. map plain_key keys.items ≡ filter (is_under (plain_site c.args.site.now)) (map plain_key (keys_of es))))
+      subst (λ es. IfOk c.keys_under.result (λ keys. map plain_key keys.items
+      ≡ filter (is_under (plain_site c.args.site.now)) (map plain_key (keys_of es))))
       c.buckets.ensures.buckets c.keys_under.ensures.rising;
   ordered = subst (λ es. IsStrictlySortedBy key_cmp (keys_of es)) c.buckets.ensures.buckets c.keys_under.ensures.ordered;
 }

@@ -15,17 +15,20 @@ pub loop-key-init : goal.loop-key-init
 loop-key-init c =
     ap (list_any (has_pairs_under (plain_site c.args.site.now)))
     (c.into_iter-key-iterator.ensures.into_iter_gives
-    ∙ from_all c.args.areas.now c.range_from-key-items.result c.in-Some.first.now c.next_key.ensures.ordered c.in-Some.ensures.key c.range_from-key-items.ensures.entries)
+    ∙ from_all c.args.areas.now c.range_from-key-items.result c.in-Some.first.now c.next_key.ensures.ordered
+    c.in-Some.ensures.key c.range_from-key-items.ensures.entries)
 
 pub returns-then-has_pairs-clause-pairs : goal.returns-then-has_pairs-clause-pairs
 returns-then-has_pairs-clause-pairs c =
-    met (plain_site c.args.site.now) (c.in-Some-2.key.now, c.in-Some-2.area.now) c.next.new.self (sym c.has_pairs.ensures ∙ c.if-has_pairs.true)
+    met (plain_site c.args.site.now) (c.in-Some-2.key.now, c.in-Some-2.area.now) c.next.new.self
+    (sym c.has_pairs.ensures ∙ c.if-has_pairs.true)
     ∙ ap (list_any (has_pairs_under (plain_site c.args.site.now))) (sym c.in-Some-2.ensures.steps)
     ∙ c.loop-key.invariant
 
 pub loop-key-preserved : goal.loop-key-preserved
 loop-key-preserved c =
-    sym (passed_by (plain_site c.args.site.now) (c.in-Some-2.key.now, c.in-Some-2.area.now) c.next.new.self (sym c.has_pairs.ensures ∙ c.if-has_pairs.false))
+    sym (passed_by (plain_site c.args.site.now) (c.in-Some-2.key.now, c.in-Some-2.area.now) c.next.new.self
+    (sym c.has_pairs.ensures ∙ c.if-has_pairs.false))
     ∙ ap (list_any (has_pairs_under (plain_site c.args.site.now))) (sym c.in-Some-2.ensures.steps)
     ∙ c.loop-key.invariant
 

@@ -6,4 +6,5 @@ use Rattle.web_storage.specs.SiteSessions.{has_pairs_under}
 use Rattle.web_storage.proofs.session.has_pairs_under.Given as goal
 
 abbrev pub invariant-loop-key : goal.invariant-loop-key
-invariant-loop-key l = list_any (has_pairs_under (plain_site l.site)) l.key-iterator ≡ list_any (has_pairs_under (plain_site l.site)) l.areas
+invariant-loop-key l = list_any (has_pairs_under (plain_site l.site)) l.key-iterator
+    ≡ list_any (has_pairs_under (plain_site l.site)) l.areas

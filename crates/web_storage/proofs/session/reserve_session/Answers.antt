@@ -10,16 +10,20 @@ use Rattle.web_storage.proofs.session.reserve_session.Goals as goal
 
 pub returns-in_err-key-clause-area : goal.returns-in_err-key-clause-area
 returns-in_err-key-clause-area c =
-    on_err c.from_residual.result (no_session order alike c.args.tab c.args.key.now c.args.sessions.now (sym c.contains.ensures.contains ∙ c.if-contains.false))
+    on_err c.from_residual.result (no_session order alike c.args.tab c.args.key.now c.args.sessions.now
+    (sym c.contains.ensures.contains ∙ c.if-contains.false))
 
 pub returns-clause-sessions : goal.returns-clause-sessions
 returns-clause-sessions c = either_way c.reserve.result
     (on_ok_weaker c.reserve.result
-    (λ made. sessions_alike c.args.tab (made_area order c.in_ok-key.key (areas_of c.args.tab c.args.sessions.now)) c.args.sessions.now c.reserve.new.self made
+    (λ made. sessions_alike c.args.tab (made_area order c.in_ok-key.key
+    (areas_of c.args.tab c.args.sessions.now)) c.args.sessions.now c.reserve.new.self made
     (made_alike order alike c.in_ok-key.key (areas_of c.args.tab c.args.sessions.now)))
     c.reserve.ensures.made)
-    (on_err_weaker c.reserve.result (λ same. sessions_kept c.args.sessions.now c.reserve.new.self same) c.reserve.ensures.unchanged)
+    (on_err_weaker c.reserve.result (λ same. sessions_kept c.args.sessions.now c.reserve.new.self same)
+    c.reserve.ensures.unchanged)
 
 pub returns-clause-area : goal.returns-clause-area
 returns-clause-area c =
-    on_err c.reserve.result (no_session order alike c.args.tab c.args.key.now c.args.sessions.now (sym c.contains.ensures.contains ∙ c.if-contains.false))
+    on_err c.reserve.result (no_session order alike c.args.tab c.args.key.now c.args.sessions.now
+    (sym c.contains.ensures.contains ∙ c.if-contains.false))

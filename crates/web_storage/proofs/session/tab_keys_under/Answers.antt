@@ -10,7 +10,8 @@ use Rattle.web_storage.proofs.session.tab_keys_under.Goals as goal
 pub returns-in-Some : goal.returns-in-Some
 returns-in-Some c = record {
   keys =
-      subst (λ es. IfOk c.keys_under.result (λ keys. AreUnder (plain_site c.args.site.now) (map plain_key (keys_of es)) (map plain_key keys.items)))
+      subst (λ es. IfOk c.keys_under.result (λ keys. AreUnder (plain_site c.args.site.now)
+      (map plain_key (keys_of es)) (map plain_key keys.items)))
       c.in-Some.ensures.areas c.keys_under.ensures.keys;
 }
 

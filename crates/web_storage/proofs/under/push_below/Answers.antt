@@ -12,7 +12,8 @@ use Rattle.web_storage.proofs.under.push_below.Goals as goal
 pub returns-then-not-same_site : goal.returns-then-not-same_site
 returns-then-not-same_site g c = record {
   pushed =
-      walk-stopped (is_under (plain_site c.args.site.now)) (plain_key c.in-Some.key.now) (reverse (map plain_key (keys_of c.next.new.self.iter))) _ _
+      walk-stopped (is_under (plain_site c.args.site.now)) (plain_key c.in-Some.key.now)
+      (reverse (map plain_key (keys_of c.next.new.self.iter))) _ _
       (sym c.same_site.ensures.test ∙ c.if-not-same_site.true)
       (ap (λ r. map plain_key c.loop-key.keys.items ++ take_while (is_under (plain_site c.args.site.now)) r)
       (sym (ap (λ es. reverse (map plain_key (keys_of es))) c.in-Some.ensures.steps ∙ plain_reversed c.next.new.self.iter _))
@@ -21,8 +22,10 @@ returns-then-not-same_site g c = record {
 
 pub loop-key-preserved : goal.loop-key-preserved
 loop-key-preserved g c =
-    ap (λ ks. ks ++ take_while (is_under (plain_site c.args.site.now)) (reverse (map plain_key (keys_of c.next.new.self.iter)))) c.in_ok-push_copy.ensures.pushed
-    ∙ walk-on (is_under (plain_site c.args.site.now)) (plain_key c.in-Some.key.now) (reverse (map plain_key (keys_of c.next.new.self.iter))) _ _
+    ap (λ ks. ks ++ take_while (is_under (plain_site c.args.site.now))
+    (reverse (map plain_key (keys_of c.next.new.self.iter)))) c.in_ok-push_copy.ensures.pushed
+    ∙ walk-on (is_under (plain_site c.args.site.now)) (plain_key c.in-Some.key.now)
+    (reverse (map plain_key (keys_of c.next.new.self.iter))) _ _
     (sym c.same_site.ensures.test ∙ c.if-not-same_site.false)
     (ap (λ r. map plain_key c.loop-key.keys.items ++ take_while (is_under (plain_site c.args.site.now)) r)
     (sym (ap (λ es. reverse (map plain_key (keys_of es))) c.in-Some.ensures.steps ∙ plain_reversed c.next.new.self.iter _))
@@ -32,6 +35,8 @@ pub returns : goal.returns
 returns g c = record {
   pushed =
       walk-ended (is_under (plain_site c.args.site.now)) _ _
-      (ap (λ r. map plain_key c.loop-key.keys.items ++ take_while (is_under (plain_site c.args.site.now)) (reverse (map plain_key (keys_of r)))) (sym c.in-None.ensures.steps.0)
+      (ap (λ r. map plain_key c.loop-key.keys.items
+      ++ take_while (is_under (plain_site c.args.site.now)) (reverse (map plain_key (keys_of r))))
+      (sym c.in-None.ensures.steps.0)
       ∙ c.loop-key.invariant);
 }

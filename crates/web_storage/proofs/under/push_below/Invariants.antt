@@ -10,5 +10,6 @@ use Rattle.web_storage.proofs.under.push_below.Given as goal
 
 abbrev pub invariant-loop-key : goal.invariant-loop-key
 invariant-loop-key g l =
-    map plain_key l.keys.items ++ take_while (is_under (plain_site l.site)) (reverse (map plain_key (keys_of l.key-iterator.iter)))
+    map plain_key l.keys.items ++ take_while (is_under (plain_site l.site))
+    (reverse (map plain_key (keys_of l.key-iterator.iter)))
     ≡ map plain_key l.fn.keys.items ++ take_while (is_under (plain_site l.site)) (reverse (map plain_key (keys_of l.fn.range)))

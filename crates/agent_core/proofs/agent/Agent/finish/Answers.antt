@@ -37,12 +37,9 @@ returns-in-Err-clause-finishes g c = rw (← c.self.view_is) (λ ran up.
 
 pub returns-in-Err-clause-any_moment : goal.returns-in-Err-clause-any_moment
 returns-in-Err-clause-any_moment g c = rw (← c.self.view_is) (λ ran held tells.
-    finish_moments _ (g.D.Disk.view c.self.inside.store.disk)
-    (g.D.Disk.view c.commit.new.self.disk) ran c.written.ensures.bodies held
-    (leaves_same c.self.inside.store.journal (g.D.Disk.view c.self.inside.store.disk)
-    (g.D.Disk.view c.commit.new.self.disk) c.self.inside.batch.body c.bytes.result.now
-    c.self.inside.batch.changes c.changes-changes.result c.bytes.ensures.bytes
-    c.changes-changes.ensures.changes c.in-Err.ensures.any_moment) tells)
+    finish_moments _ _ _ ran c.written.ensures.bodies held
+    (leaves_same _ _ _ _ _ _ _ c.bytes.ensures.bytes c.changes-changes.ensures.changes
+    c.in-Err.ensures.any_moment) tells)
 
 pub returns-in-Err-clause-rules : goal.returns-in-Err-clause-rules
 returns-in-Err-clause-rules g c = rw (← c.self.view_is) (refl, c.in-Err.ensures.digest, refl, refl)
@@ -80,12 +77,9 @@ returns-in-Ok-clause-finishes g c = rw (← c.self.view_is, c.now-self-inside.en
 
 pub returns-in-Ok-clause-any_moment : goal.returns-in-Ok-clause-any_moment
 returns-in-Ok-clause-any_moment g c = rw (← c.self.view_is) (λ ran held tells.
-    finish_moments _ (g.D.Disk.view c.self.inside.store.disk)
-    (g.D.Disk.view c.commit.new.self.disk) ran c.written.ensures.bodies held
-    (leaves_same c.self.inside.store.journal (g.D.Disk.view c.self.inside.store.disk)
-    (g.D.Disk.view c.commit.new.self.disk) c.self.inside.batch.body c.bytes.result.now
-    c.self.inside.batch.changes c.changes-changes.result c.bytes.ensures.bytes
-    c.changes-changes.ensures.changes c.in-Ok.ensures.any_moment) tells)
+    finish_moments _ _ _ ran c.written.ensures.bodies held
+    (leaves_same _ _ _ _ _ _ _ c.bytes.ensures.bytes c.changes-changes.ensures.changes
+    c.in-Ok.ensures.any_moment) tells)
 
 pub returns-in-Ok-clause-rules : goal.returns-in-Ok-clause-rules
 returns-in-Ok-clause-rules g c = rw (← c.self.view_is)

@@ -29,3 +29,21 @@ returns-in-Spoilt-clause-device g c = rw (← c.self.view_is) (λ up.
 
 pub returns-in-Up-clause-off : goal.returns-in-Up-clause-off
 returns-in-Up-clause-off g c = rw (← c.self.view_is) (λ off. absurd (off c.in-Up.is))
+
+pub returns-in-Up-clause-means : goal.returns-in-Up-clause-means
+returns-in-Up-clause-means g c = c.run.ensures.runs.means
+
+pub returns-in-Up-clause-any_moment : goal.returns-in-Up-clause-any_moment
+returns-in-Up-clause-any_moment g c = c.run.ensures.runs.any_moment
+
+pub returns-in-Up-clause-rules : goal.returns-in-Up-clause-rules
+returns-in-Up-clause-rules g c = c.run.ensures.runs.rules
+
+pub returns-in-Up-clause-device : goal.returns-in-Up-clause-device
+returns-in-Up-clause-device g c = λ up. c.run.ensures.runs.device
+
+pub returns-in-Up-clause-idle : goal.returns-in-Up-clause-idle
+returns-in-Up-clause-idle g c = c.run.ensures.runs.idle
+
+pub returns-in-Up-clause-waits : goal.returns-in-Up-clause-waits
+returns-in-Up-clause-waits g c = c.run.ensures.runs.waits

@@ -1,47 +1,28 @@
 -- Room is made for the body of the open batch, and then it is committed. With nothing held a
 -- checkpoint is made.
 use Rattle.std.proofs.Common.{ap, arith, length, refl, ◌∙◌}
-use Rattle.journal.specs.Journal.{JournalView}
 use Rattle.agent_core.proofs.CheckpointLemmas.{held_is}
 use Rattle.agent_core.proofs.CommitLemmas.{held_of}
-use Rattle.agent_core.proofs.LineLemmas.{flush_ends, flush_leaves, memory_down, no_body, power_is, same_run, some_held, still_standing, up_moments, wanting}
-use Rattle.agent_core.proofs.OutcomeLemmas.{calls_held, calls_none, device_before, device_none}
+use Rattle.agent_core.proofs.FlushLemmas.{flush_goes, flush_wants}
+use Rattle.agent_core.proofs.LineLemmas.{no_body, power_is, some_held, still_standing}
+use Rattle.agent_core.proofs.OutcomeLemmas.{calls_held, calls_none}
 use Rattle.agent_core.proofs.RoomLemmas.{room_less}
 use Rattle.agent_core.proofs.agent.Agent.settle.Goals as goal
 
 pub invariant_of-self : goal.invariant_of-self
 invariant_of-self g c =
-    still_standing c.self.inside.list.now c.self.inside.memory c.self.inside.memory
-    c.self.inside.now c.self.inside.now c.self.inside.batch c.self.inside.batch
-    c.self.inside.power c.self.inside.store.journal c.reserve.new.self.journal
-    (g.D.Disk.view c.self.inside.store.disk) (g.D.Disk.view c.reserve.new.self.disk) refl refl
+    still_standing _ _ _ _ _ _ _ _ _ _ _ _ refl refl
     c.self.invariant.in_time c.in-Err.ensures.roomier c.self.invariant
 
 pub returns-in-Err-clause-flushes : goal.returns-in-Err-clause-flushes
-returns-in-Err-clause-flushes g c = rw (← c.self.view_is) (record {
-  means = λ a seen.
-      wanting c.self.inside.memory c.self.inside.memory c.self.inside.batch c.self.inside.batch
-      c.self.inside.store.journal c.reserve.new.self.journal c.self.inside.now
-      c.self.inside.opened c.self.inside.checkpoint c.self.inside.power c.self.inside.store.disk c.reserve.new.self.disk
-      (g.D.Disk.view c.self.inside.store.disk) (g.D.Disk.view c.reserve.new.self.disk) a
-      (same_run c.self.inside.memory c.self.inside.batch) c.in-Err.ensures.roomier seen;
-  any_moment = λ a seen is_up tells.
-      up_moments _ _ _ a _ (g.met.D.Disk.lawful c.self.inside.store.disk)
-      c.in-Err.ensures.roomier.stays (seen.standing is_up);
-  rules =
-      (refl, ap (λ (i : JournalView). i.digest) c.in-Err.ensures.roomier.journal, refl, refl);
-  device =
-      device_none _ _ _ _ (g.D.Disk.view c.reserve.new.self.disk) c.in-Err.ensures.roomier _ _
-      memory_down;
-  tidy = λ _. tt;
-})
+returns-in-Err-clause-flushes g c = rw (← c.self.view_is)
+    (flush_wants c.self.inside.memory c.self.inside.batch _ _ _ _ _ _ _ _ _
+    (g.D.Disk.view c.reserve.new.self.disk) (g.met.D.Disk.lawful c.self.inside.store.disk)
+    c.in-Err.ensures.roomier _)
 
 pub invariant_of-self-in-Ok : goal.invariant_of-self-in-Ok
 invariant_of-self-in-Ok g c =
-    still_standing c.self.inside.list.now c.self.inside.memory c.self.inside.memory
-    c.self.inside.now c.self.inside.now c.self.inside.batch c.self.inside.batch
-    c.self.inside.power c.self.inside.store.journal c.reserve.new.self.journal
-    (g.D.Disk.view c.self.inside.store.disk) (g.D.Disk.view c.reserve.new.self.disk) refl refl
+    still_standing _ _ _ _ _ _ _ _ _ _ _ _ refl refl
     c.self.invariant.in_time c.in-Ok.ensures.roomier c.self.invariant
 
 pub finish-requires-clause-up : goal.finish-requires-clause-up
@@ -57,38 +38,16 @@ pub returns-in-Ok-clause-flushes : goal.returns-in-Ok-clause-flushes
 returns-in-Ok-clause-flushes g c =
     let done = c.finish.ensures in
     let some = some_held c.is_empty.result _ c.is_empty.ensures.empty c.if-is_empty.false in
-    rw (← c.self.view_is) (record {
-      means = λ a seen.
-          flush_ends c.self.inside.memory c.self.inside.batch c.self.inside.store.journal
-          c.reserve.new.self.journal c.self.inside.now c.self.inside.opened
-          c.self.inside.checkpoint c.self.inside.power c.self.inside.store.disk
-          c.reserve.new.self.disk (g.D.Disk.view c.self.inside.store.disk)
-          (g.D.Disk.view c.reserve.new.self.disk)
-          c.in-Ok.ensures.roomier a seen (power_is _ _ c.self.view_is c.requires.up)
-          c.finish.new.self (g.D.Disk.view c.finish.new.self.disk) _ c.finish.result
-          (done.finishes a);
-      any_moment = λ a seen.
-          flush_leaves c.self.inside.memory c.self.inside.batch c.self.inside.store.journal
-          c.reserve.new.self.journal c.self.inside.now c.self.inside.opened
-          c.self.inside.checkpoint c.self.inside.power c.self.inside.store.disk
-          c.reserve.new.self.disk (g.D.Disk.view c.self.inside.store.disk)
-          (g.D.Disk.view c.reserve.new.self.disk)
-          c.in-Ok.ensures.roomier a seen (g.D.Disk.view c.finish.new.self.disk)
-          (g.met.D.Disk.lawful c.self.inside.store.disk)
-          (λ up. done.any_moment a (held_of _ _ a up));
-      rules = (
-        done.rules.0,
-        done.rules.1 ∙ ap (λ (i : JournalView). i.digest) c.in-Ok.ensures.roomier.journal,
-        done.rules.2,
-        done.rules.3,
-      );
-      device =
-          calls_held c.self.inside.batch.held _ c.finish.result _
-          (g.D.Disk.view c.finish.new.self.disk) some
-          (device_before _ _ _ (g.D.Disk.view c.reserve.new.self.disk) _ c.in-Ok.ensures.roomier 4
-          c.finish.result done.device);
-      tidy = λ none. absurd (some none);
-    })
+    rw (← c.self.view_is)
+    (flush_goes c.self.inside.memory c.self.inside.batch _ c.reserve.new.self.journal _ _ _ _ _
+    c.reserve.new.self.disk _ (g.D.Disk.view c.reserve.new.self.disk)
+    (g.met.D.Disk.lawful c.self.inside.store.disk) c.in-Ok.ensures.roomier _
+    (power_is _ _ c.self.view_is c.requires.up) c.finish.new.self
+    (g.D.Disk.view c.finish.new.self.disk) c.finish.result (λ a up clock. done.finishes a up)
+    (λ a up. done.any_moment a (held_of _ _ a up)) done.rules
+    (calls_held c.self.inside.batch.held _ c.finish.result _
+    (g.D.Disk.view c.finish.new.self.disk) some done.device)
+    (λ none. absurd (some none)))
 
 pub returns-in-Err-clause-idle : goal.returns-in-Err-clause-idle
 returns-in-Err-clause-idle g c = rw (← c.self.view_is) (λ a seen none some.

@@ -1,5 +1,5 @@
 -- The frame has its document, and its load is performed; or the frames refuse it.
-use Rattle.std.proofs.Common.{◌≡◌, ◌⊎◌, inr, true, List, Some, None, Ok, map, refl, sym, ap, string_bytes, subst, ◌∙◌}
+use Rattle.std.proofs.Common.{◌≡◌, inr, true, Some, None, Ok, map, refl, sym, ap, string_bytes, subst, ◌∙◌}
 use Rattle.std.specs.Prelude.{option_map}
 use Rattle.agent_base.specs.declared.refusals.Label.{Label}
 use Rattle.agent_base.specs.Answers.{Answers}
@@ -13,17 +13,18 @@ use Rattle.reply_lines.specs.Plain.{body_of}
 use Rattle.script_actions.specs.Plain.{head_field_of}
 use Rattle.agent_model.specs.CookieUses.{frame_use}
 use Rattle.agent_model.specs.Cookies.{request}
-use Rattle.agent_model.specs.Frames.{frames_added, on_frames}
+use Rattle.agent_model.specs.Frames.{add_frame, frames_added}
 use Rattle.origin_site.specs.Site.{PlainSite}
 use Rattle.agent_memory.specs.HoldingsView.{HoldingsView, cells_of, held_of}
 use Rattle.agent_memory.specs.Requests.{IsPrepared}
-use Rattle.agent_memory.proofs.DoneLemmas.{cookies_held, frames_refused, stays_same}
+use Rattle.agent_memory.proofs.ShownLemmas.{shown}
+use Rattle.agent_memory.proofs.DoneLemmas.{cookies_held, frames_refused}
 use Rattle.agent_memory.proofs.LoadWritesLemmas.{load_written, refused_none}
-use Rattle.agent_memory.proofs.WritesLemmas.{front_same, len_items, writes_none, writes_wanting}
+use Rattle.agent_memory.proofs.WritesLemmas.{front_same, writes_none, writes_wanting}
 use Rattle.agent_memory.proofs.FoundLemmas.{frames_are, frames_found}
 use Rattle.agent_memory.proofs.FrameLemmas.{tree_added}
 use Rattle.agent_memory.proofs.InPlaceLemmas.{load_in_place, trees_in_place}
-use Rattle.agent_memory.proofs.RequestLemmas.{acts_wanting, no_parent, number_taken}
+use Rattle.agent_memory.proofs.RequestLemmas.{acts_wanting, no_parent, number_taken, prepared_stays}
 use Rattle.agent_memory.proofs.holdings.Holdings.add_frame.Goals as goal
 
 pub returns-then-not-has_document-clause-acts : goal.returns-then-not-has_document-clause-acts
@@ -31,9 +32,12 @@ returns-then-not-has_document-clause-acts c = λ tab site found top.
     let rules = c.args.list.now.rules in
     let url = plain_address c.args.url.now in
     let sandbox = option_map (λ text. string_bytes text.value) c.args.sandbox.now in
-    frames_refused c.args.at.tab tab None (λ frames. request rules c.args.now (frame_use rules site c.args.parent tab.frames url) (map head_field_of c.args.head.now))
-    (frames_added rules c.args.at c.args.parent url sandbox c.args.deny tab.frames) NoFrame (body_of c.answer.result) c.args.self.now c.args.self.now
-    (inr (no_parent rules c.args.at c.args.self.now.live.tabs tab found url c.args.parent sandbox c.args.deny (sym c.if-not-has_document.ensures.there))) (λ e. cc e) c.answer.ensures
+    frames_refused c.args.at.tab tab None (λ frames. request rules c.args.now
+    (frame_use rules site c.args.parent tab.frames url) (map head_field_of c.args.head.now))
+    (frames_added rules c.args.at c.args.parent url sandbox c.args.deny tab.frames) NoFrame
+    (body_of c.answer.result) c.args.self.now c.args.self.now
+    (inr (no_parent rules c.args.at c.args.self.now.live.tabs tab found url c.args.parent sandbox c.args.deny
+    (sym c.if-not-has_document.ensures.there))) (λ e. cc e) c.answer.ensures
     (record { held = refl; cells = refl; places = refl })
 
 pub returns-then-has_document-clause-acts : goal.returns-then-has_document-clause-acts
@@ -41,9 +45,12 @@ returns-then-has_document-clause-acts c = λ tab site found top.
     let rules = c.args.list.now.rules in
     let url = plain_address c.args.url.now in
     let sandbox = option_map (λ text. string_bytes text.value) c.args.sandbox.now in
-    frames_refused c.args.at.tab tab None (λ frames. request rules c.args.now (frame_use rules site c.args.parent tab.frames url) (map head_field_of c.args.head.now))
-    (frames_added rules c.args.at c.args.parent url sandbox c.args.deny tab.frames) FrameExists (body_of c.answer-then-has_document.result) c.args.self.now c.args.self.now
-    (inr (number_taken rules c.args.at c.args.self.now.live.tabs tab found url c.args.parent sandbox c.args.deny (sym c.if-not-has_document.ensures.there) (sym c.if-has_document.ensures.there)))
+    frames_refused c.args.at.tab tab None (λ frames. request rules c.args.now
+    (frame_use rules site c.args.parent tab.frames url) (map head_field_of c.args.head.now))
+    (frames_added rules c.args.at c.args.parent url sandbox c.args.deny tab.frames) FrameExists
+    (body_of c.answer-then-has_document.result) c.args.self.now c.args.self.now
+    (inr (number_taken rules c.args.at c.args.self.now.live.tabs tab found url c.args.parent sandbox
+    c.args.deny (sym c.if-not-has_document.ensures.there) (sym c.if-has_document.ensures.there)))
     (λ e. cc e) c.answer-then-has_document.ensures (record { held = refl; cells = refl; places = refl })
 
 pub prepare_below-requires-clause-there : goal.prepare_below-requires-clause-there
@@ -51,18 +58,17 @@ prepare_below-requires-clause-there c =
     let at : Label = record { tab = c.args.at.tab; frame = c.args.parent } in
     let here : has_document c.self.inside.live.tabs at ≡ true =
     ap (λ (h : HoldingsView). has_document h.live.tabs at) c.self.view_is ∙ sym c.if-not-has_document.ensures.there in
-    ap (has_frame c.args.parent) (sym (frames_found (tab_at c.args.at.tab c.self.inside.live.tabs) c.open_tab-tab.result.now (sym c.open_tab-tab.ensures.tab))) ∙ here
+    ap (has_frame c.args.parent) (sym (frames_found (tab_at c.args.at.tab c.self.inside.live.tabs)
+    c.open_tab-tab.result.now (sym c.open_tab-tab.ensures.tab))) ∙ here
 
 pub returns-in_err-prepared-clause-acts : goal.returns-in_err-prepared-clause-acts
 returns-in_err-prepared-clause-acts c = rw (← c.self.view_is) (λ tab site found top.
-    let rules = c.args.list.now.rules in
-    let url = plain_address c.args.url.now in
-    let sandbox = option_map (λ text. string_bytes text.value) c.args.sandbox.now in
-    let old : HoldingsView = record { live = c.self.inside.live; storage = c.self.inside.storage; cookies = c.self.inside.cookies; grants = c.self.inside.grants.rows } in
-    let mid : HoldingsView = record { live = c.self.inside.live; storage = c.self.inside.storage; cookies = c.prepare_below.new.cookies; grants = c.self.inside.grants.rows } in
-    let same = frames_are (tab_at c.args.at.tab old.live.tabs) c.open_tab-tab.result.now tab (sym c.open_tab-tab.ensures.tab) found in
-    acts_wanting (on_frames c.args.at.tab tab None (λ frames. request rules c.args.now (frame_use rules site c.args.parent tab.frames url) (map head_field_of c.args.head.now)) (frames_added rules c.args.at c.args.parent url sandbox c.args.deny tab.frames)) old mid
-    c.from_residual.result c.from_residual.ensures.0 (stays_same old mid refl refl refl (c.in_err-prepared.ensures.prepared site (subst (λ f. top_site f ≡ Some site) same top)).keeps))
+    acts_wanting (add_frame c.args.list.now.rules c.args.now site c.args.at c.args.parent (plain_address c.args.url.now)
+    (option_map (λ text. string_bytes text.value) c.args.sandbox.now) c.args.deny
+    (map head_field_of c.args.head.now) tab) (shown c.self.inside)
+    (record (shown c.self.inside) { cookies = c.prepare_below.new.cookies }) c.from_residual.result c.from_residual.ensures.0
+    (prepared_stays (shown c.self.inside) c.prepare_below.new.cookies c.args.at.tab c.open_tab-tab.result.now tab site
+    (sym c.open_tab-tab.ensures.tab) found top (λ site top. (c.in_err-prepared.ensures.prepared site top).keeps)))
 
 pub invariant_of-self-2 : goal.invariant_of-self-2
 invariant_of-self-2 c =
@@ -70,19 +76,22 @@ invariant_of-self-2 c =
     let url = plain_address c.args.url.now in
     let sandbox = option_map (λ text. string_bytes text.value) c.args.sandbox.now in
     let frames = frames_at c.args.at.tab c.self.inside.live.tabs in
-    trees_in_place c.args.at.tab None c.self.inside.live c.add-done.new.live (frames_added rules c.args.at c.args.parent url sandbox c.args.deny frames) c.add-done.result c.add-done.ensures.answer c.add-done.ensures.put
-    c.add-done.ensures.unchanged (ap (λ (h : HoldingsView). is_open c.args.at.tab h.live.tabs) c.self.view_is ∙ c.requires.«open») (λ tree. tree_added frames tree rules c.args.at c.args.parent url sandbox c.args.deny c.add-done.ensures.number) c.self.invariant
+    trees_in_place c.args.at.tab None c.self.inside.live c.add-done.new.live
+    (frames_added rules c.args.at c.args.parent url sandbox c.args.deny frames)
+    c.add-done.result c.add-done.ensures.answer c.add-done.ensures.put
+    c.add-done.ensures.unchanged (ap (λ (h : HoldingsView). is_open c.args.at.tab h.live.tabs) c.self.view_is
+    ∙ c.requires.«open») (λ tree. tree_added frames tree rules c.args.at c.args.parent url sandbox
+    c.args.deny c.add-done.ensures.number) c.self.invariant
 
 pub returns-in_err-write_rows-clause-acts : goal.returns-in_err-write_rows-clause-acts
 returns-in_err-write_rows-clause-acts c = rw (← c.self.view_is) (λ tab site found top.
-    let rules = c.args.list.now.rules in
-    let url = plain_address c.args.url.now in
-    let sandbox = option_map (λ text. string_bytes text.value) c.args.sandbox.now in
-    let old : HoldingsView = record { live = c.self.inside.live; storage = c.self.inside.storage; cookies = c.self.inside.cookies; grants = c.self.inside.grants.rows } in
-    let mid : HoldingsView = record { live = c.self.inside.live; storage = c.self.inside.storage; cookies = c.prepare_below.new.cookies; grants = c.self.inside.grants.rows } in
-    let same = frames_are (tab_at c.args.at.tab old.live.tabs) c.open_tab-tab.result.now tab (sym c.open_tab-tab.ensures.tab) found in
-    acts_wanting (on_frames c.args.at.tab tab None (λ frames. request rules c.args.now (frame_use rules site c.args.parent tab.frames url) (map head_field_of c.args.head.now)) (frames_added rules c.args.at c.args.parent url sandbox c.args.deny tab.frames)) old mid
-    c.from_residual-in_err-write_rows.result c.from_residual-in_err-write_rows.ensures.0 (stays_same old mid refl refl refl (c.in_ok-prepared.ensures.prepared site (subst (λ f. top_site f ≡ Some site) same top)).keeps))
+    acts_wanting (add_frame c.args.list.now.rules c.args.now site c.args.at c.args.parent (plain_address c.args.url.now)
+    (option_map (λ text. string_bytes text.value) c.args.sandbox.now) c.args.deny
+    (map head_field_of c.args.head.now) tab) (shown c.self.inside)
+    (record (shown c.self.inside) { cookies = c.prepare_below.new.cookies })
+    c.from_residual-in_err-write_rows.result c.from_residual-in_err-write_rows.ensures.0
+    (prepared_stays (shown c.self.inside) c.prepare_below.new.cookies c.args.at.tab c.open_tab-tab.result.now tab site
+    (sym c.open_tab-tab.ensures.tab) found top (λ site top. (c.in_ok-prepared.ensures.prepared site top).keeps)))
 
 pub returns : goal.returns
 returns c = rw (← c.self.view_is) (
@@ -90,31 +99,47 @@ returns c = rw (← c.self.view_is) (
     let url = plain_address c.args.url.now in
     let head = map head_field_of c.args.head.now in
     let sandbox = option_map (λ text. string_bytes text.value) c.args.sandbox.now in
-    let old : HoldingsView = record { live = c.self.inside.live; storage = c.self.inside.storage; cookies = c.self.inside.cookies; grants = c.self.inside.grants.rows } in
-    let new : HoldingsView = record { live = c.add-done.new.live; storage = c.self.inside.storage; cookies = c.load_answer.new.cookies; grants = c.self.inside.grants.rows } in
+    let old : HoldingsView = shown c.self.inside in
+    let new : HoldingsView = record (shown c.self.inside) { live = c.add-done.new.live; cookies = c.load_answer.new.cookies } in
     let own = c.prepare_below.new.cookies in
-    let prepared : (tab : PlainTab) (site : PlainSite) → tab_at c.args.at.tab old.live.tabs ≡ Some tab → top_site tab.frames ≡ Some site
-    → IsPrepared rules c.args.now (frame_use rules site c.args.parent tab.frames url) head old.cookies own (Ok c.in_ok-prepared.prepared) =
+    let prepared : (tab : PlainTab) (site : PlainSite) → tab_at c.args.at.tab old.live.tabs ≡ Some tab
+    → top_site tab.frames ≡ Some site
+    → IsPrepared rules c.args.now (frame_use rules site c.args.parent tab.frames url) head old.cookies own
+    (Ok c.in_ok-prepared.prepared) =
     λ tab site found top.
-    let same = frames_are (tab_at c.args.at.tab old.live.tabs) c.open_tab-tab.result.now tab (sym c.open_tab-tab.ensures.tab) found in
-    subst (λ f. IsPrepared rules c.args.now (frame_use rules site c.args.parent f url) head old.cookies own (Ok c.in_ok-prepared.prepared)) (sym same)
+    let same = frames_are (tab_at c.args.at.tab old.live.tabs) c.open_tab-tab.result.now tab
+    (sym c.open_tab-tab.ensures.tab) found in
+    subst (λ f. IsPrepared rules c.args.now (frame_use rules site c.args.parent f url) head old.cookies own
+    (Ok c.in_ok-prepared.prepared)) (sym same)
     (c.in_ok-prepared.ensures.prepared site (subst (λ f. top_site f ≡ Some site) same top)) in
     let answered : (tab : PlainTab) → tab_at c.args.at.tab old.live.tabs ≡ Some tab
-    → Answers (λ _. frames_at c.args.at.tab new.live.tabs) NoMemory (frames_added rules c.args.at c.args.parent url sandbox c.args.deny tab.frames) c.add-done.result =
+    → Answers (λ _. frames_at c.args.at.tab new.live.tabs) NoMemory
+    (frames_added rules c.args.at c.args.parent url sandbox c.args.deny tab.frames) c.add-done.result =
     λ tab found.
-    subst (λ r. Answers (λ _. frames_at c.args.at.tab new.live.tabs) NoMemory r c.add-done.result) (ap (λ t. frames_added rules c.args.at c.args.parent url sandbox c.args.deny (frames_by t)) found) c.add-done.ensures.answer in
+    subst (λ r. Answers (λ _. frames_at c.args.at.tab new.live.tabs) NoMemory r c.add-done.result)
+    (ap (λ t. frames_added rules c.args.at c.args.parent url sandbox c.args.deny (frames_by t)) found)
+    c.add-done.ensures.answer in
     record {
       acts = λ tab site found top.
           let ready = prepared tab site found top in
-          load_in_place c.args.at.tab None (request rules c.args.now (frame_use rules site c.args.parent tab.frames url) head) c.in_ok-prepared.prepared own old new (frames_added rules c.args.at c.args.parent url sandbox c.args.deny tab.frames) refl refl ready.keeps ready.ready
+          load_in_place c.args.at.tab None (request rules c.args.now
+          (frame_use rules site c.args.parent tab.frames url) head) c.in_ok-prepared.prepared own old new
+          (frames_added rules c.args.at c.args.parent url sandbox c.args.deny tab.frames) refl refl ready.keeps ready.ready
           c.add-done.ensures.site c.add-done.result (answered tab found)
           c.add-done.ensures.put c.add-done.ensures.unchanged tab found c.load_answer.result c.load_answer.ensures.performed;
       limit = c.cut_refused.ensures.limit ∙ c.write_rows.ensures.limit;
       changes = λ tab site found top.
           let ready = prepared tab site found top in
-          load_written c.args.at.tab tab None (cells_of old) (held_of old) (request rules c.args.now (frame_use rules site c.args.parent tab.frames url) head) c.in_ok-prepared.prepared old.cookies own new.cookies
-          (frames_added rules c.args.at c.args.parent url sandbox c.args.deny tab.frames) (frames_at c.args.at.tab new.live.tabs) c.len-before.result c.args.body.now.bytes c.write_rows.new.body.bytes c.cut_refused.new.body.bytes c.len-before.ensures.len
-          (cookies_held old.live.tabs old.cookies old.grants old.storage) refl ready.keeps ready.ready c.in_ok-write_rows.ensures.rows c.in_ok-write_rows.ensures.front c.add-done.result (answered tab found)
+          load_written c.args.at.tab tab None (cells_of old) (held_of old)
+          (request rules c.args.now (frame_use rules site c.args.parent tab.frames url) head)
+          c.in_ok-prepared.prepared old.cookies own new.cookies
+          (frames_added rules c.args.at c.args.parent url sandbox c.args.deny tab.frames)
+          (frames_at c.args.at.tab new.live.tabs)
+          c.len-before.result c.args.body.now.bytes c.write_rows.new.body.bytes
+          c.cut_refused.new.body.bytes c.len-before.ensures.len
+          (cookies_held old.live.tabs old.cookies old.grants old.storage)
+          refl ready.keeps ready.ready c.in_ok-write_rows.ensures.rows c.in_ok-write_rows.ensures.front
+          c.add-done.result (answered tab found)
           c.cut_refused.ensures.kept c.cut_refused.ensures.cut c.load_answer.result c.load_answer.ensures.performed;
     })
 
@@ -124,9 +149,12 @@ returns-then-not-has_document-clause-changes c = λ tab site found top.
     let url = plain_address c.args.url.now in
     let sandbox = option_map (λ text. string_bytes text.value) c.args.sandbox.now in
     let old = c.args.self.now in
-    writes_none _ (refused_none c.args.at.tab tab None (cells_of old) (held_of old) (λ frames. request rules c.args.now (frame_use rules site c.args.parent tab.frames url) (map head_field_of c.args.head.now))
+    writes_none _ (refused_none c.args.at.tab tab None (cells_of old) (held_of old)
+    (λ frames. request rules c.args.now (frame_use rules site c.args.parent tab.frames url)
+    (map head_field_of c.args.head.now))
     (frames_added rules c.args.at c.args.parent url sandbox c.args.deny tab.frames) NoFrame
-    (no_parent rules c.args.at old.live.tabs tab found url c.args.parent sandbox c.args.deny (sym c.if-not-has_document.ensures.there))) c.args.body.now.bytes (Ok c.answer.result)
+    (no_parent rules c.args.at old.live.tabs tab found url c.args.parent sandbox c.args.deny
+    (sym c.if-not-has_document.ensures.there))) c.args.body.now.bytes (Ok c.answer.result)
 
 pub returns-then-has_document-clause-changes : goal.returns-then-has_document-clause-changes
 returns-then-has_document-clause-changes c = λ tab site found top.
@@ -134,12 +162,19 @@ returns-then-has_document-clause-changes c = λ tab site found top.
     let url = plain_address c.args.url.now in
     let sandbox = option_map (λ text. string_bytes text.value) c.args.sandbox.now in
     let old = c.args.self.now in
-    writes_none _ (refused_none c.args.at.tab tab None (cells_of old) (held_of old) (λ frames. request rules c.args.now (frame_use rules site c.args.parent tab.frames url) (map head_field_of c.args.head.now))
+    writes_none _ (refused_none c.args.at.tab tab None (cells_of old) (held_of old)
+    (λ frames. request rules c.args.now (frame_use rules site c.args.parent tab.frames url)
+    (map head_field_of c.args.head.now))
     (frames_added rules c.args.at c.args.parent url sandbox c.args.deny tab.frames) FrameExists
-    (number_taken rules c.args.at old.live.tabs tab found url c.args.parent sandbox c.args.deny (sym c.if-not-has_document.ensures.there) (sym c.if-has_document.ensures.there))) c.args.body.now.bytes (Ok c.answer-then-has_document.result)
+    (number_taken rules c.args.at old.live.tabs tab found url c.args.parent sandbox c.args.deny
+    (sym c.if-not-has_document.ensures.there) (sym c.if-has_document.ensures.there)))
+    c.args.body.now.bytes (Ok c.answer-then-has_document.result)
 
 pub returns-in_err-prepared-clause-changes : goal.returns-in_err-prepared-clause-changes
-returns-in_err-prepared-clause-changes c = λ tab site found top. writes_wanting _ c.args.body.now.bytes c.args.body.now.bytes c.from_residual.result c.from_residual.ensures.0 (front_same c.args.body.now.bytes)
+returns-in_err-prepared-clause-changes c = λ tab site found top. writes_wanting _ c.args.body.now.bytes
+    c.args.body.now.bytes c.from_residual.result c.from_residual.ensures.0 (front_same c.args.body.now.bytes)
 
 pub returns-in_err-write_rows-clause-changes : goal.returns-in_err-write_rows-clause-changes
-returns-in_err-write_rows-clause-changes c = λ tab site found top. writes_wanting _ c.args.body.now.bytes c.write_rows.new.body.bytes c.from_residual-in_err-write_rows.result c.from_residual-in_err-write_rows.ensures.0 c.in_err-write_rows.ensures.front
+returns-in_err-write_rows-clause-changes c = λ tab site found top. writes_wanting _ c.args.body.now.bytes
+    c.write_rows.new.body.bytes c.from_residual-in_err-write_rows.result
+    c.from_residual-in_err-write_rows.ensures.0 c.in_err-write_rows.ensures.front

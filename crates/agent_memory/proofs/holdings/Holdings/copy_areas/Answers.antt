@@ -24,9 +24,11 @@ returns-clause-held c =
     let from = c.in-Some.opener in
     let found = tab_at from old.live.tabs in
     let placed : Some (plain_site c.in_ok-site.site) ≡ top_site (frames_by found) =
-    ap Some c.in_ok-site.ensures.same ∙ sym c.top_site.ensures.site ∙ ap top_site (sym (frames_found found c.tab.result.now (sym c.tab.ensures.tab))) in
+    ap Some c.in_ok-site.ensures.same ∙ sym c.top_site.ensures.site
+    ∙ ap top_site (sym (frames_found found c.tab.result.now (sym c.tab.ensures.tab))) in
     on_ok_weaker c.copy_tab.result
-    (λ copied. copied ∙ ap (λ (h : HoldingsView). copy_sessions (plain_site c.in_ok-site.site) from c.args.tab (held_of h)) c.self.view_is
+    (λ copied. copied ∙ ap (λ (h : HoldingsView). copy_sessions (plain_site c.in_ok-site.site) from c.args.tab
+    (held_of h)) c.self.view_is
     ∙ ap (λ here. copied_under here from c.args.tab (held_of old)) placed
     ∙ ap (λ opener. with_copies opener c.args.tab old.live.tabs (held_of old)) (sym c.in-Some.is))
     (c.copy_tab.ensures.copied (beside_storage c.self.inside.live.tabs c.self.inside.cookies c.self.inside.grants.rows))

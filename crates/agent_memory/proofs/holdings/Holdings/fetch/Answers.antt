@@ -72,7 +72,7 @@ returns c = rw (← c.self.view_is) (
     subst (λ f. IsPrepared rules c.args.now (fetch_use rules site c.args.at.frame f url c.args.method) head old.cookies mid.cookies (Ok c.in_ok-prepared.prepared)) (sym frames)
     (subst (λ granted. let chain = chain_of c.args.at.frame c.open_tab-tab.result.now in
     IsPrepared rules c.args.now (request_use rules site chain chain url c.args.method granted) head old.cookies mid.cookies (Ok c.in_ok-prepared.prepared))
-    c.in_ok-granted.ensures (c.in_ok-prepared.ensures.prepared site (subst (λ f. top_site f ≡ Some site) frames top))) in
+    c.in_ok-granted.ensures.granted (c.in_ok-prepared.ensures.prepared site (subst (λ f. top_site f ≡ Some site) frames top))) in
     record {
       acts = λ tab site found top.
           let does = request rules c.args.now (fetch_use rules site c.args.at.frame tab.frames url c.args.method) head in

@@ -4,7 +4,8 @@ use Rattle.frame_tree.specs.Plain.{plain_document}
 use Rattle.frame_tree.specs.Tree.{PlainFrame, has_frame}
 use Rattle.live_state.specs.Tabs.{tab_at}
 use Rattle.live_state.proofs.ListLemmas.{is_some-map}
-use Rattle.agent_memory.proofs.FoundLemmas.{document_there, frames_found}
+use Rattle.line_events.proofs.CellLemmas.{document_there}
+use Rattle.agent_memory.proofs.FoundLemmas.{frames_found}
 use Rattle.agent_memory.proofs.holdings.Holdings.has_document.Goals as goal
 
 pub returns : goal.returns
@@ -14,5 +15,6 @@ returns c =
       there = c.is_some.ensures
           ∙ sym (is_some-map (λ d. d.now) c.document.result) ∙ sym (is_some-map plain_document (option_copied c.document.result))
           ∙ ap is_some c.document.ensures.document ∙ document_there c.args.at.frame tab
-          ∙ sym (ap (has_frame c.args.at.frame) (frames_found (tab_at c.args.at.tab c.args.self.now.live.tabs) tab (sym c.tab.ensures.tab)));
+          ∙ sym (ap (has_frame c.args.at.frame) (frames_found (tab_at c.args.at.tab c.args.self.now.live.tabs)
+          tab (sym c.tab.ensures.tab)));
     }

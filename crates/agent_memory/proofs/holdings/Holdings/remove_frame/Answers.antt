@@ -2,6 +2,7 @@
 use Rattle.std.proofs.Common.{None, refl, ap, ◌∙◌}
 use Rattle.agent_model.specs.Done.{ok}
 use Rattle.agent_model.specs.Frames.{frames_removed}
+use Rattle.agent_memory.proofs.ShownLemmas.{shown}
 use Rattle.agent_memory.proofs.FrameLemmas.{tree_removed}
 use Rattle.live_state.specs.FramesInPlace.{frames_at}
 use Rattle.live_state.specs.Queues.{frames_by}
@@ -14,20 +15,25 @@ use Rattle.agent_memory.proofs.holdings.Holdings.remove_frame.Goals as goal
 
 pub invariant_of-self : goal.invariant_of-self
 invariant_of-self c =
-    let old : HoldingsView = record { live = c.self.inside.live; storage = c.self.inside.storage; cookies = c.self.inside.cookies; grants = c.self.inside.grants.rows } in
-    let new : HoldingsView = record { live = c.remove-done.new.live; storage = c.self.inside.storage; cookies = c.self.inside.cookies; grants = c.self.inside.grants.rows } in
+    let old : HoldingsView = shown c.self.inside in
+    let new : HoldingsView = record (shown c.self.inside) { live = c.remove-done.new.live } in
     let frames = frames_at c.args.at.tab old.live.tabs in
-    trees_in_place c.args.at.tab None old.live new.live (frames_removed c.args.at frames) c.remove-done.result c.remove-done.ensures.answer c.remove-done.ensures.put c.remove-done.ensures.unchanged
-    (ap (λ (h : HoldingsView). is_open c.args.at.tab h.live.tabs) c.self.view_is ∙ c.requires.«open») (λ tree. tree_removed frames tree c.args.at) c.self.invariant
+    trees_in_place c.args.at.tab None old.live new.live (frames_removed c.args.at frames)
+    c.remove-done.result c.remove-done.ensures.answer c.remove-done.ensures.put c.remove-done.ensures.unchanged
+    (ap (λ (h : HoldingsView). is_open c.args.at.tab h.live.tabs) c.self.view_is ∙ c.requires.«open»)
+    (λ tree. tree_removed frames tree c.args.at) c.self.invariant
 
 pub returns : goal.returns
 returns c = rw (← c.self.view_is) (record {
   acts = λ tab site found top.
-      let old : HoldingsView = record { live = c.self.inside.live; storage = c.self.inside.storage; cookies = c.self.inside.cookies; grants = c.self.inside.grants.rows } in
-      let new : HoldingsView = record { live = c.remove-done.new.live; storage = c.self.inside.storage; cookies = c.self.inside.cookies; grants = c.self.inside.grants.rows } in
+      let old : HoldingsView = shown c.self.inside in
+      let new : HoldingsView = record (shown c.self.inside) { live = c.remove-done.new.live } in
       let frames = frames_at c.args.at.tab old.live.tabs in
-      frames_as c.args.at.tab tab None (body_of c.answer.result) ok (frames_removed c.args.at frames) (frames_removed c.args.at tab.frames) old new c.frames_answer.result c.answer.ensures
+      frames_as c.args.at.tab tab None (body_of c.answer.result) ok (frames_removed c.args.at frames)
+      (frames_removed c.args.at tab.frames) old new c.frames_answer.result c.answer.ensures
       (ap (λ t. frames_removed c.args.at (frames_by t)) found)
-      (acts_in_place c.args.at.tab None old new (frames_removed c.args.at frames) refl refl (no_change c.self.inside.cookies) c.remove-done.ensures.site c.remove-done.result c.remove-done.ensures.answer c.remove-done.ensures.put c.remove-done.ensures.unchanged
+      (acts_in_place c.args.at.tab None old new (frames_removed c.args.at frames) refl refl
+      (no_change c.self.inside.cookies) c.remove-done.ensures.site c.remove-done.result
+      c.remove-done.ensures.answer c.remove-done.ensures.put c.remove-done.ensures.unchanged
       tab found (body_of c.answer.result) c.frames_answer.result c.frames_answer.ensures.answered);
 })

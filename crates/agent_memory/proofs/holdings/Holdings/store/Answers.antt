@@ -17,9 +17,10 @@ use Rattle.agent_model.specs.Done.{Done}
 use Rattle.agent_memory.specs.Documents.{each_sent}
 use Rattle.agent_memory.specs.FrameTrees.{AreTrees}
 use Rattle.agent_memory.specs.HoldingsView.{HoldingsView, cells_of, held_of}
+use Rattle.agent_memory.proofs.ShownLemmas.{shown}
 use Rattle.agent_memory.proofs.TreeLemmas.{trees_after_send}
 use Rattle.agent_memory.proofs.WriteLemmas.{events_ready, is_past, is_refused, is_stored, is_within, is_written, refused_is, stored_is}
-use Rattle.agent_memory.proofs.WritesLemmas.{appended_front, cut_back, front_same, len_items, none_appended, writes_wanting}
+use Rattle.agent_memory.proofs.WritesLemmas.{appended_front, cut_back, front_same, none_appended, writes_wanting}
 use Rattle.agent_memory.proofs.holdings.Holdings.store.Goals as goal
 
 pub send-requires : goal.send-requires
@@ -43,31 +44,40 @@ returns-in-Ok c =
     let name = c.args.name.now in
     let value = c.args.value.now in
     let old : HoldingsView = c.args.self.now in
-    let mid : HoldingsView = record { live = c.reserve_queues.new.self; storage = c.self.inside.storage; cookies = c.self.inside.cookies; grants = c.self.inside.grants.rows } in
-    let writer_of : PlainDocument → Keyed = λ document. record { at = c.args.at; document = document; key = plain_key c.args.key.now } in
-    let pairs_with : PlainDocument → Entries → List Pair = λ document entries. pairs_of area (writer_of document) (held_with (beside_storage old.live.tabs old.cookies old.grants) entries) in
+    let mid : HoldingsView = record (shown c.self.inside) { live = c.reserve_queues.new.self } in
+    let writer_of : PlainDocument → Keyed = λ document.
+    record { at = c.args.at; document = document; key = plain_key c.args.key.now } in
+    let pairs_with : PlainDocument → Entries → List Pair = λ document entries. pairs_of area
+    (writer_of document) (held_with (beside_storage old.live.tabs old.cookies old.grants) entries) in
     let entries : mid.storage ≡ old.storage = ap (λ (h : HoldingsView). h.storage) c.self.view_is in
     let put : area_put (string_bytes c.in_ok-name.name) (string_bytes c.in_ok-value.value) ≡ area_put name value =
     λ i. area_put (c.in_ok-name.ensures.ok i) (c.in_ok-value.ensures.ok i) in
-    let within : (document : PlainDocument) → area_weight (area_put name value (pairs_of area (writer_of document) (held_of old))) ≤ quota =
+    let within : (document : PlainDocument) → area_weight (area_put name value
+    (pairs_of area (writer_of document) (held_of old))) ≤ quota =
     λ document. subst (λ pairs. area_weight pairs ≤ quota) (λ i. put i (pairs_with document (entries i)))
-    (is_within c.in-Ok.field-0 (area_weight (area_put (string_bytes c.in_ok-name.name) (string_bytes c.in_ok-value.value) (pairs_with document mid.storage)))
+    (is_within c.in-Ok.field-0 (area_weight (area_put (string_bytes c.in_ok-name.name)
+    (string_bytes c.in_ok-value.value) (pairs_with document mid.storage)))
     (c.in-Ok.ensures.quota (beside_storage old.live.tabs old.cookies old.grants))) in
     record {
       acts = λ made these document there.
           let event : PlainEvent = record made { area = area } in
-          is_stored area (writer_of document) (area_put name value (pairs_of area (writer_of document) (held_of old))) event (cells_of old) (held_of old) old _ _ (within document)
-          (is_written event (writer_of document) (area_put name value) _ _ c.self.view_is c.self.invariant c.requires.rising c.reserve_queues.new.self c.reserve_queues.ensures.same.0
+          is_stored area (writer_of document) (area_put name value
+          (pairs_of area (writer_of document) (held_of old))) event (cells_of old) (held_of old) old _ _ (within document)
+          (is_written event (writer_of document) (area_put name value)
+          _ _ c.self.view_is c.self.invariant c.requires.rising c.reserve_queues.new.self c.reserve_queues.ensures.same.0
           (these ∙ ap (each_sent event) c.requires.hearers) c.send.ensures.sent
           (subst (λ put. (beside : Holdings) → let before = held_with beside mid.storage in
-          held_with beside c.put.new.self ≡ with_area area c.args.at.tab (plain_key c.args.key.now) (put (area_of area c.args.at.tab (plain_key c.args.key.now) before)) before)
+          held_with beside c.put.new.self ≡ with_area area c.args.at.tab (plain_key c.args.key.now)
+          (put (area_of area c.args.at.tab (plain_key c.args.key.now) before)) before)
           put c.in-Ok.ensures.stored)
           c.answer.ensures);
       limit = c.write_in.ensures.limit;
       changes = λ made document there.
           let event : PlainEvent = record made { key = Some name; after = Some value } in
           subst (λ (d : Done). IsAppended d.changes c.args.body.now.bytes c.write_in.new.body.bytes)
-          (sym (stored_is area (writer_of document) (area_put name value (pairs_of area (writer_of document) (held_of old))) event (cells_of old) (held_of old) (within document)))
+          (sym (stored_is area (writer_of document)
+          (area_put name value (pairs_of area (writer_of document) (held_of old))) event (cells_of old)
+          (held_of old) (within document)))
           c.in_ok-write_in.ensures.changes;
     }
 
@@ -77,25 +87,35 @@ returns-in-Err-Quota c =
     let name = c.args.name.now in
     let value = c.args.value.now in
     let old : HoldingsView = c.args.self.now in
-    let mid : HoldingsView = record { live = c.reserve_queues.new.self; storage = c.self.inside.storage; cookies = c.self.inside.cookies; grants = c.self.inside.grants.rows } in
-    let writer_of : PlainDocument → Keyed = λ document. record { at = c.args.at; document = document; key = plain_key c.args.key.now } in
-    let pairs_with : PlainDocument → Entries → List Pair = λ document entries. pairs_of area (writer_of document) (held_with (beside_storage old.live.tabs old.cookies old.grants) entries) in
+    let mid : HoldingsView = record (shown c.self.inside) { live = c.reserve_queues.new.self } in
+    let writer_of : PlainDocument → Keyed = λ document.
+    record { at = c.args.at; document = document; key = plain_key c.args.key.now } in
+    let pairs_with : PlainDocument → Entries → List Pair = λ document entries. pairs_of area
+    (writer_of document) (held_with (beside_storage old.live.tabs old.cookies old.grants) entries) in
     let entries : mid.storage ≡ old.storage = ap (λ (h : HoldingsView). h.storage) c.self.view_is in
     let own : mid.cookies ≡ old.cookies = ap (λ (h : HoldingsView). h.cookies) c.self.view_is in
     let rows : mid.grants ≡ old.grants = ap (λ (h : HoldingsView). h.grants) c.self.view_is in
-    let tabs : mid.live.tabs ≡ old.live.tabs = c.reserve_queues.ensures.same.0 ∙ ap (λ (h : HoldingsView). h.live.tabs) c.self.view_is in
+    let tabs : mid.live.tabs ≡ old.live.tabs = c.reserve_queues.ensures.same.0
+    ∙ ap (λ (h : HoldingsView). h.live.tabs) c.self.view_is in
     let put : area_put (string_bytes c.in_ok-name.name) (string_bytes c.in_ok-value.value) ≡ area_put name value =
     λ i. area_put (c.in_ok-name.ensures.ok i) (c.in_ok-value.ensures.ok i) in
-    let past : (document : PlainDocument) → quota < area_weight (area_put name value (pairs_of area (writer_of document) (held_of old))) =
+    let past : (document : PlainDocument) → quota < area_weight
+    (area_put name value (pairs_of area (writer_of document) (held_of old))) =
     λ document. subst (λ pairs. quota < area_weight pairs) (λ i. put i (pairs_with document (entries i)))
-    (is_past c.in-Err-Quota.field-0 c.in-Err-Quota.field-0-0 (area_weight (area_put (string_bytes c.in_ok-name.name) (string_bytes c.in_ok-value.value) (pairs_with document mid.storage)))
-    c.in-Err-Quota.field-0-is (c.in-Err-Quota.ensures.causes (beside_storage old.live.tabs old.cookies old.grants)) (c.in-Err-Quota.ensures.quota (beside_storage old.live.tabs old.cookies old.grants))) in
+    (is_past c.in-Err-Quota.field-0 c.in-Err-Quota.field-0-0
+    (area_weight (area_put (string_bytes c.in_ok-name.name) (string_bytes c.in_ok-value.value)
+    (pairs_with document mid.storage)))
+    c.in-Err-Quota.field-0-is (c.in-Err-Quota.ensures.causes
+    (beside_storage old.live.tabs old.cookies old.grants))
+    (c.in-Err-Quota.ensures.quota (beside_storage old.live.tabs old.cookies old.grants))) in
     record {
       acts = λ made these document there.
           let event : PlainEvent = record made { area = area } in
-          is_refused area (writer_of document) (area_put name value (pairs_of area (writer_of document) (held_of old))) event (cells_of old) (held_of old) old _ _ (past document)
+          is_refused area (writer_of document) (area_put name value
+          (pairs_of area (writer_of document) (held_of old))) event (cells_of old) (held_of old) old _ _ (past document)
           (record {
-            held = (λ i. held_with (beside_storage (tabs i) (own i) (rows i)) c.put.new.self) ∙ c.in-Err-Quota.ensures.unchanged (beside_storage old.live.tabs old.cookies old.grants)
+            held = (λ i. held_with (beside_storage (tabs i) (own i) (rows i)) c.put.new.self)
+                ∙ c.in-Err-Quota.ensures.unchanged (beside_storage old.live.tabs old.cookies old.grants)
                 ∙ ap (held_with (beside_storage old.live.tabs old.cookies old.grants)) entries;
             cells = ap shared_in own;
             answer = c.answer-in-Err-Quota.ensures;
@@ -107,11 +127,15 @@ returns-in-Err-Quota c =
           let before = c.args.body.now.bytes in
           let cut : c.truncate.new.self.bytes ≡ before =
           c.truncate.ensures.bytes ∙ ap (λ n. take n c.write_in.new.body.bytes) c.len-before.ensures.len
-          ∙ cut_back before c.write_in.new.body.bytes (appended_front _ before c.write_in.new.body.bytes c.in_ok-write_in.ensures.changes) in
+          ∙ cut_back before c.write_in.new.body.bytes
+          (appended_front _ before c.write_in.new.body.bytes c.in_ok-write_in.ensures.changes) in
           subst (λ (d : Done). IsAppended d.changes before c.truncate.new.self.bytes)
-          (sym (refused_is area (writer_of document) (area_put name value (pairs_of area (writer_of document) (held_of old))) event (cells_of old) (held_of old) (past document)))
+          (sym (refused_is area (writer_of document)
+          (area_put name value (pairs_of area (writer_of document) (held_of old))) event (cells_of old)
+          (held_of old) (past document)))
           (subst (λ end. IsAppended [] before end) (sym cut) (none_appended before));
     }
 
 pub returns-in_err-reserve_queues-clause-changes : goal.returns-in_err-reserve_queues-clause-changes
-returns-in_err-reserve_queues-clause-changes c = λ made document there. writes_wanting _ c.args.body.now.bytes c.args.body.now.bytes c.from_residual.result c.from_residual.ensures.0 (front_same c.args.body.now.bytes)
+returns-in_err-reserve_queues-clause-changes c = λ made document there. writes_wanting _ c.args.body.now.bytes
+    c.args.body.now.bytes c.from_residual.result c.from_residual.ensures.0 (front_same c.args.body.now.bytes)

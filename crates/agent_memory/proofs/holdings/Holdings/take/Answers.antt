@@ -11,7 +11,8 @@ use Rattle.agent_memory.proofs.holdings.Holdings.take.Goals as goal
 
 pub invariant_of-self : goal.invariant_of-self
 invariant_of-self c =
-    subst (λ tabs. AreTrees tabs) (sym c.take_events-events.ensures.taken) (trees_after_take c.args.at c.self.inside.live.tabs c.self.invariant)
+    subst (λ tabs. AreTrees tabs) (sym c.take_events-events.ensures.taken)
+    (trees_after_take c.args.at c.self.inside.live.tabs c.self.invariant)
 
 pub returns : goal.returns
 returns c =

@@ -11,10 +11,19 @@ pub returns-then-not-has_pairs : goal.returns-then-not-has_pairs
 returns-then-not-has_pairs c =
     let key = plain_key c.args.key.now in
     let pairs = area_of c.args.area c.args.tab key (held_of c.args.self.now) in
-    record { limit = refl; changes = writes_none _ (clears_none c.args.area key pairs (sym c.if-not-has_pairs.ensures)) c.args.body.now.bytes (Ok (tt {0})) }
+    record {
+      limit = refl;
+      changes = writes_none _ (clears_none c.args.area key pairs
+          (sym c.if-not-has_pairs.ensures)) c.args.body.now.bytes (Ok (tt {0}));
+    }
 
 pub returns : goal.returns
 returns c =
     let key = plain_key c.args.key.now in
     let pairs = area_of c.args.area c.args.tab key (held_of c.args.self.now) in
-    record { limit = c.write_in.ensures.limit; changes = writes_as _ _ c.args.body.now.bytes c.write_in.new.body.bytes c.write_in.result (ap (durable_in c.args.area) (clears_some key pairs (sym c.if-not-has_pairs.ensures))) c.write_in.ensures.changes }
+    record {
+      limit = c.write_in.ensures.limit;
+      changes =
+          writes_as _ _ c.args.body.now.bytes c.write_in.new.body.bytes c.write_in.result
+          (ap (durable_in c.args.area) (clears_some key pairs (sym c.if-not-has_pairs.ensures))) c.write_in.ensures.changes;
+    }

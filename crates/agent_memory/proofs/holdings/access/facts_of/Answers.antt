@@ -8,8 +8,7 @@ use Rattle.frame_tree.specs.Keys.{is_first_at}
 use Rattle.frame_tree.specs.Plain.{plain_document}
 use Rattle.frame_tree.specs.Tree.{has_frame}
 use Rattle.agent_model.specs.StorageAccess.{embedded_site}
-use Rattle.agent_memory.proofs.FoundLemmas.{document_there}
-use Rattle.agent_memory.proofs.RequestLemmas.{first_is}
+use Rattle.line_events.proofs.CellLemmas.{document_there, first_is}
 use Rattle.agent_memory.proofs.holdings.access.facts_of.Goals as goal
 
 -- what a test says of what may not be there, it says of its plain value
@@ -34,7 +33,8 @@ returns c =
         secure = c.https_chain.ensures.https i;
         deny = document.deny;
         sandbox_allows = document.sandbox.storage_access;
-        first = (c.first_party.ensures.first ∙ ap (is_first_at frame frames) own ∙ first_is frame frames (embedded_site given document) there) i;
+        first = (c.first_party.ensures.first ∙ ap (is_first_at frame frames) own
+            ∙ first_is frame frames (embedded_site given document) there) i;
         flag = document.flag;
         active = active i;
       };

@@ -8,12 +8,27 @@ use Rattle.agent_memory.proofs.holdings.persistence.write_evicted.Goals as goal
 
 pub returns-in_err-keys : goal.returns-in_err-keys
 returns-in_err-keys c =
-    record { limit = refl; changes = λ beside. writes_wanting _ c.args.body.now.bytes c.args.body.now.bytes c.from_residual.result c.from_residual.ensures.0 (front_same c.args.body.now.bytes) }
+    record {
+      limit = refl;
+      changes = λ beside. writes_wanting _ c.args.body.now.bytes c.args.body.now.bytes
+          c.from_residual.result c.from_residual.ensures.0 (front_same c.args.body.now.bytes);
+    }
 
 pub returns-in_err-changes : goal.returns-in_err-changes
 returns-in_err-changes c =
-    record { limit = refl; changes = λ beside. writes_wanting _ c.args.body.now.bytes c.args.body.now.bytes c.from_residual-in_err-changes.result c.from_residual-in_err-changes.ensures.0 (front_same c.args.body.now.bytes) }
+    record {
+      limit = refl;
+      changes = λ beside. writes_wanting _ c.args.body.now.bytes c.args.body.now.bytes
+          c.from_residual-in_err-changes.result c.from_residual-in_err-changes.ensures.0 (front_same c.args.body.now.bytes);
+    }
 
 pub returns : goal.returns
 returns c =
-    record { limit = c.append_all.ensures.limit; changes = λ beside. writes_as _ _ c.args.body.now.bytes c.append_all.new.self.bytes c.append_all.result (ap (map plain_change) c.as_slice-2.ensures.value ∙ c.in_ok-changes.ensures.changes ∙ ap (map (λ key. AreaClear (plain_key key))) c.as_slice.ensures.value ∙ c.in_ok-keys.ensures.keys beside) c.append_all.ensures.appended }
+    record {
+      limit = c.append_all.ensures.limit;
+      changes = λ beside. writes_as _ _ c.args.body.now.bytes
+          c.append_all.new.self.bytes c.append_all.result
+          (ap (map plain_change) c.as_slice-2.ensures.value ∙ c.in_ok-changes.ensures.changes
+          ∙ ap (map (λ key. AreaClear (plain_key key))) c.as_slice.ensures.value
+          ∙ c.in_ok-keys.ensures.keys beside) c.append_all.ensures.appended;
+    }

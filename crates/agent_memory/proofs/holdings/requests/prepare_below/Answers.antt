@@ -7,7 +7,8 @@ use Rattle.frame_tree.specs.Keys.{is_first_at, sites}
 use Rattle.frame_tree.specs.Tree.{chain_of}
 use Rattle.origin_site.specs.Site.{site_of_address}
 use Rattle.agent_model.specs.CookieUses.{is_safe, request_use}
-use Rattle.agent_memory.proofs.RequestLemmas.{first_is, prepared_as}
+use Rattle.line_events.proofs.CellLemmas.{first_is}
+use Rattle.agent_memory.proofs.RequestLemmas.{prepared_as}
 use Rattle.agent_memory.proofs.holdings.requests.prepare_below.Goals as goal
 
 pub returns : goal.returns
@@ -16,11 +17,25 @@ returns c =
     let url = plain_address c.args.url.now in
     let frames = c.args.tab.now in
     let first : c.first_party-first.result ≡ is_first_party (sites (chain_of c.args.frame frames)) (site_of_address rules url) =
-    c.first_party-first.ensures.first ∙ ap (is_first_at c.args.frame frames) c.in_ok-target.ensures ∙ first_is c.args.frame frames (site_of_address rules url) c.requires.there in
+    c.first_party-first.ensures.first ∙ ap (is_first_at c.args.frame frames) c.in_ok-target.ensures.site
+    ∙ first_is c.args.frame frames (site_of_address rules url) c.requires.there in
     record {
       prepared = λ site top.
-          prepared_as rules c.args.now _ (request_use rules site (chain_of c.args.frame frames) (chain_of c.args.frame frames) url c.args.method c.args.granted) (map head_field_of c.args.head.now) c.args.cookies.now c.prepare.new.self c.prepare.result
+          prepared_as rules c.args.now _ (request_use rules site (chain_of c.args.frame frames)
+          (chain_of c.args.frame frames) url c.args.method c.args.granted)
+          (map head_field_of c.args.head.now) c.args.cookies.now c.prepare.new.self c.prepare.result
           (c.request_use-how.ensures site top
-          ∙ λ i. record { url = url; top = site; context = record { first = first i; bit = not (first i) }; same_site = first i; top_load = false; safe = is_safe c.args.method; script = false; granted = c.args.granted })
+          ∙ λ i. record {
+            url = url;
+            top = site;
+            context =
+                record { first = first i; bit = not (first i) };
+            same_site = first i;
+            top_load = false;
+            safe =
+                is_safe c.args.method;
+            script = false;
+            granted = c.args.granted;
+          })
           (record { shared = c.prepare.ensures.shared; partitioned = c.prepare.ensures.partitioned }) c.prepare.ensures.prepared;
     }

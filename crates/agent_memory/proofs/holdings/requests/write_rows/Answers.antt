@@ -8,6 +8,7 @@ use Rattle.agent_memory.proofs.holdings.requests.write_rows.Goals as goal
 pub returns : goal.returns
 returns c = record {
   limit = c.append_all.ensures.limit;
-  rows = rows_written c.args.prepared.now _ (ap (map plain_change) c.rows.ensures.value) c.args.body.now.bytes c.append_all.new.self.bytes c.append_all.result c.append_all.ensures.appended;
+  rows = rows_written c.args.prepared.now _ (ap (map plain_change) c.rows.ensures.value)
+      c.args.body.now.bytes c.append_all.new.self.bytes c.append_all.result c.append_all.ensures.appended;
   front = writes_front _ c.args.body.now.bytes c.append_all.new.self.bytes c.append_all.result c.append_all.ensures.appended;
 }

@@ -16,25 +16,31 @@ returns-in_default-clause-runs c =
 
 pub returns-in_err-site-clause-runs : goal.returns-in_err-site-clause-runs
 returns-in_err-site-clause-runs c =
-    runs_still c.self.view_is (runs_unchanged _ (Close c.args.tab) c.in_err-site.ensures.memory c.from_residual.result c.from_residual.ensures.0)
+    runs_still c.self.view_is (runs_unchanged _ (Close c.args.tab)
+    c.in_err-site.ensures.memory c.from_residual.result c.from_residual.ensures.0)
 
 pub invariant_of-self : goal.invariant_of-self
 invariant_of-self c =
     let place = sym c.in_ok-site.ensures.site ∙ ap (option_map plain_site) c.in-Some.is in
-    standing_closed _ c.self.invariant c.args.tab (plain_site c.in-Some.site) place _ _ _ _ c.close.ensures.places c.close.ensures.cells c.close.ensures.held
+    standing_closed _ c.self.invariant c.args.tab (plain_site c.in-Some.site)
+    place _ _ _ _ c.close.ensures.places c.close.ensures.cells c.close.ensures.held
 
 pub returns-clause-runs : goal.returns-clause-runs
 returns-clause-runs c =
     let place = sym c.in_ok-site.ensures.site ∙ ap (option_map plain_site) c.in-Some.is in
     runs_from c.self.view_is
-    (runs_closed _ c.self.invariant c.args.tab (plain_site c.in-Some.site) place _ _ _ _ c.close.ensures.places c.close.ensures.cells c.close.ensures.held
+    (runs_closed _ c.self.invariant c.args.tab (plain_site c.in-Some.site)
+    place _ _ _ _ c.close.ensures.places c.close.ensures.cells c.close.ensures.held
     c.replied.result (reply_as (Close c.args.tab) c.replied.result c.replied.ensures refl c.answer.ensures))
 
 pub returns-in_default-clause-changes : goal.returns-in_default-clause-changes
-returns-in_default-clause-changes c = subst (λ (o : AgentState). line_changes (machine o.rules) (world_of o) (Close c.args.tab) ≡ []) c.self.view_is (closes_none _ c.self.invariant c.args.tab)
+returns-in_default-clause-changes c = subst (λ (o : AgentState). line_changes (machine o.rules) (world_of o)
+    (Close c.args.tab) ≡ []) c.self.view_is (closes_none _ c.self.invariant c.args.tab)
 
 pub returns-in_err-site-clause-changes : goal.returns-in_err-site-clause-changes
-returns-in_err-site-clause-changes c = subst (λ (o : AgentState). line_changes (machine o.rules) (world_of o) (Close c.args.tab) ≡ []) c.self.view_is (closes_none _ c.self.invariant c.args.tab)
+returns-in_err-site-clause-changes c = subst (λ (o : AgentState). line_changes (machine o.rules) (world_of o)
+    (Close c.args.tab) ≡ []) c.self.view_is (closes_none _ c.self.invariant c.args.tab)
 
 pub returns-clause-changes : goal.returns-clause-changes
-returns-clause-changes c = subst (λ (o : AgentState). line_changes (machine o.rules) (world_of o) (Close c.args.tab) ≡ []) c.self.view_is (closes_none _ c.self.invariant c.args.tab)
+returns-clause-changes c = subst (λ (o : AgentState). line_changes (machine o.rules) (world_of o)
+    (Close c.args.tab) ≡ []) c.self.view_is (closes_none _ c.self.invariant c.args.tab)

@@ -12,6 +12,7 @@ pub returns : goal.returns
 unfolding world_of whole_world
 returns c =
     record {
-      cookies = subst (λ cookies. IfOk c.domain_cookies.result (λ jar. jar.cookies ≡ get_cell domain_order (shared_in cookies) c.args.domain.now)) c.cookies.ensures.cookies
+      cookies = subst (λ cookies. IfOk c.domain_cookies.result
+          (λ jar. jar.cookies ≡ get_cell domain_order (shared_in cookies) c.args.domain.now)) c.cookies.ensures.cookies
           c.domain_cookies.ensures.cookies;
     }

@@ -21,7 +21,8 @@ pub returns-then-not-is_open-clause-runs : goal.returns-then-not-is_open-clause-
 returns-then-not-is_open-clause-runs c =
     let tab = c.args.tab in
     runs_still c.self.view_is
-    (runs_without_tab (Go tab (plain_address c.args.url.now) c.args.by_page c.args.method (map head_field_of c.args.head.now)) _ c.self.invariant c.refused.result
+    (runs_without_tab (Go tab (plain_address c.args.url.now) c.args.by_page c.args.method
+    (map head_field_of c.args.head.now)) _ c.self.invariant c.refused.result
     (nowhere_is tab _ (sym c.if-not-is_open.ensures.«open»)) c.refused.ensures)
 
 pub returns-in_err-site-clause-runs : goal.returns-in_err-site-clause-runs
@@ -30,7 +31,8 @@ returns-in_err-site-clause-runs c =
     let tab = tab_there c.args.tab c.self.inside.held.live.tabs (sym c.if-not-is_open.ensures.«open») in
     let event = ap is_some (place_is _ c.args.tab c.self.invariant tab.0 tab.1).1 in
     runs_from c.self.view_is
-    (runs_stays _ c.self.invariant _ _ _ _ stays.places stays.cells stays.held (Go c.args.tab (plain_address c.args.url.now) c.args.by_page c.args.method (map head_field_of c.args.head.now)) event
+    (runs_stays _ c.self.invariant _ _ _ _ stays.places stays.cells stays.held
+    (Go c.args.tab (plain_address c.args.url.now) c.args.by_page c.args.method (map head_field_of c.args.head.now)) event
     c.from_residual.result c.from_residual.ensures.0)
 
 -- who starts it
@@ -44,20 +46,25 @@ starter_is c =
 -- the load, by who starts it
 loaded : (c : goal.After-replied) → let here = c.self.inside in
     let target = site_of_address here.list.now.rules (plain_address c.args.url.now) in
-    IsLoaded (arrive here.list.now.rules here.now target c.args.tab (plain_address c.args.url.now) c.args.method (is_same_site (starter_in (by_tab c.args.by_page c.args.tab) here.held.live.tabs) target)
-    (map head_field_of c.args.head.now) (cells_of here.held) (held_of here.held)) c.args.tab target here.held c.arrive.new.self (body_of c.in_ok-site.load)
+    IsLoaded (arrive here.list.now.rules here.now target c.args.tab (plain_address c.args.url.now)
+    c.args.method (is_same_site (starter_in (by_tab c.args.by_page c.args.tab) here.held.live.tabs) target)
+    (map head_field_of c.args.head.now) (cells_of here.held) (held_of here.held))
+    c.args.tab target here.held c.arrive.new.self (body_of c.in_ok-site.load)
 loaded c =
     let here = c.self.inside in
     let target = site_of_address here.list.now.rules (plain_address c.args.url.now) in
-    subst (λ starter. IsLoaded (arrive here.list.now.rules here.now target c.args.tab (plain_address c.args.url.now) c.args.method (is_same_site (starter_in starter here.held.live.tabs) target)
-    (map head_field_of c.args.head.now) (cells_of here.held) (held_of here.held)) c.args.tab target here.held c.arrive.new.self (body_of c.in_ok-site.load)) (starter_is c) c.in_ok-site.ensures.loaded
+    subst (λ starter. IsLoaded (arrive here.list.now.rules here.now target c.args.tab
+    (plain_address c.args.url.now) c.args.method (is_same_site (starter_in starter here.held.live.tabs) target)
+    (map head_field_of c.args.head.now) (cells_of here.held) (held_of here.held))
+    c.args.tab target here.held c.arrive.new.self (body_of c.in_ok-site.load)) (starter_is c) c.in_ok-site.ensures.loaded
 
 pub invariant_of-self-2 : goal.invariant_of-self-2
 invariant_of-self-2 c =
     let there = tab_there c.args.tab c.self.inside.held.live.tabs (sym c.if-not-is_open.ensures.«open») in
     let place = place_is _ c.args.tab c.self.invariant there.0 there.1 in
     let load = loaded c in
-    standing_gone _ c.self.invariant c.args.tab (plain_address c.args.url.now) c.args.by_page c.args.method (map head_field_of c.args.head.now) there.0 there.1 place.0 place.1 _ _ _ _ load.places load.cells load.held
+    standing_gone _ c.self.invariant c.args.tab (plain_address c.args.url.now) c.args.by_page c.args.method
+    (map head_field_of c.args.head.now) there.0 there.1 place.0 place.1 _ _ _ _ load.places load.cells load.held
 
 pub returns-clause-runs : goal.returns-clause-runs
 returns-clause-runs c =
@@ -67,14 +74,17 @@ returns-clause-runs c =
     let place = place_is _ c.args.tab c.self.invariant there.0 there.1 in
     let load = loaded c in
     runs_from c.self.view_is
-    (runs_gone _ c.self.invariant c.args.tab url c.args.by_page c.args.method head there.0 there.1 place.0 place.1 _ _ _ _ load.places load.cells load.held c.replied.result
-    (reply_as (Go c.args.tab url c.args.by_page c.args.method head) c.replied.result c.replied.ensures c.in_ok-site.ensures.site load.answer))
+    (runs_gone _ c.self.invariant c.args.tab url c.args.by_page c.args.method head there.0 there.1 place.0
+    place.1 _ _ _ _ load.places load.cells load.held c.replied.result
+    (reply_as (Go c.args.tab url c.args.by_page c.args.method head)
+    c.replied.result c.replied.ensures c.in_ok-site.ensures.site load.answer))
 
 pub returns-then-not-is_open-clause-written : goal.returns-then-not-is_open-clause-written
 returns-then-not-is_open-clause-written c =
     let tab = c.args.tab in
     let line = Go tab (plain_address c.args.url.now) c.args.by_page c.args.method (map head_field_of c.args.head.now) in
-    line_none line _ _ c.self.view_is (changes_without_tab line _ c.self.invariant (nowhere_is tab _ (sym c.if-not-is_open.ensures.«open»))) c.args.body.now.bytes
+    line_none line _ _ c.self.view_is (changes_without_tab line _ c.self.invariant
+    (nowhere_is tab _ (sym c.if-not-is_open.ensures.«open»))) c.args.body.now.bytes
 
 pub returns-clause-written : goal.returns-clause-written
 returns-clause-written c =
@@ -85,6 +95,8 @@ returns-clause-written c =
     let there = tab_there c.args.tab c.self.inside.held.live.tabs (sym c.if-not-is_open.ensures.«open») in
     let place = place_is _ c.args.tab c.self.invariant there.0 there.1 in
     line_written (Go c.args.tab url c.args.by_page c.args.method head) _ _ c.self.view_is target _
-    (changes_gone _ c.self.invariant c.args.tab url c.args.by_page c.args.method head there.0 there.1 place.0 place.1) c.args.body.now.bytes c.arrive.new.body.bytes
-    (subst (λ starter. IsAppended (arrive here.list.now.rules here.now target c.args.tab url c.args.method (is_same_site (starter_in starter here.held.live.tabs) target) head (cells_of here.held) (held_of here.held)).changes
+    (changes_gone _ c.self.invariant c.args.tab url c.args.by_page c.args.method head there.0 there.1 place.0
+    place.1) c.args.body.now.bytes c.arrive.new.body.bytes
+    (subst (λ starter. IsAppended (arrive here.list.now.rules here.now target c.args.tab url c.args.method
+    (is_same_site (starter_in starter here.held.live.tabs) target) head (cells_of here.held) (held_of here.held)).changes
     c.args.body.now.bytes c.arrive.new.body.bytes) (starter_is c) c.in_ok-site.ensures.changes)

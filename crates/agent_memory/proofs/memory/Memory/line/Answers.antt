@@ -1,6 +1,6 @@
 -- What memory was wanting for is cut off.
 use Rattle.std.proofs.Common.{take, ap, ◌∙◌}
-use Rattle.agent_memory.proofs.WritesLemmas.{cut_back, len_items}
+use Rattle.agent_memory.proofs.WritesLemmas.{cut_back}
 use Rattle.agent_memory.proofs.memory.Memory.line.Goals as goal
 
 pub returns-in-Err-clause-unwritten : goal.returns-in-Err-clause-unwritten

@@ -9,8 +9,10 @@ use Rattle.agent_memory.proofs.StandingLemmas.{stands, world_is}
 use Rattle.agent_memory.proofs.memory.Memory.new.Goals as goal
 
 pub invariant_of-result : goal.invariant_of-result
-invariant_of-result c = stands _ no_places no_shared_cells no_holdings (ap places_in c.new.ensures.tabs) c.new.ensures.cells c.new.ensures.held c.requires beginning_placed owned_nothing
+invariant_of-result c = stands _ no_places no_shared_cells no_holdings (ap places_in c.new.ensures.tabs)
+    c.new.ensures.cells c.new.ensures.held c.requires beginning_placed owned_nothing
 
 pub returns-clause-beginning : goal.returns-clause-beginning
 returns-clause-beginning c =
-    world_is _ no_places no_shared_cells no_holdings (ap places_in c.new.ensures.tabs) c.new.ensures.cells c.new.ensures.held ∙ beginning_whole c.args.start
+    world_is _ no_places no_shared_cells no_holdings (ap places_in c.new.ensures.tabs)
+    c.new.ensures.cells c.new.ensures.held ∙ beginning_whole c.args.start

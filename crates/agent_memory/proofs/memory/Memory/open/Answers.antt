@@ -23,13 +23,15 @@ pub returns-then-not-is_there-clause-runs : goal.returns-then-not-is_there-claus
 returns-then-not-is_there-clause-runs c =
     let a = c.args in
     runs_still c.self.view_is
-    (runs_unopened _ c.self.invariant a.tab (plain_address a.url.now) a.opener a.noopener a.method (map head_field_of a.head.now) (sym c.if-not-is_there.ensures.there) c.refused.result c.refused.ensures)
+    (runs_unopened _ c.self.invariant a.tab (plain_address a.url.now) a.opener a.noopener a.method
+    (map head_field_of a.head.now) (sym c.if-not-is_there.ensures.there) c.refused.result c.refused.ensures)
 
 pub returns-then-is_open-clause-runs : goal.returns-then-is_open-clause-runs
 returns-then-is_open-clause-runs c =
     let a = c.args in
     runs_still c.self.view_is
-    (runs_taken _ c.self.invariant a.tab (plain_address a.url.now) a.opener a.noopener a.method (map head_field_of a.head.now) (sym c.if-not-is_there.ensures.there) (sym c.if-is_open.ensures.«open»)
+    (runs_taken _ c.self.invariant a.tab (plain_address a.url.now) a.opener a.noopener a.method
+    (map head_field_of a.head.now) (sym c.if-not-is_there.ensures.there) (sym c.if-is_open.ensures.«open»)
     c.refused-then-is_open.result c.refused-then-is_open.ensures)
 
 pub arrive-requires-clause-there : goal.arrive-requires-clause-there
@@ -48,8 +50,11 @@ returns-in_err-site-clause-runs c =
     let a = c.args in
     let stays = c.in_err-site.ensures.unchanged in
     runs_from c.self.view_is
-    (runs_stays _ c.self.invariant _ _ _ _ stays.places stays.cells stays.held (Open a.tab (plain_address a.url.now) a.opener a.noopener a.method (map head_field_of a.head.now))
-    (ap is_some (starter_is _ c.self.invariant a.opener (sym c.if-not-is_there.ensures.there)), nowhere_is a.tab c.self.inside.held.live.tabs (sym c.if-is_open.ensures.«open»))
+    (runs_stays _ c.self.invariant _ _ _ _ stays.places stays.cells stays.held
+    (Open a.tab (plain_address a.url.now) a.opener a.noopener a.method (map head_field_of a.head.now)) (
+      ap is_some (starter_is _ c.self.invariant a.opener (sym c.if-not-is_there.ensures.there)),
+      nowhere_is a.tab c.self.inside.held.live.tabs (sym c.if-is_open.ensures.«open»),
+    )
     c.from_residual.result c.from_residual.ensures.0)
 
 -- what is copied
@@ -63,21 +68,26 @@ copied_is c =
 -- the load, by what is copied
 loaded : (c : goal.After-replied) → let here = c.self.inside in
     let target = site_of_address here.list.now.rules (plain_address c.args.url.now) in
-    IsLoaded (arrive here.list.now.rules here.now target c.args.tab (plain_address c.args.url.now) c.args.method (is_same_site (starter_in c.args.opener here.held.live.tabs) target)
-    (map head_field_of c.args.head.now) (cells_of here.held) (with_copies (copied_from c.args.noopener c.args.opener) c.args.tab here.held.live.tabs (held_of here.held)))
+    IsLoaded (arrive here.list.now.rules here.now target c.args.tab (plain_address c.args.url.now)
+    c.args.method (is_same_site (starter_in c.args.opener here.held.live.tabs) target)
+    (map head_field_of c.args.head.now) (cells_of here.held)
+    (with_copies (copied_from c.args.noopener c.args.opener) c.args.tab here.held.live.tabs (held_of here.held)))
     c.args.tab target here.held c.arrive.new.self (body_of c.in_ok-site.load)
 loaded c =
     let here = c.self.inside in
     let target = site_of_address here.list.now.rules (plain_address c.args.url.now) in
-    subst (λ from. IsLoaded (arrive here.list.now.rules here.now target c.args.tab (plain_address c.args.url.now) c.args.method (is_same_site (starter_in c.args.opener here.held.live.tabs) target)
-    (map head_field_of c.args.head.now) (cells_of here.held) (with_copies from c.args.tab here.held.live.tabs (held_of here.held)))
+    subst (λ from. IsLoaded (arrive here.list.now.rules here.now target c.args.tab
+    (plain_address c.args.url.now) c.args.method (is_same_site (starter_in c.args.opener here.held.live.tabs) target)
+    (map head_field_of c.args.head.now) (cells_of here.held)
+    (with_copies from c.args.tab here.held.live.tabs (held_of here.held)))
     c.args.tab target here.held c.arrive.new.self (body_of c.in_ok-site.load)) (copied_is c) c.in_ok-site.ensures.loaded
 
 pub invariant_of-self-2 : goal.invariant_of-self-2
 invariant_of-self-2 c =
     let a = c.args in
     let load = loaded c in
-    standing_opened _ c.self.invariant a.tab (plain_address a.url.now) a.opener a.noopener a.method (map head_field_of a.head.now) (sym c.if-not-is_there.ensures.there) (sym c.if-is_open.ensures.«open»)
+    standing_opened _ c.self.invariant a.tab (plain_address a.url.now) a.opener a.noopener a.method
+    (map head_field_of a.head.now) (sym c.if-not-is_there.ensures.there) (sym c.if-is_open.ensures.«open»)
     _ _ _ _ load.places load.cells load.held
 
 pub returns-clause-runs : goal.returns-clause-runs
@@ -87,8 +97,11 @@ returns-clause-runs c =
     let head = map head_field_of a.head.now in
     let load = loaded c in
     runs_from c.self.view_is
-    (runs_opened _ c.self.invariant a.tab url a.opener a.noopener a.method head (sym c.if-not-is_there.ensures.there) (sym c.if-is_open.ensures.«open») _ _ _ _ load.places load.cells load.held c.replied.result
-    (reply_as (Open a.tab url a.opener a.noopener a.method head) c.replied.result c.replied.ensures c.in_ok-site.ensures.site load.answer))
+    (runs_opened _ c.self.invariant a.tab url a.opener a.noopener a.method head
+    (sym c.if-not-is_there.ensures.there) (sym c.if-is_open.ensures.«open»)
+    _ _ _ _ load.places load.cells load.held c.replied.result
+    (reply_as (Open a.tab url a.opener a.noopener a.method head)
+    c.replied.result c.replied.ensures c.in_ok-site.ensures.site load.answer))
 
 pub returns-then-not-is_there-clause-written : goal.returns-then-not-is_there-clause-written
 returns-then-not-is_there-clause-written c =
@@ -96,7 +109,8 @@ returns-then-not-is_there-clause-written c =
     let url = plain_address a.url.now in
     let head = map head_field_of a.head.now in
     line_none (Open a.tab url a.opener a.noopener a.method head) _ _ c.self.view_is
-    (changes_unopened _ c.self.invariant a.tab url a.opener a.noopener a.method head (sym c.if-not-is_there.ensures.there)) a.body.now.bytes
+    (changes_unopened _ c.self.invariant a.tab url a.opener a.noopener a.method head
+    (sym c.if-not-is_there.ensures.there)) a.body.now.bytes
 
 pub returns-then-is_open-clause-written : goal.returns-then-is_open-clause-written
 returns-then-is_open-clause-written c =
@@ -104,7 +118,8 @@ returns-then-is_open-clause-written c =
     let url = plain_address a.url.now in
     let head = map head_field_of a.head.now in
     line_none (Open a.tab url a.opener a.noopener a.method head) _ _ c.self.view_is
-    (changes_taken _ c.self.invariant a.tab url a.opener a.noopener a.method head (sym c.if-not-is_there.ensures.there) (sym c.if-is_open.ensures.«open»)) a.body.now.bytes
+    (changes_taken _ c.self.invariant a.tab url a.opener a.noopener a.method head
+    (sym c.if-not-is_there.ensures.there) (sym c.if-is_open.ensures.«open»)) a.body.now.bytes
 
 pub returns-clause-written : goal.returns-clause-written
 returns-clause-written c =
@@ -114,6 +129,9 @@ returns-clause-written c =
     let head = map head_field_of a.head.now in
     let target = site_of_address here.list.now.rules url in
     line_written (Open a.tab url a.opener a.noopener a.method head) _ _ c.self.view_is target _
-    (changes_opened _ c.self.invariant a.tab url a.opener a.noopener a.method head (sym c.if-not-is_there.ensures.there) (sym c.if-is_open.ensures.«open»)) a.body.now.bytes c.arrive.new.body.bytes
-    (subst (λ from. IsAppended (arrive here.list.now.rules here.now target a.tab url a.method (is_same_site (starter_in a.opener here.held.live.tabs) target) head (cells_of here.held)
-    (with_copies from a.tab here.held.live.tabs (held_of here.held))).changes a.body.now.bytes c.arrive.new.body.bytes) (copied_is c) c.in_ok-site.ensures.changes)
+    (changes_opened _ c.self.invariant a.tab url a.opener a.noopener a.method head
+    (sym c.if-not-is_there.ensures.there) (sym c.if-is_open.ensures.«open»)) a.body.now.bytes c.arrive.new.body.bytes
+    (subst (λ from. IsAppended (arrive here.list.now.rules here.now target a.tab url a.method
+    (is_same_site (starter_in a.opener here.held.live.tabs) target) head (cells_of here.held)
+    (with_copies from a.tab here.held.live.tabs (held_of here.held))).changes a.body.now.bytes
+    c.arrive.new.body.bytes) (copied_is c) c.in_ok-site.ensures.changes)

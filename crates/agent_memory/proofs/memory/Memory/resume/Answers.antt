@@ -9,7 +9,8 @@ pub invariant_of-result : goal.invariant_of-result
 invariant_of-result c =
     let held = c.resume.result in
     stands_alone _ c.resume.ensures.tabs c.requires.now
-    (ap (λ (entries : Entries). (held_with (beside_storage held.live.tabs held.cookies held.grants) entries).sessions) c.resume.ensures.storage
+    (ap (λ (entries : Entries). (held_with (beside_storage held.live.tabs held.cookies held.grants)
+    entries).sessions) c.resume.ensures.storage
     ∙ c.requires.sessions (beside_storage held.live.tabs held.cookies held.grants))
 
 pub returns : goal.returns

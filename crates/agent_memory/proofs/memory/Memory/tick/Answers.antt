@@ -15,11 +15,21 @@ use Rattle.agent_memory.proofs.memory.Memory.tick.Goals as goal
 pub returns-clause-runs : goal.returns-clause-runs
 returns-clause-runs c =
     let here = c.self.inside in
-    let old : AgentState = record { rules = here.list.now.rules; now = here.now; tabs = here.held.live.tabs; entries = here.held.storage; cookies = here.held.cookies; grants = here.held.grants } in
+    let old : AgentState = record {
+      rules = here.list.now.rules;
+      now = here.now;
+      tabs =
+          here.held.live.tabs;
+      entries = here.held.storage;
+      cookies = here.held.cookies;
+      grants = here.held.grants;
+    } in
     let later = c.clock_after-now.ensures.value in
     runs_from c.self.view_is
     (subst (λ now. Runs (Tick c.args.s) old (record old { now = now }) (Ok c.ticked.result)) (sym later)
-    (runs_ticked old c.self.invariant c.args.s c.ticked.result (c.ticked.ensures ∙ ap (λ (now : ℕ). printed (null_reply (Tick c.args.s) (Now (pos now)))) later)))
+    (runs_ticked old c.self.invariant c.args.s c.ticked.result
+    (c.ticked.ensures ∙ ap (λ (now : ℕ). printed (null_reply (Tick c.args.s) (Now (pos now)))) later)))
 
 pub returns-clause-changes : goal.returns-clause-changes
-returns-clause-changes c = subst (λ (o : AgentState). line_changes (machine o.rules) (world_of o) (Tick c.args.s) ≡ []) c.self.view_is (changes_ticked _ c.self.invariant c.args.s)
+returns-clause-changes c = subst (λ (o : AgentState). line_changes (machine o.rules) (world_of o)
+    (Tick c.args.s) ≡ []) c.self.view_is (changes_ticked _ c.self.invariant c.args.s)

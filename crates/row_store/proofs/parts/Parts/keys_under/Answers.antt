@@ -9,7 +9,8 @@ use Rattle.row_store.proofs.parts.Parts.keys_under.Goals as goal
 
 pub returns : goal.returns
 returns c =
-    let kept = filter_same _ (λ key. is_under (plain_site c.args.top.now) (plain_key key)) _ (λ x b f' k. search rules) _ _ c.retain.ensures.filtered in
+    let kept = filter_same _ (λ key. is_under (plain_site c.args.top.now) (plain_key key)) _
+    (λ x b f' k. search rules) _ _ c.retain.ensures.filtered in
     record {
       keys =
           ap (map plain_key) kept

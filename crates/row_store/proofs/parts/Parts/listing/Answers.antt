@@ -11,6 +11,7 @@ returns c =
     record {
       rows =
           c.in_ok-push_all.ensures.pushed
-          ∙ ap (λ items. map plain_change items ++ all_rows which.All parts.storage parts.cookies parts.grants) c.new-rows.ensures.items
+          ∙ ap (λ items. map plain_change items ++ all_rows which.All parts.storage parts.cookies
+          parts.grants) c.new-rows.ensures.items
           ∙ all_listed parts.storage parts.cookies parts.grants;
     }

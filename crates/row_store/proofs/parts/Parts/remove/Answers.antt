@@ -9,6 +9,8 @@ use Rattle.row_store.proofs.parts.Parts.remove.Goals as goal
 pub returns : goal.returns
 unfolding no_holdings held_with
 returns c = record {
-  edited = removed_name c.args.self.now.cookies c.args.self.now.grants (plain_key c.args.key.now) c.args.name.now c.args.self.now.storage c.remove.new.self
-      c.is_some.result (c.is_some.ensures ∙ is_there c.remove.result _ (c.remove.ensures.value no_holdings)) c.remove.ensures.removed;
+  edited = removed_name c.args.self.now.cookies c.args.self.now.grants (plain_key c.args.key.now)
+      c.args.name.now c.args.self.now.storage c.remove.new.self
+      c.is_some.result (c.is_some.ensures ∙ is_there c.remove.result _ (c.remove.ensures.value no_holdings))
+      c.remove.ensures.removed;
 }

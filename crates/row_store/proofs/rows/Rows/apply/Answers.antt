@@ -9,4 +9,5 @@ pub invariant_of-self : goal.invariant_of-self
 invariant_of-self c =
     edit_standing c.self.inside.list.now.rules (plain_change c.args.change) c.self.inside.parts c.edit.new.self c.edit.result
     c.durable_states.ensures.valid c.spelled_lines.ensures.rows
-    (subst (λ r. IsSpelled r.rules (plain_change c.args.change)) (sym c.self.view_is) c.requires.spelled) c.edit.ensures.edited c.edit.ensures.undone c.self.invariant
+    (subst (λ r. IsSpelled r.rules (plain_change c.args.change)) (sym c.self.view_is) c.requires.spelled)
+    c.edit.ensures.edited c.edit.ensures.undone c.self.invariant

@@ -17,9 +17,11 @@ pub returns-clause-copied : goal.returns-clause-copied
 unfolding held_with
 returns-clause-copied c = rw (← c.self.view_is) (λ beside. on_ok_weaker c.copy_areas.result
     (λ is i. record beside { areas = areas_in c.self.inside.local; persistent = keys_in c.self.inside.local; sessions = is i })
-    (c.copy_areas.ensures.copied (held_with beside (record { local = c.self.inside.local; session = c.self.inside.session })) refl))
+    (c.copy_areas.ensures.copied (held_with beside
+    (record { local = c.self.inside.local; session = c.self.inside.session })) refl))
 
 pub returns-clause-unchanged : goal.returns-clause-unchanged
 returns-clause-unchanged c = rw (← c.self.view_is) (λ beside. on_err_weaker c.copy_areas.result
-    (λ is. session_kept beside (record { local = c.self.inside.local; session = c.self.inside.session }) c.copy_areas.new.sessions is)
+    (λ is. session_kept beside (record { local = c.self.inside.local; session = c.self.inside.session })
+    c.copy_areas.new.sessions is)
     c.copy_areas.ensures.unchanged)

@@ -10,14 +10,17 @@ use Rattle.web_storage.proofs.storage.Storage.drop_empty.Goals as goal
 
 pub returns-in-Local : goal.returns-in-Local
 returns-in-Local c = rw (← c.self.view_is) (record {
-  same = λ beside. local_kept beside (record { local = c.self.inside.local; session = c.self.inside.session }) c.drop_fresh.new.self
+  same = λ beside. local_kept beside (record { local = c.self.inside.local; session = c.self.inside.session })
+      c.drop_fresh.new.self
       (ap areas_in c.drop_fresh.ensures.dropped ∙ (dropped_same order alike c.args.key.now c.self.inside.local).0)
       (ap keys_in c.drop_fresh.ensures.dropped ∙ (dropped_same order alike c.args.key.now c.self.inside.local).1);
 })
 
 pub returns-in-Session : goal.returns-in-Session
 returns-in-Session c = rw (← c.self.view_is) (record {
-  same = λ beside. session_kept beside (record { local = c.self.inside.local; session = c.self.inside.session }) c.drop_empty.new.self
-      (sessions_alike c.args.tab (without_empty order c.args.key.now (areas_of c.args.tab c.self.inside.session)) c.self.inside.session c.drop_empty.new.self
+  same = λ beside. session_kept beside
+      (record { local = c.self.inside.local; session = c.self.inside.session }) c.drop_empty.new.self
+      (sessions_alike c.args.tab (without_empty order c.args.key.now
+      (areas_of c.args.tab c.self.inside.session)) c.self.inside.session c.drop_empty.new.self
       c.drop_empty.ensures.dropped (dropped_alike order alike c.args.key.now (areas_of c.args.tab c.self.inside.session)));
 })

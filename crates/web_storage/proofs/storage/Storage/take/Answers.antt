@@ -10,7 +10,8 @@ use Rattle.web_storage.proofs.storage.Storage.take.Goals as goal
 
 pub returns-in-Some-clause-removed : goal.returns-in-Some-clause-removed
 returns-in-Some-clause-removed c = λ beside.
-    let held : HoldsPairs c.args.kind c.args.tab (plain_key c.args.key.now) c.remove.new.self c.args.self.now (c.present_mut.follows.lender c.remove.new.self) =
+    let held : HoldsPairs c.args.kind c.args.tab (plain_key c.args.key.now) c.remove.new.self c.args.self.now
+    (c.present_mut.follows.lender c.remove.new.self) =
     rw c.in-Some.is at (c.present_mut.follows.holds c.remove.new.self) in
     held beside
     ∙ ap (λ pairs. with_area c.args.kind c.args.tab (plain_key c.args.key.now) pairs (held_with beside c.args.self.now))

@@ -12,5 +12,6 @@ returns c = rw (← c.self.view_is) (record {
   usage = λ beside.
       c.usage.ensures.usage
       ∙ ap area_weight (held_found order alike c.args.key.now c.self.inside.local
-      ∙ sym (local_of beside Local 0 (plain_key c.args.key.now) refl (record { local = c.self.inside.local; session = c.self.inside.session })));
+      ∙ sym (local_of beside Local 0 (plain_key c.args.key.now) refl
+      (record { local = c.self.inside.local; session = c.self.inside.session })));
 })

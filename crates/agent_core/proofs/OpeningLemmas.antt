@@ -2,7 +2,7 @@
 use Rattle.std.proofs.Common.{◌≡◌, ⊎_elim, ℕ, ◌<◌, true, false, List, length, Some, sym, subst}
 use Rattle.std.specs.Prelude.{Result, Ok, Err, IsErrOf}
 use Rattle.std.proofs.lemmas.Bool.{cases_lt}
-use Rattle.disk_model.specs.Disk.{IsSettled, View}
+use Rattle.disk_model.specs.Disk.{IsSettled, Makes, View}
 use Rattle.journal.specs.Journal.{JournalView, Stands}
 use Rattle.journal.specs.Opening.{FileMeans, HasNoFault, IsWithin, Opens, limit}
 use Rattle.journal.specs.declared.open_fault.OpenFault.{OpenFault}
@@ -53,6 +53,15 @@ is_opened list journal view rows parts same by at digest valid read storable spe
       spelled = subst (λ (r : List Rule). IsSpelledState r (saved_of rows.parts)) by spelled;
       sessions = none;
     })
+
+-- another answer after the same calls
+pub made_ok : {T U : Type 0} (calls : ℕ) (x : T) (y : U) (v w : View)
+    → Makes {E = OpenFault} calls (Ok x) v w → Makes {E = OpenFault} calls (Ok y) v w
+made_ok calls x y v w made = record { later = made.later; most = made.most; all = made.all }
+
+pub made_err : {T U : Type 0} (calls : ℕ) (why : OpenFault) (v w : View)
+    → Makes {T = T} calls (Err why) v w → Makes {T = U} calls (Err why) v w
+made_err calls why v w made = record { later = made.later; most = made.most; all = tt }
 
 -- a file that is not too large
 pub is_within : (c : List ℕ) → (limit < length c → ⊥) → IsWithin true c

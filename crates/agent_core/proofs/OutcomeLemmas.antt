@@ -268,6 +268,7 @@ module _ (j j' : JournalView) (v mid w : View) (roomier : IsRoomier j j' v mid) 
     tells = device.tells ∙ roomier.stays.tells;
     later = omega (arith, device.later, roomier.stays.changing);
     calls = omega (arith, device.calls, roomier.stays.changing);
+    spared = λ is. device.spared is ∙ roomier.stays.changing;
     down = λ is.
         let was = device.down is in (
           subst (λ (n : ℕ). Rose n w.faults) roomier.fine.faults was.0,
@@ -291,12 +292,19 @@ module _ (j j' : JournalView) (v mid w : View) (roomier : IsRoomier j j' v mid) 
     tells = roomier.stays.tells;
     later = omega (arith, roomier.stays.changing);
     calls = omega (arith, roomier.stays.changing);
+    spared = λ _. roomier.stays.changing;
     down = λ is. absurd (other is);
     others = λ _. roomier.fine;
   }
 
 pub not_down : (given : Vec Reply Global) → outcome.Replies given ≡ outcome.Down → ⊥
 not_down given e = cc
+
+not_wanting : (given : Vec Reply Global) → outcome.Replies given ≡ outcome.NoMemory → ⊥
+not_wanting given e = cc
+
+down_not_wanting : outcome.Down ≡ outcome.NoMemory → ⊥
+down_not_wanting e = cc
 
 pub device_gave : {T E : Type 0} (most : ℕ) (result : Result T E) (v w : View)
     (given : Vec Reply Global) → HasNoFault v w → CommitDevice most result v w
@@ -305,6 +313,7 @@ device_gave most result v w given fine device = record {
   tells = device.tells;
   later = device.later;
   calls = device.calls;
+  spared = λ is. absurd (not_wanting given is);
   down = λ is. absurd (not_down given is);
   others = λ _. fine;
 }
@@ -316,6 +325,7 @@ device_failed most result v w failed device = record {
   tells = device.tells;
   later = device.later;
   calls = device.calls;
+  spared = λ is. absurd (down_not_wanting is);
   down = λ _. failed;
   others = λ never. absurd (never refl);
 }

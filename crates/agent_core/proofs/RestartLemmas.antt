@@ -4,7 +4,7 @@ use Rattle.std.specs.Prelude.{Ok, Err, IsErrOf, Result}
 use Rattle.std.proofs.lemmas.List.Elements.{All-nil}
 use Rattle.unwinding.specs.Course.{AtBase}
 use Rattle.unwinding.specs.CourseSteps.{reopened}
-use Rattle.disk_model.specs.Disk.{View}
+use Rattle.disk_model.specs.Disk.{Makes, View}
 use Rattle.disk_model.specs.DiskLaws.{IsLawful}
 use Rattle.journal.specs.Journal.{JournalView}
 use Rattle.journal.specs.Opening.{IsExcused}
@@ -276,6 +276,17 @@ module _ {D : Type 0} (told : D → View) (was old : AgentView D) (list : RuleLi
   stores_here a here =
       stores_under list.rules was.memory.rules list.digest was.journal.digest (sym rules)
       (sym digest) (told was.disk) here.stores
+
+  pub restart_calls : {T : Type 0} (result : Result T OpenFault) (w : View)
+      → ((told was.disk).tells ≡ true → Stores → Makes 1 result (told was.disk) w)
+      → (told old.disk).tells ≡ true → (a : AgentSeen) → IsSeen old (told old.disk) a
+      → Makes 1 result (told old.disk) w
+  restart_calls result w made tells a here =
+      let P : AgentView D → Type 0 =
+      λ o. (told o.disk).tells ≡ true → IsSeen o (told o.disk) a
+      → Makes 1 result (told o.disk) w in
+      let at : P was = λ tells here. made tells (stores_here a here) in
+      subst P is at tells here
 
   pub restart_opened : (new : AgentView D) (w : View) (j : JournalView) (parts : Parts) (kept : ℕ)
       → ((told was.disk).tells ≡ true → Stores

@@ -95,7 +95,7 @@ RestartMeans rules a may b may' (Err (fault.NotAStore offset)) = ⊥
 RestartMeans rules a may b may' (Err (fault.OtherList kept given)) = ⊥
 RestartMeans rules a may b may' (Err (fault.TooLarge len)) = ⊥
 
--- ---- moments within a call
+-- ---- moments within a call, and the device
 
 -- a file stands for what the store stood for when the batch began, or for what follows the batch
 abbrev pub IsBeforeOrAfter : List Rule → (digest : List ℕ) → (a ran : AgentSeen) → List ℕ → Type 0
@@ -109,8 +109,6 @@ IsOneFound v view file =
     view.may_leave file × (base : Saved) × (last : ℕ)
     × StandsFor (Takes v.memory.rules) nothing_saved v.journal.digest file base last
     × may_of v view (durable_of base) (since_opening last v.opened)
-
--- ---- the device
 
 -- how many changing calls a checkpoint makes at most, where one is due; else none is made
 abbrev pub checkpoint_calls : {D : Type 0} → AgentView D → ℕ
@@ -130,11 +128,12 @@ IsTidy (Replies given) v = is_due v.checkpoint v.journal ≡ false
 IsTidy other v = Unit {0}
 
 -- a line or a flush of an agent that is up answers `Down` exactly where a call of the disk failed;
--- so many changing calls are made at most
+-- so many changing calls are made at most, and none where memory is wanting
 pub record OutcomeDevice (most : ℕ) (result : Outcome) (old new : View) : Type 0 where
   pub tells : new.tells ≡ old.tells
   pub later : old.changing ≤ new.changing
   pub calls : new.changing ≤ old.changing + most
+  pub spared : result ≡ NoMemory → new.changing ≡ old.changing
   pub down : result ≡ Down → Rose old.faults new.faults × HasFailed old new
   pub others : (result ≡ Down → ⊥) → HasNoFault old new
 

@@ -238,7 +238,8 @@ impl<'l, D: Disk + Drop> Agent<'l, D> {
     /// Runs one line. The last line of a batch commits the batch.
     ///
     /// All memory of a line is taken before anything changes. At most four changing calls of the
-    /// disk are made, and none where no line of the batch has a durable change.
+    /// disk are made, and none where no line of the batch has a durable change, or memory is
+    /// wanting.
     pub fn line(&mut self, action: &Action) -> Outcome
         ensures means { (a : AgentSeen) → IsSeen self.old (D.view self.old.disk) a → Fits a
             → (b : AgentSeen) × IsSeen self.new (D.view self.new.disk) b
@@ -276,7 +277,8 @@ impl<'l, D: Disk + Drop> Agent<'l, D> {
     /// that is due, if one is due: the store has a snapshot then in the place of its frames.
     ///
     /// All memory of it is taken before anything changes. At most four changing calls are made, for
-    /// a checkpoint seven, and none where nothing durable is held and no checkpoint is due.
+    /// a checkpoint seven, and none where nothing durable is held and no checkpoint is due, or
+    /// memory is wanting.
     pub fn flush(&mut self) -> Outcome
         ensures means { (a : AgentSeen) → IsSeen self.old (D.view self.old.disk) a
             → (b : AgentSeen) × IsSeen self.new (D.view self.new.disk) b
@@ -310,7 +312,7 @@ impl<'l, D: Disk + Drop> Agent<'l, D> {
 
     /// The power is cut and comes back, and the store is opened again: the tabs, all that a restart
     /// loses, and the open batch are gone. Answers how many durable changes since the last opening
-    /// are there, modulo 2^64. The clock goes on.
+    /// are there, modulo 2^64. The clock goes on. One changing call of the disk is made, a sync.
     pub fn restart(&mut self) -> Result<u64, OpenFault>
         ensures means { (D.view self.old.disk).tells ≡ true → (a : AgentSeen)
             → IsSeen self.old (D.view self.old.disk) a
@@ -325,6 +327,9 @@ impl<'l, D: Disk + Drop> Agent<'l, D> {
             (IsOneFound self.old (D.view self.old.disk)) }
         ensures rules { KeepsOptions self.old self.new }
         ensures device { RestartDevice result (D.view self.old.disk) (D.view self.new.disk) }
+        ensures calls { (D.view self.old.disk).tells ≡ true → (a : AgentSeen)
+            → IsSeen self.old (D.view self.old.disk) a
+            → Makes 1 result (D.view self.old.disk) (D.view self.new.disk) }
         ensures power { MatchResult result (λ _. self.new.power ≡ Power.Up)
             (λ why. self.new.power ≡ power_of why) }
     {

@@ -75,6 +75,9 @@ pub fn reopen<D: Disk>(alloc: Global, disk: &mut D, list: &SuffixList) -> Result
     ensures any_moment { LeavesAnew result (D.view disk.old) (D.view disk.new)
         (IsReopening list.now.digest (D.view disk.old)) }
     ensures device { Reopens result (D.view disk.old) (D.view disk.new) }
+    ensures calls { (D.view disk.old).tells ≡ true
+        → LeavesStores list.now.rules list.now.digest (D.view disk.old)
+        → Makes 1 result (D.view disk.old) (D.view disk.new) }
 {
     let mut rows = Rows::new(alloc, list);
     match open_store::reopen(alloc, disk, &list.digest(), &mut rows) {

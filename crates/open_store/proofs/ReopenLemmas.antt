@@ -1,17 +1,38 @@
 -- What an opening after a cut of the power finds.
-use Rattle.std.proofs.Common.{◌≡◌, inl, inr, ⊎_elim, ℕ, ◌<◌, ◌≤◌, true, Bool, List, [], Some, sym, ◌∙◌, subst, arith}
+use Rattle.std.proofs.Common.{◌≡◌, inl, inr, ⊎_elim, ℕ, ◌<◌, ◌≤◌, true, Bool, List, [], length, Some, sym, ◌∙◌, subst, arith}
 use Rattle.std.specs.Prelude.{◌⊎◌, Err, IfErr, IfOk, IsErrOf, MatchResult, Ok, Option, Result}
 use Rattle.std.proofs.lemmas.Bool.{cases_lt}
-use Rattle.disk_model.specs.Disk.{Goes, IsSettled, LeavesOnly, View}
+use Rattle.std.proofs.lemmas.Bool.Decides.{nat_tests}
+use Rattle.disk_model.specs.Disk.{Goes, IsSettled, LeavesOnly, Makes, View}
 use Rattle.disk_model.specs.DiskLaws.{IsLawful}
-use Rattle.journal.specs.Opening.{FileMeans, IsExcused, IsOpening}
+use Rattle.journal.specs.Opening.{FileMeans, IsExcused, IsOpening, opening_calls}
 use Rattle.journal.specs.Region.{StandsFor}
-use Rattle.journal.specs.Store.{IsStore, IsUnborn}
+use Rattle.journal.specs.Store.{IsOpen, IsStore, IsUnborn}
 use Rattle.journal.specs.declared.open_fault.OpenFault.{OpenFault}
 use Rattle.journal.specs.declared.open_fault.OpenFault.TheVariants.{DeviceFault}
 use Rattle.journal.proofs.Moments.{goes_from}
-use Rattle.journal.proofs.Refusals.{store_is_born}
+use Rattle.journal.proofs.Refusals.{store_born, store_is_born}
 use Rattle.open_store.specs.Reopens.{IsFound, IsReopening, LeavesAnew, LeavesStores}
+
+-- the opening of a born file is one sync
+born_calls : (file : List ℕ) → IsOpen file 0 × (1 < length file) → opening_calls file ≡ 1
+born_calls file (gate, long) =
+    let shut = gate.1 in grind (arith, nat_tests, shut, long)
+
+-- the calls of an opening of this file are all that are made
+same_calls : {T : Type 0} (result : Result T OpenFault) (file : List ℕ) (v r w : View)
+    → opening_calls file ≡ 1 → r.changing ≡ v.changing → Makes (opening_calls file) result r w
+    → Makes 1 result v w
+same_calls (Ok j) file v r w one same made = record {
+  later = omega (arith, one, same, made.later);
+  most = omega (arith, one, same, made.most);
+  all = omega (arith, one, same, made.all);
+}
+same_calls (Err why) file v r w one same made = record {
+  later = omega (arith, one, same, made.later);
+  most = omega (arith, one, same, made.most);
+  all = tt;
+}
 
 module _ {S : Type 0} (takes : S → Bool → List ℕ → S → ℕ → Type 0) (empty : S)
     (digest : List ℕ) (v : View) (now : Option (List ℕ)) (laws : IsLawful v)
@@ -52,6 +73,18 @@ module _ {S : Type 0} (takes : S → Bool → List ℕ → S → ℕ → Type 0)
     reopened_excused (Err why) means =
         let here = left in
         let stands = left_stands in means here.0 stands.0 stands.1 here.1 (inl stands.2)
+
+  -- where the restart left a store, its opening is one sync
+  pub reopened_calls : {T : Type 0} (result : Result T OpenFault) (r w : View)
+      → r.contents ≡ now → r.changing ≡ v.changing
+      → ((c : List ℕ) → r.contents ≡ Some c → Makes (opening_calls c) result r w)
+      → Makes 1 result v w
+  reopened_calls result r w is same made =
+      let here = left in
+      let stands = left_stands in
+      same_calls result here.0 v r w
+      (born_calls here.0 (store_born digest here.0 stands.2.0 stands.2.1)) same
+      (made here.0 (is ∙ here.1))
 
 -- ---- moments since the restart
 

@@ -1,5 +1,6 @@
 //! The power is cut, and the store that is left is opened.
 ghost use Rattle.std.specs.Prelude.{◌≡◌, true, IfErr, IfOk};
+ghost use Rattle.disk_model.specs.Disk.{Makes};
 ghost use Rattle.journal.specs.Opening.{IsExcused};
 ghost use Rattle.open_store.specs.Reopens.{IsFound, IsReopening, LeavesAnew, LeavesStores, Reopens};
 ghost use Rattle.open_store.specs.Standing.{StandsAt};
@@ -12,7 +13,7 @@ use std::alloc::Global;
 /// that it stands for.
 ///
 /// Of a disk that tells its contents, and may be left with nothing but stores, it finds one of
-/// these, and refuses none.
+/// these, refuses none, and makes one changing call, a sync.
 pub fn reopen<D: Disk, R: Replay>(
     alloc: Global,
     disk: &mut D,
@@ -36,6 +37,9 @@ pub fn reopen<D: Disk, R: Replay>(
         (IsReopening digest.now (D.view disk.old)) }
     ensures rules { R.rules into.new ≡ R.rules into.old }
     ensures device { Reopens result (D.view disk.old) (D.view disk.new) }
+    ensures calls { (D.view disk.old).tells ≡ true
+        → LeavesStores (R.takes (R.rules into.old)) R.empty digest.now (D.view disk.old)
+        → Makes 1 result (D.view disk.old) (D.view disk.new) }
 {
     if disk.restart().is_err() {
         return Err(OpenFault::DeviceFault);

@@ -111,6 +111,12 @@ module _ (key : CellKey) (row : CookieRow) (entries : Entries) (jar new : PlainJ
   row_set_ok (Ok done) valid is = row_set done valid is
   row_set_ok (Err why) valid is = tt
 
+  pub refused_there : row_fits (kind_of (plain_key key)) (cookies_at (plain_key key) entries) row ≡ false → row_fits jar.kind jar.cookies row ≡ false
+  refused_there fails =
+      ap (λ kind. row_fits kind jar.cookies row) (kind_there key entries jar kinds there)
+      ∙ ap (λ cs. row_fits (kind_of (plain_key key)) cs row) (sym (cookies_there key entries (Some jar) there))
+      ∙ fails
+
   -- a jar that keeps its cookies leaves each cell
   pub kept_set : new.cookies ≡ jar.cookies → HoldSame entries (map_set order key new entries)
   kept_set is q = change_set key (Stored new) entries jar new there refl q ∙ at (eq_by_cmp cell_order q (plain_key key)) refl

@@ -1,12 +1,13 @@
 //! Cookies at places of cells: each is put or removed where that is valid.
 ghost use Rattle.std.specs.Prelude.{◌≡◌, ◌<◌, ◌≤◌, ◌^◌, ◌==◌, [], IfOk, IfSome, IsOk, MatchOption, OnErr, OnOk};
-ghost use Rattle.std.specs.Prelude.{false, option_map, slice_get, sum_by, unwrap_or};
+ghost use Rattle.std.specs.Prelude.{false, is_some, option_map, slice_get, sum_by, true};
+ghost use Rattle.std.specs.Prelude.{unwrap_or};
 ghost use Rattle.partition_limits.specs.Limits as limits;
 ghost use Rattle.cookie_jar.specs.Cookie as spec;
 ghost use Rattle.cookie_jar.specs.Key.{plain_key};
 ghost use Rattle.cookie_jar.specs.Persistent.{RowInsert, RowRemove, RowReplace, apply_row, row_fits};
 ghost use Rattle.cookie_jar.specs.Views.{plain_cookie};
-ghost use Rattle.web_cookies.specs.Cells.{cookies_at, kind_of};
+ghost use Rattle.web_cookies.specs.Cells.{cookies_at, jar_at, kind_of};
 ghost use Rattle.web_cookies.specs.Stored.{partitioned_in, shared_in};
 ghost use Rattle.web_cookies.specs.Rows.{HasPlace, IsRowDone};
 
@@ -42,7 +43,8 @@ impl Cookies {
     /// Puts a cookie before the one at a place of a cell, or at the end, and tells whether that is
     /// valid. Where it is not, no cookie changes.
     ///
-    /// Each call goes over the cookies of the cell. Where the cell has room no memory is taken.
+    /// Each call goes over the cookies of the cell. Where the cell has room no memory is taken, and
+    /// none where it has a jar and the cookie is refused.
     pub fn insert_at(
         &mut self,
         alloc: Global,
@@ -55,6 +57,9 @@ impl Cookies {
         ensures shared { OnErr result (shared_in self.new ≡ shared_in self.old) }
         ensures partitioned { OnErr result (partitioned_in self.new ≡ partitioned_in self.old) }
         ensures ready { HasPlace (plain_key cell.now) self.old → IsOk result }
+        ensures decided { is_some (jar_at (plain_key cell.now) self.old) ≡ true
+            → row_fits (kind_of (plain_key cell.now)) (cookies_at (plain_key cell.now) self.old)
+            (RowInsert place (plain_cookie cookie)) ≡ false → IsOk result }
     {
         self.make_room(alloc, cell, kind_of(cell))?;
         let Some(jar) = self.cells.get_mut(cell) else {
@@ -104,6 +109,8 @@ fn insert_in(jar: &mut Jar, place: usize, cookie: Cookie) -> Result<bool, NoMemo
         OnOk result (jar.new.cookies ≡ apply_row jar.old.kind jar.old.cookies row) }
     ensures unchanged { OnErr result (jar.new.cookies ≡ jar.old.cookies) }
     ensures ready { 0 < jar.old.spare → IsOk result }
+    ensures decided { let row = RowInsert place (plain_cookie cookie) in
+        row_fits jar.old.kind jar.old.cookies row ≡ false → IsOk result }
     ensures kind { jar.new.kind ≡ jar.old.kind }
 {
     if !may_insert(jar, place, &cookie) {

@@ -6,7 +6,8 @@ use Rattle.open_store.proofs.ReopenLemmas.{anew_as, same_err, same_ok}
 use Rattle.suffix_list.specs.Suffix.{Rule}
 use Rattle.row_store.specs.Stored.{saved_of}
 use Rattle.agent_core.specs.Seen.{IsAtBase}
-use Rattle.agent_core.proofs.OpeningLemmas.{found_under, is_opened, stores_under}
+use Rattle.agent_core.proofs.OpeningLemmas.{found_under, is_opened, made_err, made_ok}
+use Rattle.agent_core.proofs.OpeningLemmas.{stores_under}
 use Rattle.agent_core.proofs.opening.reopen.Goals as goal
 
 pub returns-in-Ok-clause-opened : goal.returns-in-Ok-clause-opened
@@ -56,3 +57,19 @@ returns-in-Err-clause-any_moment g c =
     (same_err c.in-Err.why)
     (λ file. subst (λ (d : List ℕ). IsReopening d v file) c.digest.ensures.value)
     c.in-Err.ensures.any_moment
+
+pub returns-in-Ok-clause-calls : goal.returns-in-Ok-clause-calls
+returns-in-Ok-clause-calls g c tells stores =
+    let old = g.D.Disk.view c.args.disk.now in
+    made_ok 1 c.in-Ok.journal _ old (g.D.Disk.view c.reopen.new.disk)
+    (c.in-Ok.ensures.calls tells
+    (stores_under c.new-rows.result.rules c.args.list.now.rules c.digest.result
+    c.args.list.now.digest c.new-rows.ensures.rules c.digest.ensures.value old stores))
+
+pub returns-in-Err-clause-calls : goal.returns-in-Err-clause-calls
+returns-in-Err-clause-calls g c tells stores =
+    let old = g.D.Disk.view c.args.disk.now in
+    made_err 1 c.in-Err.why old (g.D.Disk.view c.reopen.new.disk)
+    (c.in-Err.ensures.calls tells
+    (stores_under c.new-rows.result.rules c.args.list.now.rules c.digest.result
+    c.args.list.now.digest c.new-rows.ensures.rules c.digest.ensures.value old stores))

@@ -1,6 +1,7 @@
 -- What is opened is one of the stores that a cut might have left.
-use Rattle.std.proofs.Common.{rules}
-use Rattle.open_store.proofs.ReopenLemmas.{reopened_excused, reopened_found, reopened_moments}
+use Rattle.std.proofs.Common.{refl, rules}
+use Rattle.open_store.proofs.ReopenLemmas.{reopened_calls, reopened_excused}
+use Rattle.open_store.proofs.ReopenLemmas.{reopened_found, reopened_moments}
 use Rattle.open_store.proofs.reopening.reopen.Goals as goal
 
 pub returns-clause-found : goal.returns-clause-found
@@ -25,3 +26,11 @@ returns-clause-any_moment g c =
     (g.D.Disk.view c.open.new.disk) (g.met.D.Disk.lawful c.args.disk.now)
     (g.met.D.Disk.lawful _) (g.met.D.Disk.lawful c.open.new.disk) (search rules) (search rules)
     (search rules) c.open.ensures.any_moment c.open.result
+
+pub returns-clause-calls : goal.returns-clause-calls
+returns-clause-calls g c = λ tells stores.
+    let by = g.R.Replay.rules c.args.into.now in
+    reopened_calls (g.R.Replay.takes by) g.R.Replay.empty c.args.digest.now
+    (g.D.Disk.view c.args.disk.now) _ (g.met.D.Disk.lawful c.args.disk.now) tells stores
+    (search rules) c.open.result _ (g.D.Disk.view c.open.new.disk) refl (search rules)
+    c.open.ensures.calls

@@ -1,9 +1,13 @@
 -- A restart opens one of the states that it may find, or leaves the agent down.
 use Rattle.std.proofs.Common.{sym, subst}
 use Rattle.std.specs.Prelude.{Err, Ok}
+use Rattle.disk_model.specs.Disk.{Makes}
+use Rattle.journal.specs.declared.open_fault.OpenFault.{OpenFault}
 use Rattle.open_store.specs.Reopens.{IsReopening, LeavesAnew}
 use Rattle.open_store.proofs.ReopenLemmas.{same_err, same_ok}
-use Rattle.agent_core.proofs.RestartLemmas.{fewer_after, restart_moments, restart_opened, restart_refused}
+use Rattle.agent_core.proofs.OpeningLemmas.{made_err, made_ok}
+use Rattle.agent_core.proofs.RestartLemmas.{fewer_after, restart_calls, restart_moments}
+use Rattle.agent_core.proofs.RestartLemmas.{restart_opened, restart_refused}
 use Rattle.agent_core.proofs.agent.Agent.restart.Goals as goal
 
 pub returns-in-Ok-clause-means : goal.returns-in-Ok-clause-means
@@ -42,3 +46,21 @@ returns-in-Err-clause-any_moment g c =
     c.self.invariant.rules c.self.invariant.digest (Err c.in-Err.why) (Err c.in-Err.why)
     (g.D.Disk.view c.reopen.new.disk) (same_err c.in-Err.why)
     (g.met.D.Disk.lawful c.self.inside.store.disk) c.in-Err.ensures.any_moment
+
+pub returns-in-Ok-clause-calls : goal.returns-in-Ok-clause-calls
+returns-in-Ok-clause-calls g c =
+    let v = g.D.Disk.view c.self.inside.store.disk in
+    restart_calls g.D.Disk.view _ c.args.self.now c.self.inside.list.now c.self.view_is
+    c.self.invariant.rules c.self.invariant.digest (Ok c.go_on.result)
+    (g.D.Disk.view c.go_on.new.self.disk)
+    (λ tells stores.
+    subst (λ d. Makes {E = OpenFault} 1 (Ok c.go_on.result) v (g.D.Disk.view d)) (sym c.go_on.ensures.disk)
+    (made_ok 1 c.in-Ok.opened c.go_on.result v _ (c.in-Ok.ensures.calls tells stores)))
+
+pub returns-in-Err-clause-calls : goal.returns-in-Err-clause-calls
+returns-in-Err-clause-calls g c =
+    let v = g.D.Disk.view c.self.inside.store.disk in
+    restart_calls g.D.Disk.view _ c.args.self.now c.self.inside.list.now c.self.view_is
+    c.self.invariant.rules c.self.invariant.digest (Err c.in-Err.why)
+    (g.D.Disk.view c.reopen.new.disk)
+    (λ tells stores. made_err 1 c.in-Err.why v _ (c.in-Err.ensures.calls tells stores))

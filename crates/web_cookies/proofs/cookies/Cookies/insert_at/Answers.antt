@@ -4,14 +4,14 @@ use Rattle.std.specs.Prelude.{IfOk, is_some}
 use Rattle.std.proofs.lemmas.Result.{on_err_weaker}
 use Rattle.agent_base.proofs.Logic.{on_err}
 use Rattle.cookie_jar.specs.Key.{plain_key}
-use Rattle.cookie_jar.specs.Persistent.{RowInsert}
+use Rattle.cookie_jar.specs.Persistent.{RowInsert, row_fits}
 use Rattle.cookie_jar.specs.Views.{plain_cookie}
 use Rattle.web_cookies.specs.Stored.{partitioned_in, shared_in}
-use Rattle.web_cookies.specs.Cells.{HaveKinds}
+use Rattle.web_cookies.specs.Cells.{HaveKinds, cookies_at, jar_at, kind_of}
 use Rattle.web_cookies.specs.Rows.{HasPlace, IsRowDone}
 use Rattle.web_cookies.proofs.LeftLemmas.{partitioned_same, shared_same}
 use Rattle.web_cookies.proofs.PreparedLemmas.{kinds_set}
-use Rattle.web_cookies.proofs.RowsLemmas.{at_key, kept_set, kind_there, place_spare, place_there, row_same_ok, row_set_ok}
+use Rattle.web_cookies.proofs.RowsLemmas.{at_key, kept_set, kind_there, place_spare, place_there, refused_there, row_same_ok, row_set_ok}
 use Rattle.web_cookies.proofs.cookies.Cookies.insert_at.Goals as goal
 
 pub returns-in_err-make_room-clause-shared : goal.returns-in_err-make_room-clause-shared
@@ -74,3 +74,21 @@ returns-clause-ready c has =
     let still = (c.make_room.ensures.ready (place_there (plain_key c.args.cell.now) c.args.self.now has)).1 in
     c.insert_in.ensures.ready (place_spare c.args.cell.now c.self.inside.cells c.in-Some.jar.now (sym c.in-Some.ensures.value)
     (subst (HasPlace (plain_key c.args.cell.now)) (sym (c.self.view_is ∙ still)) has))
+
+pub returns-in_err-make_room-clause-decided : goal.returns-in_err-make_room-clause-decided
+returns-in_err-make_room-clause-decided c there fails =
+    let no : false ≡ true = (c.in_err-make_room.ensures.ready there).0 in cc
+
+pub returns-in_default-clause-decided : goal.returns-in_default-clause-decided
+returns-in_default-clause-decided c there fails =
+    let is = c.self.view_is ∙ (c.make_room.ensures.ready there).1 in
+    let still = subst (λ e. is_some (jar_at (plain_key c.args.cell.now) e) ≡ true) (sym is) there in
+    let no : false ≡ true = ap is_some (c.in_default.ensures.value ∙ at_key c.args.cell.now c.self.inside.cells) ∙ still in cc
+
+pub returns-clause-decided : goal.returns-clause-decided
+returns-clause-decided c there fails =
+    let cell = plain_key c.args.cell.now in
+    let row = RowInsert c.args.place (plain_cookie c.args.cookie) in
+    let is = c.self.view_is ∙ (c.make_room.ensures.ready there).1 in
+    c.insert_in.ensures.decided (refused_there c.args.cell.now row c.self.inside.cells c.in-Some.jar.now c.insert_in.new.jar c.self.invariant (sym c.in-Some.ensures.value)
+    (subst (λ e. row_fits (kind_of cell) (cookies_at cell e) row ≡ false) (sym is) fails))

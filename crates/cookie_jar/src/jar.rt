@@ -153,10 +153,11 @@ impl Jar {
     }
 }
 
+// Copies of cookies, with room for one more.
 fn copies_of(alloc: Global, cookies: &[Cookie]) -> Result<Vec<Cookie>, NoMemory>
     ensures { IfOk result (λ v. map plain_cookie v.items ≡ map plain_cookie cookies.now) }
 {
-    let mut copies = Vec::with_capacity(alloc, cookies.len())?;
+    let mut copies = Vec::with_capacity(alloc, cookies.len().saturating_add(1))?;
     for cookie in cookies {
         let Ok(()) = copies.push(cookie.copy()?) else {
             return Err(NoMemory);

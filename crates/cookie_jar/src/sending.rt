@@ -66,12 +66,13 @@ fn selected(
         (filter (λ c. spec.goes_out kind (plain_access access.now) now (plain_cookie c.1))
         (enumerate_from 0 cookies.now))) }
 {
-    cookies
-        .iter()
-        .enumerate()
-        .filter(|c| goes_out(kind, access, now, c.1))
-        .map(|c| c.0)
-        .collect(alloc)
+    let mut places = Vec::with_capacity(alloc, cookies.len())?;
+    for (place, cookie) in cookies.iter().enumerate() {
+        if goes_out(kind, access, now, cookie) {
+            places.push(place)?;
+        }
+    }
+    Ok(places)
 }
 
 fn goes_out(kind: CellKind, access: &Access<'_>, now: i64, cookie: &Cookie) -> bool

@@ -11,7 +11,7 @@ ghost use Rattle.agent_model.specs.CookieUses as spec;
 
 use agent_base::NoMemory;
 use frame_tree::{Document, Tab};
-use origin_site::{Address, Site, same_origin, site_of};
+use origin_site::{Address, Site, domain_of, same_origin};
 use std::alloc::Global;
 use storage_key::Context;
 use suffix_list::SuffixList;
@@ -21,8 +21,11 @@ pub fn target_of(alloc: Global, list: &SuffixList, url: &Address) -> Result<Site
     ensures site { let target = site_of_address list.now.rules (plain_address url.now) in
         IfOk result (λ site. plain_site site ≡ target) }
 {
-    let origin = url.origin(alloc)?;
-    site_of(alloc, &origin, list)
+    let host = domain_of(url.host.as_str(), url.ip, list);
+    Ok(Site {
+        https: url.https,
+        host: String::from_str(alloc, host)?,
+    })
 }
 
 /// The context of a load below the parent of a frame.

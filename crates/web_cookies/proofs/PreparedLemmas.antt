@@ -1,6 +1,6 @@
 -- What is prepared does to the cookies what the effect does.
 use Rattle.std.proofs.Common.{◌≡◌, ℕ, Bool, true, false, cond, List, map, Option, Some, None, pos, refl, sym, ap, subst, ◌∙◌}
-use Rattle.std.specs.Prelude.{Result, Ok, Err, IfOk, IfSome, is_some, ◌==◌, ◌&&◌, length, []}
+use Rattle.std.specs.Prelude.{IfSome, is_some, ◌==◌, ◌&&◌, length, []}
 use Rattle.std.specs.Ordering.{eq_by_cmp}
 use Rattle.key_map.specs.Entries.{map_get, map_put, map_set}
 use Rattle.suffix_list.specs.Suffix.{Rule}
@@ -25,7 +25,7 @@ use Rattle.web_cookies.specs.Cells.{HaveKinds, cell_order, cookies_at, jar_at, k
 use Rattle.web_cookies.specs.Prepared.{HasPlace, IsReady, IsReadyIf, Prepares, changed, changed_if, cookies_after}
 use Rattle.web_cookies.specs.declared.change.Becomes.{Becomes}
 use Rattle.web_cookies.specs.declared.change.Becomes.TheVariants.{Marked, Stored}
-use Rattle.web_cookies.specs.Found.{CanBeDone, HasKey, HasPlaceIf, HoldSame, IsChange, KeepKeys, LeavesBoth, cookies_if, found, is_key, left_at, own_key, partition_key}
+use Rattle.web_cookies.specs.Found.{CanBeDone, HasPlaceIf, HoldSame, IsChange, KeepKeys, LeavesBoth, cookies_if, found, is_key, left_at, own_key, partition_key}
 use Rattle.web_cookies.specs.declared.prepared.Prepared.{Prepared}
 use Rattle.web_cookies.proofs.OrderOfCells.{alike, cell_order_total, equal_keys, order, own_tie}
 use Rattle.web_cookies.proofs.PlainKeyLemmas as plain
@@ -257,16 +257,6 @@ module _ (rules : List Rule) (now : ℕ) (how : CookieUse) where
 pub marks_place : (key : Option PlainKey) (entries : Entries) (becomes : Becomes) → ((k : PlainKey) → HasPlace k entries becomes) → HasPlaceIf key entries becomes
 marks_place None entries becomes place = tt
 marks_place (Some key) entries becomes place = place key
-
--- a key that has a jar keeps one
-pub key_kept : (key : Option PlainKey) (old new : Entries) → KeepKeys old new → HasKey key old → HasKey key new
-key_kept None old new kept has = tt
-key_kept (Some key) old new kept has = kept key has
-
--- what four clauses say of one value
-pub four_of : {T E : Type 0} (r : Result T E) (P Q R S V : T → Type 0) → ((x : T) → P x → Q x → R x → S x → V x) → IfOk r P → IfOk r Q → IfOk r R → IfOk r S → IfOk r V
-four_of (Ok x) P Q R S V f p q s t = f x p q s t
-four_of (Err e) P Q R S V f p q s t = tt
 
 -- ---- kinds
 

@@ -13,7 +13,7 @@ ghost use Rattle.web_cookies.specs.Stored.{IsDoneBy, shared_in, partitioned_in};
 ghost use Rattle.web_cookies.specs.Uses.{plain_use};
 ghost use Rattle.web_cookies.specs.Cells.{cookies_at, jar_at, kind_of};
 ghost use Rattle.web_cookies.specs.Prepared.{Prepares, IsReady, IsReadyIf, changed, changed_if};
-ghost use Rattle.web_cookies.specs.Found.{AreKeysOf, CanBeDone, HasKey, HoldSame, IsSending, KeepKeys, LeavesBoth, cookies_if, found};
+ghost use Rattle.web_cookies.specs.Found.{AreKeysOf, HasKey, HoldSame, IsSending, KeepKeys, cookies_if, found};
 
 use crate::both::{BothJars, has_cookies};
 use crate::change::{CellChange, write};
@@ -83,10 +83,10 @@ impl Cookies {
             prepared) }
     {
         let keys = keys_of(alloc, list, how)?;
-        let sending = self.sending(alloc, list, now, how, &keys)?;
         if has_cookies(head) {
-            self.prepare_storing(alloc, list, now, how, head, keys, sending)
+            self.prepare_storing(alloc, list, now, how, head, keys)
         } else {
+            let sending = self.sending(alloc, list, now, how, &keys)?;
             Ok(marking(alloc, now, keys, sending))
         }
     }
@@ -128,8 +128,7 @@ impl Cookies {
         let mut both = self.copies(alloc, list, how, &keys)?;
         let mut rows = Vec::new(alloc);
         let word = both.store(alloc, list, now, how, &keys, text, &mut rows)?;
-        let body = ReplyBody::SetOne { set: word };
-        self.prepare_both(alloc, list, how, keys, both, rows, body)
+        Ok(storing(keys, both, rows, ReplyBody::SetOne { set: word }))
     }
 
     /// A script reads cookies. It marks none.
@@ -198,26 +197,7 @@ impl Cookies {
         self.cells.get(key).unwrap_or(other)
     }
 
-    // Copies of the jars of both cells of a use.
-    fn copies(
-        &self,
-        alloc: Global,
-        list: &SuffixList,
-        how: &CookieUse<'_>,
-        keys: &UseKeys,
-    ) -> Result<BothJars, NoMemory>
-        requires keys { AreKeysOf list.now.rules (plain_use how.now) keys.now }
-        ensures found { IfOk result (λ both. both
-            ≡ found list.now.rules (plain_use how.now) self.now) }
-    {
-        let no_own = Jar::new(alloc, CellKind::Own);
-        let no_partition = Jar::new(alloc, CellKind::Partition);
-        Ok(BothJars {
-            own: self.own_or(&keys.own, &no_own).copy(alloc)?,
-            partition: self.jar_or(&keys.partition, &no_partition).copy(alloc)?,
-        })
-    }
-
+    // Prepares a request whose response has a Set-Cookie text.
     fn prepare_storing(
         &mut self,
         alloc: Global,
@@ -226,22 +206,20 @@ impl Cookies {
         how: &CookieUse<'_>,
         head: &[HeadField],
         keys: UseKeys,
-        sending: Sending,
     ) -> Result<Prepared, NoMemory>
         requires now { now ≤ last_moment }
         requires keys { AreKeysOf list.now.rules (plain_use how.now) keys }
-        requires sending { IsSending list.now.rules now (plain_use how.now) self.old sending }
         ensures same { HoldSame self.old self.new }
         ensures prepared { IfOk result (λ prepared. Prepares
             (request list.now.rules now (plain_use how.now) (map head_field_of head.now)) self.new
             prepared) }
     {
+        let mut both = self.copies(alloc, list, how, &keys)?;
         let Sending {
             own_places,
             partition_places,
             text,
-        } = sending;
-        let mut both = self.copies(alloc, list, how, &keys)?;
+        } = chosen(alloc, now, how, &both.own, &both.partition)?;
         let mut rows = Vec::new(alloc);
         both.mark(&own_places, &partition_places, now);
         let words = both.store_all(alloc, list, now, how, &keys, head, &mut rows)?;
@@ -249,43 +227,59 @@ impl Cookies {
             cookie: header_value(&own_places, &partition_places, text),
             set: words,
         };
-        self.prepare_both(alloc, list, how, keys, both, rows, body)
+        Ok(storing(keys, both, rows, body))
     }
 
-    // Makes room for both cells of a use, which become those of the jars, by these row changes.
-    fn prepare_both(
+    // Copies of the jars of both cells of a use. Each cell has a place then.
+    fn copies(
         &mut self,
         alloc: Global,
         list: &SuffixList,
         how: &CookieUse<'_>,
-        keys: UseKeys,
-        both: BothJars,
-        rows: Vec<Change>,
-        body: ReplyBody,
-    ) -> Result<Prepared, NoMemory>
-        requires keys { AreKeysOf list.now.rules (plain_use how.now) keys }
+        keys: &UseKeys,
+    ) -> Result<BothJars, NoMemory>
+        requires keys { AreKeysOf list.now.rules (plain_use how.now) keys.now }
         ensures same { HoldSame self.old self.new }
-        ensures left { IfOk result (λ prepared. LeavesBoth list.now.rules (plain_use how.now) both
-            self.new prepared) }
-        ensures ready { IfOk result (λ prepared. CanBeDone prepared self.new) }
-        ensures rows { IfOk result (λ prepared. prepared.rows ≡ rows) }
-        ensures body { IfOk result (λ prepared. prepared.body ≡ body) }
+        ensures found { IfOk result (λ both. both
+            ≡ found list.now.rules (plain_use how.now) self.old) }
+        ensures own { OnOk result (HasKey (option_map plain_key keys.now.own) self.new) }
+        ensures partition { OnOk result (HasKey (Some (plain_key keys.now.partition)) self.new) }
     {
-        self.make_own_room(alloc, &keys.own)?;
-        self.make_room(alloc, &keys.partition, CellKind::Partition)?;
-        Ok(storing(keys, both, rows, body))
+        let own = self.own_copy(alloc, &keys.own)?;
+        let partition = self.copy_at(alloc, &keys.partition, CellKind::Partition)?;
+        Ok(BothJars { own, partition })
     }
 
-    // Makes a place for the jar of the unpartitioned cell, if there is one.
-    fn make_own_room(&mut self, alloc: Global, key: &Option<CellKey>) -> Result<(), NoMemory>
+    // A copy of the jar of the unpartitioned cell, if there is one, and else an empty jar.
+    fn own_copy(&mut self, alloc: Global, key: &Option<CellKey>) -> Result<Jar, NoMemory>
         requires own { IfSome (option_map plain_key key.now) (λ key. kind_of key ≡ kind.Own) }
         ensures same { HoldSame self.old self.new }
         ensures there { OnOk result (HasKey (option_map plain_key key.now) self.new) }
+        ensures kind { IfOk result (λ jar. jar.kind ≡ kind.Own) }
+        ensures cookies { IfOk result (λ jar. jar.cookies
+            ≡ cookies_if (option_map plain_key key.now) self.old) }
     {
         match key {
-            Some(key) => self.make_room(alloc, key, CellKind::Own),
-            None => Ok(()),
+            Some(key) => self.copy_at(alloc, key, CellKind::Own),
+            None => Ok(Jar::new(alloc, CellKind::Own)),
         }
+    }
+
+    // A copy of the jar of a key. Where there is none, an empty one is put in its place.
+    fn copy_at(&mut self, alloc: Global, key: &CellKey, kind: CellKind) -> Result<Jar, NoMemory>
+        requires kind { kind ≡ kind_of (plain_key key.now) }
+        ensures same { HoldSame self.old self.new }
+        ensures kept { KeepKeys self.old self.new }
+        ensures there { OnOk result (is_some (jar_at (plain_key key.now) self.new) ≡ true) }
+        ensures kind { IfOk result (λ jar. jar.kind ≡ kind) }
+        ensures cookies { IfOk result (λ jar. jar.cookies
+            ≡ cookies_at (plain_key key.now) self.old) }
+    {
+        if let Some(jar) = self.cells.get(key) {
+            return jar.copy(alloc);
+        }
+        self.make_room(alloc, key, kind)?;
+        Ok(Jar::new(alloc, kind))
     }
 
     // Makes a place for the jar of a key. One that is made is empty.

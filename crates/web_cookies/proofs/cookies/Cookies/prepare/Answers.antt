@@ -12,8 +12,8 @@ returns-then-has_cookies-clause-shared c = shared_same c.args.self.now c.prepare
 pub returns-then-has_cookies-clause-partitioned : goal.returns-then-has_cookies-clause-partitioned
 returns-then-has_cookies-clause-partitioned c = partitioned_same c.args.self.now c.prepare_storing.new.self c.prepare_storing.ensures.same
 
-pub returns-else-has_cookies-clause-prepared : goal.returns-else-has_cookies-clause-prepared
-returns-else-has_cookies-clause-prepared c =
+pub returns-in_ok-sending-clause-prepared : goal.returns-in_ok-sending-clause-prepared
+returns-in_ok-sending-clause-prepared c =
     c.marking.ensures.prepared c.args.list.now.rules (plain_use c.args.how.now) (map head_field_of c.args.head.now) c.args.self.now
     c.in_ok-keys.ensures.keys c.in_ok-sending.ensures.sending
     (no_texts head_field_of c.args.head.now (sym c.has_cookies.ensures.value ∙ c.if-has_cookies.false))

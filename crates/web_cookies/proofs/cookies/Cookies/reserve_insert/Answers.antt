@@ -1,8 +1,7 @@
 -- A jar that is there, or was made, keeps its cookies.
-use Rattle.std.proofs.Common.{◌≡◌, ap, sym, subst, ◌∙◌}
-use Rattle.std.specs.Prelude.{OnOk, is_some}
+use Rattle.std.proofs.Common.{ap, sym, subst, ◌∙◌}
+use Rattle.std.specs.Prelude.{is_some}
 use Rattle.std.proofs.lemmas.Result.{on_ok_weaker}
-use Rattle.agent_base.proofs.Logic.{on_err}
 use Rattle.cookie_jar.specs.Key.{plain_key}
 use Rattle.cookie_jar.specs.Persistent.{RowRemove}
 use Rattle.web_cookies.specs.Stored.{partitioned_in, shared_in}

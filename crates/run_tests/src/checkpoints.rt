@@ -1,6 +1,7 @@
 //! Checkpoints of a run: how long they leave the store, and what a cut within one leaves.
-use crate::shared::{RESTART, disk_of, options, run};
+use crate::shared::{OnDisk, RESTART, disk_of, left_by};
 use disk_model::{Cut, Disk};
+use std::alloc::Global;
 use std::test::Fail;
 use store_runs::Ending;
 
@@ -11,17 +12,36 @@ const LINES: &[&str] = &[
     "{\"do\":\"set\",\"tab\":1,\"key\":\"k\",\"value\":\"w\"}",
 ];
 
-/// How many of the lines are run, in batches of how many, after how many durable changes a
+/// What they print.
+const CHANGED: &str = concat!(
+    "{\"cookie\":null,\"do\":\"open\",\"is\":\"ok\",\"set\":[],\"site\":\"https://a.test\"}\n",
+    "{\"do\":\"set\",\"is\":\"ok\",\"site\":\"https://a.test\"}\n",
+    "{\"do\":\"set\",\"is\":\"ok\",\"site\":\"https://a.test\"}\n",
+);
+
+/// The first line, and what it prints.
+const FIRST: &[&str] = &["{\"do\":\"open\",\"tab\":1,\"url\":\"https://a.test/\"}"];
+
+const OPENED: &str =
+    "{\"cookie\":null,\"do\":\"open\",\"is\":\"ok\",\"set\":[],\"site\":\"https://a.test\"}\n";
+
+/// The first two lines.
+const BOTH: &[&str] = &[
+    "{\"do\":\"open\",\"tab\":1,\"url\":\"https://a.test/\"}",
+    "{\"do\":\"set\",\"tab\":1,\"key\":\"k\",\"value\":\"v\"}",
+];
+
+/// Lines that run, what they print, in batches of how many, after how many durable changes a
 /// checkpoint is due, and how long the store is afterwards.
-const LENGTHS: [(usize, u16, u32, u64); 8] = [
-    (1, 1, 1, 129),
-    (2, 1, 0, 199),
-    (2, 1, 1, 266),
-    (2, 1, 2, 199),
-    (3, 1, 1, 336),
-    (3, 1, 0, 269),
-    (3, 5, 0, 251),
-    (2, 5, 1, 266),
+const LENGTHS: &[(&[&str], &str, u16, u32, u64)] = &[
+    (FIRST, OPENED, 1, 1, 129),
+    (BOTH, SET, 1, 0, 199),
+    (BOTH, SET, 1, 1, 266),
+    (BOTH, SET, 1, 2, 199),
+    (LINES, CHANGED, 1, 1, 336),
+    (LINES, CHANGED, 1, 0, 269),
+    (LINES, CHANGED, 5, 0, 251),
+    (BOTH, SET, 5, 1, 266),
 ];
 
 /// A pair is stored, and read before and after a restart.
@@ -73,21 +93,52 @@ const BEHIND_A_LINE: &str = concat!(
     "{\"do\":\"get\",\"is\":\"down\",\"site\":null}\n",
 );
 
+// A run under the empty list.
+fn run_of(
+    lines: &'static [&'static str],
+    batch: u16,
+    checkpoint: u32,
+    ending: Ending,
+    out: &'static str,
+) -> OnDisk {
+    OnDisk {
+        list: "",
+        batch,
+        checkpoint,
+        lines,
+        ending,
+        out,
+    }
+}
+
+// How long the store is that a run leaves, if it ends and prints as it has to.
+fn length_after(alloc: Global, run: OnDisk) -> Result<Option<u64>, Fail> {
+    let disk = disk_of(alloc, "", None)?;
+    match left_by(alloc, disk, &[run])? {
+        Some(mut left) => Ok(left.len().ok()),
+        None => Ok(None),
+    }
+}
+
 #[test]
 fn a_due_checkpoint_is_made(rt: HostRuntime) -> Result<(), Fail> {
     let alloc = rt.alloc();
-    for (count, batch, checkpoint, length) in LENGTHS {
-        let lines = LINES.get(..count).unwrap_or(LINES);
-        let disk = disk_of(alloc, "", None)?;
-        let mut ran = run(alloc, disk, "", options(batch, checkpoint), lines)?;
-        assert_eq!(rt; ran.ending, Ending::Done);
+    for (lines, out, batch, checkpoint, length) in LENGTHS {
+        let run = run_of(lines, *batch, *checkpoint, Ending::Done, out);
+        let found = length_after(alloc, run)?;
         assert_eq!(rt;
-            ran.disk.len().ok(),
-            Some(length),
-            "{count} lines, a checkpoint after {checkpoint}"
+            found,
+            Some(*length),
+            "a checkpoint after {checkpoint}, batches of {batch}"
         );
     }
     Ok(())
+}
+
+fn is_kept(alloc: Global, cut: Cut) -> Result<bool, Fail> {
+    let disk = disk_of(alloc, "", Some(cut))?;
+    let run = run_of(STORED, 1, 1, Ending::Done, CUT);
+    Ok(left_by(alloc, disk, &[run])?.is_some())
 }
 
 #[test]
@@ -95,39 +146,29 @@ fn a_cut_within_a_checkpoint_loses_nothing(rt: HostRuntime) -> Result<(), Fail> 
     let alloc = rt.alloc();
     for call in CHECKPOINT {
         for pick in [0, 1, 2, 3] {
-            let disk = disk_of(alloc, "", Some(Cut { call, pick }))?;
-            let ran = run(alloc, disk, "", options(1, 1), STORED)?;
-            assert_eq!(rt; ran.ending, Ending::Done, "cut {call}, {pick}");
-            assert_eq!(rt; ran.out.as_slice(), CUT.as_bytes(), "cut {call}, {pick}");
+            assert!(rt; is_kept(alloc, Cut { call, pick })?, "cut {call}, {pick}");
         }
     }
     Ok(())
 }
 
+fn is_found_again(alloc: Global, batch: u16, call: u64) -> Result<bool, Fail> {
+    let disk = disk_of(alloc, "", Some(Cut { call, pick: 0 }))?;
+    let run = run_of(BOTH, batch, 1, Ending::Device, SET);
+    let again = run_of(READ, 1, 0, Ending::Done, FOUND);
+    match left_by(alloc, disk, &[run])? {
+        Some(left) => Ok(left_by(alloc, left.reopen(), &[again])?.is_some()),
+        None => Ok(false),
+    }
+}
+
 #[test]
 fn a_last_checkpoint_that_is_cut_ends_as_a_device_fault(rt: HostRuntime) -> Result<(), Fail> {
     let alloc = rt.alloc();
-    let lines = STORED.get(..2).unwrap_or(STORED);
     for batch in [1, 5] {
         for call in CHECKPOINT {
-            let disk = disk_of(alloc, "", Some(Cut { call, pick: 0 }))?;
-            let ran = run(alloc, disk, "", options(batch, 1), lines)?;
-            assert_eq!(rt;
-                ran.ending,
-                Ending::Device,
-                "cut {call}, batches of {batch}"
-            );
-            assert_eq!(rt;
-                ran.out.as_slice(),
-                SET.as_bytes(),
-                "cut {call}, batches of {batch}"
-            );
-            let again = run(alloc, ran.disk.reopen(), "", options(1, 0), READ)?;
-            assert_eq!(rt;
-                again.out.as_slice(),
-                FOUND.as_bytes(),
-                "cut {call}, batches of {batch}"
-            );
+            let found = is_found_again(alloc, batch, call)?;
+            assert!(rt; found, "cut {call}, batches of {batch}");
         }
     }
     Ok(())
@@ -138,12 +179,11 @@ fn a_last_checkpoint_that_is_cut_ends_as_a_device_fault(rt: HostRuntime) -> Resu
 #[test]
 fn no_checkpoint_is_made_right_behind_a_restart(rt: HostRuntime) -> Result<(), Fail> {
     let alloc = rt.alloc();
-    let lines = STORED.get(..2).unwrap_or(STORED);
     let disk = disk_of(alloc, "", Some(Cut { call: 14, pick: 0 }))?;
-    let ran = run(alloc, disk, "", options(1, 0), lines)?;
-    assert_eq!(rt; ran.ending, Ending::Done);
-    let ran = run(alloc, ran.disk, "", options(1, 1), READ)?;
-    assert_eq!(rt; ran.ending, Ending::Device);
-    assert_eq!(rt; ran.out.as_slice(), BEHIND_A_LINE.as_bytes());
+    let runs = [
+        run_of(BOTH, 1, 0, Ending::Done, SET),
+        run_of(READ, 1, 1, Ending::Device, BEHIND_A_LINE),
+    ];
+    assert!(rt; left_by(alloc, disk, &runs)?.is_some());
     Ok(())
 }

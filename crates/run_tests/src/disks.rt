@@ -1,6 +1,6 @@
 //! Runs over a disk that other runs had: what a run leaves, and what is refused.
-use crate::shared::{self, Ran, disk_of, options};
-use disk_model::{Cut, MemDisk};
+use crate::shared::{OnDisk, disk_of, left_by};
+use disk_model::Cut;
 use journal::OpenFault;
 use std::alloc::Global;
 use std::test::Fail;
@@ -51,66 +51,131 @@ const COM_LINE: [u8; 32] = [
     0xbf, 0x7f, 0x98, 0x32, 0x68, 0x8d, 0x4f, 0x5d, 0x78, 0x40, 0xfa, 0xf8, 0xb5, 0x7d, 0xfe, 0xcd,
 ];
 
-// Runs lines over a disk, one by one and without checkpoints.
-fn run(
-    alloc: Global,
-    disk: MemDisk,
-    list: &str,
-    lines: &[&str],
-) -> Result<(Ending, Vec<u8>, MemDisk), Fail> {
-    let Ran { ending, out, disk } = shared::run(alloc, disk, list, options(1, 0), lines)?;
-    Ok((ending, out, disk))
+/// Runs over a disk with these bytes and this cut, and those over what they leave once its power is
+/// on again.
+#[derive(Clone, Copy)]
+struct Course {
+    name: &'static str,
+    bytes: &'static str,
+    cut: Option<Cut>,
+    runs: &'static [OnDisk],
+    reopened: &'static [OnDisk],
 }
 
-#[test]
-fn a_run_goes_on_with_the_store_that_another_left(rt: HostRuntime) -> Result<(), Fail> {
-    let alloc = rt.alloc();
-    let (ending, out, disk) = run(alloc, disk_of(alloc, "", None)?, "", STORE)?;
-    assert_eq!(rt; ending, Ending::Done);
-    assert_eq!(rt; out.as_slice(), STORED.as_bytes());
-    let (ending, out, _) = run(alloc, disk, "", READ)?;
-    assert_eq!(rt; ending, Ending::Done);
-    assert_eq!(rt; out.as_slice(), FOUND.as_bytes());
-    Ok(())
-}
+/// A run that stores the pair.
+const STORES: OnDisk = OnDisk {
+    list: "",
+    batch: 1,
+    checkpoint: 0,
+    lines: STORE,
+    ending: Ending::Done,
+    out: STORED,
+};
 
-#[test]
-fn a_commit_that_was_cut_is_left_whole_or_not_at_all(rt: HostRuntime) -> Result<(), Fail> {
-    let alloc = rt.alloc();
-    for (pick, found) in [(0, MISSED), (1, FOUND)] {
-        let cut = Some(Cut { call: 11, pick });
-        let (ending, out, disk) = run(alloc, disk_of(alloc, "", cut)?, "", STORE)?;
-        assert_eq!(rt; ending, Ending::Device);
-        assert_eq!(rt; out.as_slice(), DOWN.as_bytes());
-        let (ending, out, _) = run(alloc, disk.reopen(), "", READ)?;
-        assert_eq!(rt; ending, Ending::Done);
-        assert_eq!(rt; out.as_slice(), found.as_bytes());
-    }
-    Ok(())
-}
+/// One whose commit of the pair is cut.
+const IS_CUT: OnDisk = OnDisk {
+    list: "",
+    batch: 1,
+    checkpoint: 0,
+    lines: STORE,
+    ending: Ending::Device,
+    out: DOWN,
+};
 
-#[test]
-fn a_store_of_another_list_is_refused_and_left(rt: HostRuntime) -> Result<(), Fail> {
-    let alloc = rt.alloc();
-    let (_, _, disk) = run(alloc, disk_of(alloc, "", None)?, "", STORE)?;
-    let (ending, out, disk) = run(alloc, disk, "com\n", READ)?;
-    let why = OpenFault::OtherList {
+/// A run that finds the pair.
+const FINDS: OnDisk = OnDisk {
+    list: "",
+    batch: 1,
+    checkpoint: 0,
+    lines: READ,
+    ending: Ending::Done,
+    out: FOUND,
+};
+
+/// A run that does not find it.
+const MISSES: OnDisk = OnDisk {
+    list: "",
+    batch: 1,
+    checkpoint: 0,
+    lines: READ,
+    ending: Ending::Done,
+    out: MISSED,
+};
+
+/// A run under another list.
+const REFUSED: OnDisk = OnDisk {
+    list: "com\n",
+    batch: 1,
+    checkpoint: 0,
+    lines: READ,
+    ending: Ending::Store(OpenFault::OtherList {
         kept: NO_LINE,
         given: COM_LINE,
-    };
-    assert_eq!(rt; ending, Ending::Store(why));
-    assert_eq!(rt; out.as_slice(), "".as_bytes());
-    let (ending, out, _) = run(alloc, disk, "", READ)?;
-    assert_eq!(rt; ending, Ending::Done);
-    assert_eq!(rt; out.as_slice(), FOUND.as_bytes());
-    Ok(())
+    }),
+    out: "",
+};
+
+/// A run over a file that is no store.
+const NO_STORE: OnDisk = OnDisk {
+    list: "",
+    batch: 1,
+    checkpoint: 0,
+    lines: READ,
+    ending: Ending::Store(OpenFault::NotAStore(0)),
+    out: "",
+};
+
+const COURSES: &[Course] = &[
+    Course {
+        name: "a run goes on with the store that another left",
+        bytes: "",
+        cut: None,
+        runs: &[STORES, FINDS],
+        reopened: &[],
+    },
+    Course {
+        name: "a commit that was cut is not left at all",
+        bytes: "",
+        cut: Some(Cut { call: 11, pick: 0 }),
+        runs: &[IS_CUT],
+        reopened: &[MISSES],
+    },
+    Course {
+        name: "a commit that was cut is left whole",
+        bytes: "",
+        cut: Some(Cut { call: 11, pick: 1 }),
+        runs: &[IS_CUT],
+        reopened: &[FINDS],
+    },
+    Course {
+        name: "a store of another list is refused and left",
+        bytes: "",
+        cut: None,
+        runs: &[STORES, REFUSED, FINDS],
+        reopened: &[],
+    },
+    Course {
+        name: "a file that is no store is refused",
+        bytes: "not a store",
+        cut: None,
+        runs: &[NO_STORE],
+        reopened: &[],
+    },
+];
+
+fn is_as_told(alloc: Global, course: &Course) -> Result<bool, Fail> {
+    let disk = disk_of(alloc, course.bytes, course.cut)?;
+    match left_by(alloc, disk, course.runs)? {
+        Some(left) => Ok(left_by(alloc, left.reopen(), course.reopened)?.is_some()),
+        None => Ok(false),
+    }
 }
 
 #[test]
-fn a_file_that_is_no_store_is_refused(rt: HostRuntime) -> Result<(), Fail> {
+fn runs_over_a_disk_that_others_left(rt: HostRuntime) -> Result<(), Fail> {
     let alloc = rt.alloc();
-    let (ending, out, _) = run(alloc, disk_of(alloc, "not a store", None)?, "", READ)?;
-    assert_eq!(rt; ending, Ending::Store(OpenFault::NotAStore(0)));
-    assert_eq!(rt; out.as_slice(), "".as_bytes());
+    for course in COURSES {
+        assert!(rt; is_as_told(alloc, course)?, "{}", course.name);
+    }
     Ok(())
 }

@@ -18,9 +18,9 @@ const LINES: &[&str] = &[
 
 // Runs lines that act over an agent.
 fn run_all(alloc: Global, agent: &mut Agent<'_, MemDisk>, lines: &[&str]) -> Result<(), Fail> {
-    for line in lines_of(alloc, lines)? {
-        if let Step::Act(action) = line.step {
-            let _ = agent.line(&action);
+    for line in &lines_of(alloc, lines)? {
+        if let Step::Act(action) = &line.step {
+            let _ = agent.line(action);
         }
     }
     Ok(())
@@ -40,18 +40,31 @@ fn short(alloc: Global, change: &Change) -> Result<String, Fail> {
     })
 }
 
-#[test]
-fn an_agent_lists_what_outlives_a_restart(rt: HostRuntime) -> Result<(), Fail> {
-    let alloc = rt.alloc();
+// The row changes that an agent lists, each in short with a semicolon behind it.
+fn listed(alloc: Global, agent: &Agent<'_, MemDisk>) -> Result<String, Fail> {
+    let mut text = String::new(alloc);
+    for change in &agent.listing()? {
+        text.push_str(short(alloc, change)?.as_str())?;
+        text.push(';')?;
+    }
+    Ok(text)
+}
+
+// What is listed before the lines, and behind them.
+fn listed_around(alloc: Global) -> Result<(String, String), Fail> {
     let list = list_of(alloc, "")?;
     let Ok(mut agent) = Agent::open(alloc, disk_of(alloc, "", None)?, &list, options(16, 0)) else {
         return Err(Fail::from(AllocError));
     };
-    assert!(rt; agent.listing()?.is_empty());
+    let before = listed(alloc, &agent)?;
     run_all(alloc, &mut agent, LINES)?;
-    let rows = agent.listing()?;
-    assert_eq!(rt; rows.len(), 2);
-    assert_eq!(rt; short(alloc, &rows[0])?.as_str(), "k=v");
-    assert_eq!(rt; short(alloc, &rows[1])?.as_str(), "0: p=2, 0");
+    Ok((before, listed(alloc, &agent)?))
+}
+
+#[test]
+fn an_agent_lists_what_outlives_a_restart(rt: HostRuntime) -> Result<(), Fail> {
+    let (before, behind) = listed_around(rt.alloc())?;
+    assert_eq!(rt; before.as_str(), "");
+    assert_eq!(rt; behind.as_str(), "k=v;0: p=2, 0;");
     Ok(())
 }

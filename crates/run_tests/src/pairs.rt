@@ -3,6 +3,7 @@ use crate::shared::{RESTART, lines_of, list_of, options};
 use origin_site::{Site, SiteFault};
 use std::alloc::{AllocError, Global};
 use std::test::Fail;
+use suffix_list::SuffixList;
 use twins::{Twin, twin};
 
 /// Two scripts for the site `https://a.test`, how many lines are a batch, and the answer.
@@ -36,7 +37,7 @@ const COOKIE: &str =
 const COOKIE_2: &str =
     "{\"do\":\"open\",\"tab\":3,\"url\":\"http://a.test/\",\"head\":[[\"set-cookie\",\"n=2; Max-Age=90000\"]]}";
 
-const PAIRS: [Pair; 13] = [
+const PAIRS: &[Pair] = &[
     Pair {
         name: "no line",
         batch: 1,
@@ -138,18 +139,23 @@ fn site(alloc: Global) -> Result<Site, Fail> {
     }
 }
 
+// The answer to a pair.
+fn answer_of(alloc: Global, list: &SuffixList, site: &Site, case: &Pair) -> Result<Twin, Fail> {
+    let first = lines_of(alloc, case.first)?;
+    let second = lines_of(alloc, case.second)?;
+    match twin(alloc, list, site, &first, &second, options(case.batch, 1)) {
+        Ok(answer) => Ok(answer),
+        Err(_) => Err(Fail::from(AllocError)),
+    }
+}
+
 #[test]
 fn two_scripts_have_their_answer(rt: HostRuntime) -> Result<(), Fail> {
     let alloc = rt.alloc();
     let list = list_of(alloc, "")?;
     let site = site(alloc)?;
-    for case in &PAIRS {
-        let first = lines_of(alloc, case.first)?;
-        let second = lines_of(alloc, case.second)?;
-        let answer = twin(alloc, &list, &site, &first, &second, options(case.batch, 1));
-        let Ok(answer) = answer else {
-            return Err(Fail::from(AllocError));
-        };
+    for case in PAIRS {
+        let answer = answer_of(alloc, &list, &site, case)?;
         assert_eq!(rt; answer, case.answer, "{}", case.name);
     }
     Ok(())

@@ -95,32 +95,38 @@ pub fn disk_of(alloc: Global, bytes: &str, cut: Option<Cut>) -> Result<MemDisk, 
     Ok(MemDisk::new(alloc, bytes, cuts, Vec::new(alloc)))
 }
 
-/// A run over a disk: how it ended, what it printed, and the disk.
-#[derive(Debug, Drop)]
-pub struct Ran {
+/// A run over a disk: its list, how many lines are a batch, after how many durable changes a
+/// checkpoint is due, its lines, how it ends, and what it prints.
+#[derive(Clone, Copy)]
+pub struct OnDisk {
+    pub list: &'static str,
+    pub batch: u16,
+    pub checkpoint: u32,
+    pub lines: &'static [&'static str],
     pub ending: Ending,
-    pub out: Vec<u8>,
-    pub disk: MemDisk,
+    pub out: &'static str,
 }
 
-/// Runs lines over a disk under a list.
-pub fn run(
-    alloc: Global,
-    disk: MemDisk,
-    list: &str,
-    options: Options,
-    lines: &[&str],
-) -> Result<Ran, Fail>
-    requires start { options.start ≤ last_moment }
-    requires batch { (1 ≤ options.batch) × (options.batch ≤ 256) }
-{
-    let list = list_of(alloc, list)?;
-    let lines = lines_of(alloc, lines)?;
+// Whether a run ended and printed as it has to, and the disk that it left.
+fn ran(alloc: Global, disk: MemDisk, run: &OnDisk) -> Result<(bool, MemDisk), Fail> {
+    let list = list_of(alloc, run.list)?;
+    let lines = lines_of(alloc, run.lines)?;
     let mut out = sink(alloc)?;
+    let options = options(run.batch, run.checkpoint);
     let Finished { ending, disk } = run_on(alloc, disk, &list, options, &lines, &mut out);
-    Ok(Ran {
-        ending,
-        out: Vec::from_slice(alloc, out.bytes())?,
-        disk,
-    })
+    let told = ending == run.ending && out.bytes() == run.out.as_bytes();
+    Ok((told, disk))
+}
+
+/// The disk that runs leave one after another, if each ends and prints as it has to.
+pub fn left_by(alloc: Global, disk: MemDisk, runs: &[OnDisk]) -> Result<Option<MemDisk>, Fail> {
+    let mut left = disk;
+    for run in runs {
+        let (told, next) = ran(alloc, left, run)?;
+        if !told {
+            return Ok(None);
+        }
+        left = next;
+    }
+    Ok(Some(left))
 }

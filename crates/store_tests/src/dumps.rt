@@ -1,6 +1,8 @@
 //! What a dump of a store prints, and how it ends.
 use crate::bodies::Edit::{Grant, Insert, Mode, Put, Weigh};
 use crate::bodies::{Edit, change_of, list_of};
+use File::{Cut, Empty, Store};
+use Printed::{Lines, Text};
 use agent_base::MemSink;
 use disk_model::MemDisk;
 use journal::OpenFault;
@@ -8,23 +10,49 @@ use std::alloc::Global;
 use std::test::Fail;
 use store_dumps::{DumpFault, dump};
 
-/// A store of one durable change, and what is printed of it.
+/// The file of a store.
+#[derive(Clone, Copy)]
+enum File {
+    Empty,
+    /// A store of one durable change.
+    Store(&'static [Edit]),
+    /// A store of one durable change, cut to 100 bytes.
+    Cut(&'static [Edit]),
+}
+
+/// What is printed.
+#[derive(Clone, Copy)]
+enum Printed {
+    Text(&'static str),
+    /// Whole lines, one at least.
+    Lines,
+}
+
+/// A dump of a file into a sink of so much room, with the numbers of its calls that fail.
 #[derive(Clone, Copy)]
 struct Case {
     name: &'static str,
-    edits: &'static [Edit],
-    text: &'static str,
+    file: File,
+    room: usize,
+    fails: &'static [u64],
+    answer: Result<(), DumpFault>,
+    printed: Printed,
 }
 
-const CASES: [Case; 3] = [
+const CASES: &[Case] = &[
     Case {
         name: "the worked store",
-        edits: &[Put("k", "v")],
-        text: "{\"bit\":false,\"key\":\"k\",\"origin\":\"https://a.test\",\"row\":\"area\",\"top\":\"https://a.test\",\"value\":\"v\"}\n",
+        file: Store(&[Put("k", "v")]),
+        room: 4_096,
+        fails: &[],
+        answer: Ok(()),
+        printed: Text(
+            "{\"bit\":false,\"key\":\"k\",\"origin\":\"https://a.test\",\"row\":\"area\",\"top\":\"https://a.test\",\"value\":\"v\"}\n",
+        ),
     },
     Case {
         name: "rows of all kinds stand in the order of a snapshot",
-        edits: &[
+        file: Store(&[
             Grant("https://y.test", false),
             Grant("https://x.test", true),
             Insert(true, 0, "n", 1),
@@ -32,8 +60,11 @@ const CASES: [Case; 3] = [
             Mode,
             Put("l", "\""),
             Put("k", ""),
-        ],
-        text: concat!(
+        ]),
+        room: 4_096,
+        fails: &[],
+        answer: Ok(()),
+        printed: Text(concat!(
             "{\"bit\":false,\"key\":\"l\",\"origin\":\"https://a.test\",\"row\":\"area\",\"top\":\"https://a.test\",\"value\":\"\\\"\"}\n",
             "{\"bit\":false,\"key\":\"k\",\"origin\":\"https://a.test\",\"row\":\"area\",\"top\":\"https://a.test\",\"value\":\"\"}\n",
             "{\"bit\":false,\"origin\":\"https://a.test\",\"row\":\"mode\",\"top\":\"https://a.test\"}\n",
@@ -41,12 +72,57 @@ const CASES: [Case; 3] = [
             "{\"bit\":true,\"creation\":1,\"domain\":\"w.test\",\"expiry\":9,\"host_only\":false,\"http_only\":false,\"name\":\"n\",\"path\":\"/\",\"row\":\"cookie\",\"same_site\":\"default\",\"secure\":true,\"top\":\"https://a.test\",\"value\":\"x\"}\n",
             "{\"granted\":false,\"row\":\"grant\",\"site\":\"https://y.test\",\"top\":\"https://a.test\",\"until\":9}\n",
             "{\"granted\":true,\"row\":\"grant\",\"site\":\"https://x.test\",\"top\":\"https://a.test\",\"until\":9}\n",
-        ),
+        )),
     },
     Case {
         name: "a bucket without an area",
-        edits: &[Mode],
-        text: "{\"bit\":false,\"origin\":\"https://a.test\",\"row\":\"mode\",\"top\":\"https://a.test\"}\n",
+        file: Store(&[Mode]),
+        room: 4_096,
+        fails: &[],
+        answer: Ok(()),
+        printed: Text(
+            "{\"bit\":false,\"origin\":\"https://a.test\",\"row\":\"mode\",\"top\":\"https://a.test\"}\n",
+        ),
+    },
+    Case {
+        name: "a new store",
+        file: Empty,
+        room: 16,
+        fails: &[],
+        answer: Ok(()),
+        printed: Text(""),
+    },
+    Case {
+        name: "a mode that is set twice",
+        file: Store(&[Put("k", "v"), Mode, Mode]),
+        room: 4_096,
+        fails: &[],
+        answer: Err(DumpFault::Open(OpenFault::NotAStore(236))),
+        printed: Text(""),
+    },
+    Case {
+        name: "a store that was cut",
+        file: Cut(&[Mode]),
+        room: 4_096,
+        fails: &[],
+        answer: Err(DumpFault::Open(OpenFault::NotAStore(0))),
+        printed: Text(""),
+    },
+    Case {
+        name: "a write fault leaves a part from the start",
+        file: Store(&[Put("k", "v"), Mode]),
+        room: 10,
+        fails: &[],
+        answer: Err(DumpFault::Write),
+        printed: Text("{\"bit\":fal"),
+    },
+    Case {
+        name: "so many bytes that the first line is written by itself, before the fault",
+        file: Store(&[Weigh(65_536), Mode]),
+        room: 80_000,
+        fails: &[2],
+        answer: Err(DumpFault::Write),
+        printed: Lines,
     },
 ];
 
@@ -64,35 +140,54 @@ fn store_of(alloc: Global, digest: &[u8; 32], body: &[u8]) -> Result<Vec<u8>, Fa
     Ok(store)
 }
 
-// A dump of a file into a sink of so much room, with the numbers of its calls that fail.
-fn dumped(
-    alloc: Global,
-    file: Vec<u8>,
-    room: usize,
-    fails: &[u64],
-) -> Result<(Result<(), DumpFault>, Vec<u8>), Fail> {
-    let list = list_of(alloc, b"")?;
-    let mut disk = MemDisk::new(alloc, file, Vec::new(alloc), Vec::new(alloc));
-    let mut out = MemSink::new(alloc, room, Vec::from_slice(alloc, fails)?)?;
-    let answer = dump(alloc, &mut disk, &list, &mut out);
-    Ok((answer, Vec::from_slice(alloc, out.bytes())?))
-}
-
 fn store_with(alloc: Global, edits: &[Edit]) -> Result<Vec<u8>, Fail> {
     let list = list_of(alloc, b"")?;
     let body = change_of(alloc, edits)?;
     store_of(alloc, &list.digest(), body.as_slice())
 }
 
+fn bytes_of(alloc: Global, file: File) -> Result<Vec<u8>, Fail> {
+    match file {
+        Empty => Ok(Vec::new(alloc)),
+        Store(edits) => store_with(alloc, edits),
+        Cut(edits) => {
+            let mut bytes = store_with(alloc, edits)?;
+            bytes.truncate(100);
+            Ok(bytes)
+        }
+    }
+}
+
+fn disk_of(alloc: Global, file: File) -> Result<MemDisk, Fail> {
+    let bytes = bytes_of(alloc, file)?;
+    Ok(MemDisk::new(alloc, bytes, Vec::new(alloc), Vec::new(alloc)))
+}
+
+fn sink_of(alloc: Global, case: &Case) -> Result<MemSink, Fail> {
+    Ok(MemSink::new(alloc, case.room, Vec::from_slice(alloc, case.fails)?)?)
+}
+
+fn is_printed(bytes: &[u8], printed: Printed) -> bool {
+    match printed {
+        Text(text) => bytes == text.as_bytes(),
+        Lines => bytes.last() == Some(&b'\n'),
+    }
+}
+
+// Whether a dump ends and prints as it has to.
+fn is_dumped(alloc: Global, case: &Case) -> Result<bool, Fail> {
+    let list = list_of(alloc, b"")?;
+    let mut disk = disk_of(alloc, case.file)?;
+    let mut out = sink_of(alloc, case)?;
+    let answer = dump(alloc, &mut disk, &list, &mut out);
+    Ok(answer == case.answer && is_printed(out.bytes(), case.printed))
+}
+
 #[test]
-fn each_row_has_its_line(rt: HostRuntime) -> Result<(), Fail> {
+fn dumps_end_and_print(rt: HostRuntime) -> Result<(), Fail> {
     let alloc = rt.alloc();
-    for case in &CASES {
-        let file = store_with(alloc, case.edits)?;
-        let (answer, text) = dumped(alloc, file, 4_096, &[])?;
-        let name = case.name;
-        assert!(rt; answer.is_ok(), "{name}");
-        assert_eq!(rt; text.as_slice(), case.text.as_bytes(), "{name}");
+    for case in CASES {
+        assert!(rt; is_dumped(alloc, case)?, "{}", case.name);
     }
     Ok(())
 }
@@ -101,48 +196,5 @@ fn each_row_has_its_line(rt: HostRuntime) -> Result<(), Fail> {
 fn the_worked_store_has_199_bytes(rt: HostRuntime) -> Result<(), Fail> {
     let file = store_with(rt.alloc(), &[Put("k", "v")])?;
     assert_eq!(rt; file.len(), 199);
-    Ok(())
-}
-
-#[test]
-fn a_new_store_has_no_line(rt: HostRuntime) -> Result<(), Fail> {
-    let alloc = rt.alloc();
-    let (answer, text) = dumped(alloc, Vec::new(alloc), 16, &[])?;
-    assert!(rt; answer.is_ok());
-    assert!(rt; text.is_empty());
-    Ok(())
-}
-
-#[test]
-fn a_store_that_is_refused_has_no_line(rt: HostRuntime) -> Result<(), Fail> {
-    let alloc = rt.alloc();
-    let mut file = store_with(alloc, &[Put("k", "v"), Mode, Mode])?;
-    let (answer, text) = dumped(alloc, file, 4_096, &[])?;
-    assert!(rt; answer == Err(DumpFault::Open(OpenFault::NotAStore(236))));
-    assert!(rt; text.is_empty());
-    file = store_with(alloc, &[Mode])?;
-    file.push(0)?;
-    file.truncate(100);
-    let (answer, text) = dumped(alloc, file, 4_096, &[])?;
-    assert!(rt; answer == Err(DumpFault::Open(OpenFault::NotAStore(0))));
-    assert!(rt; text.is_empty());
-    Ok(())
-}
-
-#[test]
-fn a_write_fault_leaves_a_part_from_the_start(rt: HostRuntime) -> Result<(), Fail> {
-    let alloc = rt.alloc();
-    let (answer, text) = dumped(alloc, store_with(alloc, &[Put("k", "v"), Mode])?, 10, &[])?;
-    assert!(rt; answer == Err(DumpFault::Write));
-    assert_eq!(rt; text.as_slice(), b"{\"bit\":fal".as_slice());
-    // The first line is written by itself, since so many bytes wait.
-    let (answer, text) = dumped(
-        alloc,
-        store_with(alloc, &[Weigh(65_536), Mode])?,
-        80_000,
-        &[2],
-    )?;
-    assert!(rt; answer == Err(DumpFault::Write));
-    assert_eq!(rt; text.last(), Some(&b'\n'));
     Ok(())
 }

@@ -2,9 +2,12 @@
 use crate::applying::{applied, is_as_taken};
 use crate::bodies::Edit::{Clear, Grant, Insert, Mode, Put, Remove, Replace, TakeOut};
 use crate::bodies::{Edit, change_of, list_of, snapshot_of};
+use Body::{Change, Empty, Snapshot, Two, Worked};
 use journal::{Replay, ReplayFault};
 use row_store::Rows;
+use std::alloc::Global;
 use std::test::Fail;
+use suffix_list::SuffixList;
 
 /// The worked body of one pair: 52 bytes.
 const WORKED: &[u8] =
@@ -17,7 +20,7 @@ struct Case {
     edits: &'static [Edit],
 }
 
-const CASES: [Case; 9] = [
+const CASES: &[Case] = &[
     Case {
         name: "pairs in the order in which their names came",
         edits: &[Put("k", "v"), Put("l", "w"), Put("k", "x")],
@@ -73,114 +76,160 @@ const CASES: [Case; 9] = [
     },
 ];
 
-#[test]
-fn the_worked_body_is_one_change(rt: HostRuntime) -> Result<(), Fail> {
-    let alloc = rt.alloc();
-    let list = list_of(alloc, b"")?;
-    let mut rows = Rows::new(alloc, &list);
-    assert_eq!(rt; rows.frame(false, WORKED), Ok(1));
-    let once = change_of(alloc, &[Remove("k")])?;
-    assert_eq!(rt; rows.frame(false, once.as_slice()), Ok(1));
-    assert_eq!(rt;
-        rows.frame(false, once.as_slice()),
-        Err(ReplayFault::Bad(4))
-    );
-    Ok(())
+/// The body of a frame.
+#[derive(Clone, Copy)]
+enum Body {
+    Empty,
+    Worked,
+    /// One durable change.
+    Change(&'static [Edit]),
+    /// One durable change behind another.
+    Two(&'static [Edit], &'static [Edit]),
+    /// A snapshot of these row changes.
+    Snapshot(&'static [Edit]),
+}
+
+/// What is done with rows.
+#[derive(Clone, Copy)]
+enum Step {
+    /// A frame is taken, of so many durable changes.
+    Taken(Body, u64),
+    /// A frame is refused, for a fault at this offset.
+    Refused(Body, u64),
+    Begin,
+}
+
+/// What is done one after another with rows that are empty at first.
+#[derive(Clone, Copy)]
+struct Course {
+    name: &'static str,
+    steps: &'static [Step],
+}
+
+const COURSES: &[Course] = &[
+    Course {
+        name: "the worked body is one change",
+        steps: &[
+            Step::Taken(Worked, 1),
+            Step::Taken(Change(&[Remove("k")]), 1),
+            Step::Refused(Change(&[Remove("k")]), 4),
+        ],
+    },
+    Course {
+        name: "a snapshot is read from nothing",
+        steps: &[
+            Step::Taken(Change(&[Put("gone", "x")]), 1),
+            Step::Taken(Snapshot(&[Put("k", "v"), Mode]), 0),
+            Step::Refused(Change(&[Remove("gone")]), 4),
+        ],
+    },
+    Course {
+        name: "durable changes are counted, and not row changes",
+        steps: &[
+            Step::Taken(Two(&[Put("k", "v"), Put("l", "w")], &[Mode]), 2),
+            Step::Taken(Empty, 0),
+        ],
+    },
+    Course {
+        name: "a refusal leaves nothing, and frames go on",
+        steps: &[
+            Step::Taken(Change(&[Put("k", "v"), Insert(false, 0, "m", 1)]), 1),
+            Step::Refused(Two(&[Put("l", "w")], &[]), 52),
+            Step::Refused(Change(&[Clear]), 4),
+            Step::Taken(Change(&[Put("k", "v"), Insert(false, 0, "m", 1)]), 1),
+        ],
+    },
+    Course {
+        name: "a begin forgets all",
+        steps: &[
+            Step::Taken(Change(&[Put("k", "v"), Grant("https://w.test", true)]), 1),
+            Step::Begin,
+            Step::Refused(Change(&[Clear]), 4),
+        ],
+    },
+];
+
+fn body_of(alloc: Global, body: Body) -> Result<Vec<u8>, Fail> {
+    match body {
+        Empty => Ok(Vec::new(alloc)),
+        Worked => Ok(Vec::from_slice(alloc, WORKED)?),
+        Change(edits) => change_of(alloc, edits),
+        Two(first, second) => {
+            let mut bytes = change_of(alloc, first)?;
+            bytes.extend_from_slice(change_of(alloc, second)?.as_slice())?;
+            Ok(bytes)
+        }
+        Snapshot(edits) => snapshot_of(alloc, edits),
+    }
+}
+
+// What rows answer to a frame.
+fn answer(
+    alloc: Global,
+    rows: &mut Rows<'_>,
+    body: Body,
+) -> Result<Result<u64, ReplayFault>, Fail> {
+    let bytes = body_of(alloc, body)?;
+    Ok(rows.frame(matches!(body, Snapshot(_)), bytes.as_slice()))
+}
+
+fn is_done(alloc: Global, rows: &mut Rows<'_>, step: Step) -> Result<bool, Fail> {
+    match step {
+        Step::Taken(body, changes) => Ok(answer(alloc, rows, body)? == Ok(changes)),
+        Step::Refused(body, offset) => {
+            Ok(answer(alloc, rows, body)? == Err(ReplayFault::Bad(offset)))
+        }
+        Step::Begin => {
+            rows.begin();
+            Ok(true)
+        }
+    }
+}
+
+fn are_done(alloc: Global, list: &SuffixList, steps: &[Step]) -> Result<bool, Fail> {
+    let mut rows = Rows::new(alloc, list);
+    for step in steps {
+        if !is_done(alloc, &mut rows, *step)? {
+            return Ok(false);
+        }
+    }
+    Ok(true)
 }
 
 #[test]
-fn each_kind_is_taken(rt: HostRuntime) -> Result<(), Fail> {
+fn frames_one_after_another(rt: HostRuntime) -> Result<(), Fail> {
     let alloc = rt.alloc();
     let list = list_of(alloc, b"")?;
-    for case in &CASES {
-        let mut rows = Rows::new(alloc, &list);
-        let body = change_of(alloc, case.edits)?;
-        assert_eq!(rt; rows.frame(false, body.as_slice()), Ok(1), "{}", case.name);
+    for course in COURSES {
+        assert!(rt; are_done(alloc, &list, course.steps)?, "{}", course.name);
     }
     Ok(())
 }
 
+// Whether a frame of row changes is taken as one durable change.
+fn is_taken(alloc: Global, list: &SuffixList, edits: &[Edit]) -> Result<bool, Fail> {
+    let body = change_of(alloc, edits)?;
+    Ok(Rows::new(alloc, list).frame(false, body.as_slice()) == Ok(1))
+}
+
+// Whether row changes by themselves lead to what a frame of them leads to.
+fn are_applied(alloc: Global, list: &SuffixList, edits: &[Edit]) -> Result<bool, Fail> {
+    let rows = applied(alloc, list, edits)?;
+    let body = snapshot_of(alloc, edits)?;
+    is_as_taken(alloc, list, &rows, body.as_slice())
+}
+
 #[test]
-fn each_kind_is_applied_by_itself(rt: HostRuntime) -> Result<(), Fail> {
+fn each_kind_is_taken_and_applied_by_itself(rt: HostRuntime) -> Result<(), Fail> {
     let alloc = rt.alloc();
     let list = list_of(alloc, b"")?;
-    for case in &CASES {
-        let rows = applied(alloc, &list, case.edits)?;
-        let body = snapshot_of(alloc, case.edits)?;
+    for case in CASES {
+        assert!(rt; is_taken(alloc, &list, case.edits)?, "{}", case.name);
         assert!(rt;
-            is_as_taken(alloc, &list, &rows, body.as_slice())?,
-            "{}",
+            are_applied(alloc, &list, case.edits)?,
+            "{}, by itself",
             case.name
         );
     }
-    Ok(())
-}
-
-#[test]
-fn a_snapshot_is_read_from_nothing(rt: HostRuntime) -> Result<(), Fail> {
-    let alloc = rt.alloc();
-    let list = list_of(alloc, b"")?;
-    let mut rows = Rows::new(alloc, &list);
-    let before = change_of(alloc, &[Put("gone", "x")])?;
-    assert_eq!(rt; rows.frame(false, before.as_slice()), Ok(1));
-    let body = snapshot_of(alloc, &[Put("k", "v"), Mode])?;
-    assert_eq!(rt; rows.frame(true, body.as_slice()), Ok(0));
-    let gone = change_of(alloc, &[Remove("gone")])?;
-    assert_eq!(rt;
-        rows.frame(false, gone.as_slice()),
-        Err(ReplayFault::Bad(4))
-    );
-    Ok(())
-}
-
-#[test]
-fn durable_changes_are_counted_and_not_row_changes(rt: HostRuntime) -> Result<(), Fail> {
-    let alloc = rt.alloc();
-    let list = list_of(alloc, b"")?;
-    let mut rows = Rows::new(alloc, &list);
-    let mut body = change_of(alloc, &[Put("k", "v"), Put("l", "w")])?;
-    let second = change_of(alloc, &[Mode])?;
-    body.extend_from_slice(second.as_slice())?;
-    assert_eq!(rt; rows.frame(false, body.as_slice()), Ok(2));
-    assert_eq!(rt; rows.frame(false, &[]), Ok(0));
-    Ok(())
-}
-
-#[test]
-fn a_refusal_leaves_nothing_and_frames_go_on(rt: HostRuntime) -> Result<(), Fail> {
-    let alloc = rt.alloc();
-    let list = list_of(alloc, b"")?;
-    let mut rows = Rows::new(alloc, &list);
-    let first = change_of(alloc, &[Put("k", "v"), Insert(false, 0, "m", 1)])?;
-    assert_eq!(rt; rows.frame(false, first.as_slice()), Ok(1));
-    let mut bad = change_of(alloc, &[Put("l", "w")])?;
-    let good = bad.len() as u64;
-    bad.extend_from_slice(&[0, 0, 0, 0])?;
-    assert_eq!(rt;
-        rows.frame(false, bad.as_slice()),
-        Err(ReplayFault::Bad(good))
-    );
-    let gone = change_of(alloc, &[Clear])?;
-    assert_eq!(rt;
-        rows.frame(false, gone.as_slice()),
-        Err(ReplayFault::Bad(4))
-    );
-    assert_eq!(rt; rows.frame(false, first.as_slice()), Ok(1));
-    Ok(())
-}
-
-#[test]
-fn a_begin_forgets_all(rt: HostRuntime) -> Result<(), Fail> {
-    let alloc = rt.alloc();
-    let list = list_of(alloc, b"")?;
-    let mut rows = Rows::new(alloc, &list);
-    let first = change_of(alloc, &[Put("k", "v"), Grant("https://w.test", true)])?;
-    assert_eq!(rt; rows.frame(false, first.as_slice()), Ok(1));
-    rows.begin();
-    let gone = change_of(alloc, &[Clear])?;
-    assert_eq!(rt;
-        rows.frame(false, gone.as_slice()),
-        Err(ReplayFault::Bad(4))
-    );
     Ok(())
 }

@@ -51,7 +51,7 @@ struct Case {
     spelled: bool,
 }
 
-const CASES: [Case; 26] = [
+const CASES: &[Case] = &[
     Case {
         name: "the bit clear under the own site",
         fields: Key("https://a.test/", "https://a.test", false),
@@ -271,25 +271,33 @@ fn change_with(alloc: Global, list: &SuffixList, fields: Fields) -> Result<Chang
     })
 }
 
+// Whether a row change has a spelling.
+fn is_spelled(alloc: Global, list: &SuffixList, fields: Fields) -> Result<bool, Fail> {
+    let change = change_with(alloc, list, fields)?;
+    Ok(Rows::new(alloc, list).has_spelling(&change)?)
+}
+
 #[test]
 fn a_row_change_has_a_spelling_by_its_own_fields(rt: HostRuntime) -> Result<(), Fail> {
     let alloc = rt.alloc();
     let list = list_of(alloc, b"")?;
-    let rows = Rows::new(alloc, &list);
-    for case in &CASES {
-        let change = change_with(alloc, &list, case.fields)?;
-        assert_eq!(rt; rows.has_spelling(&change)?, case.spelled, "{}", case.name);
+    for case in CASES {
+        let spelled = is_spelled(alloc, &list, case.fields)?;
+        assert_eq!(rt; spelled, case.spelled, "{}", case.name);
     }
     Ok(())
+}
+
+// Whether the cell of `x.a.test` has a spelling under the list that a text is.
+fn is_cell(alloc: Global, text: &str) -> Result<bool, Fail> {
+    let list = list_of(alloc, text.as_bytes())?;
+    is_spelled(alloc, &list, Own("x.a.test"))
 }
 
 #[test]
 fn a_cell_is_named_by_the_list(rt: HostRuntime) -> Result<(), Fail> {
     let alloc = rt.alloc();
-    for (text, spelled) in [("", false), ("a.test", true)] {
-        let list = list_of(alloc, text.as_bytes())?;
-        let change = change_with(alloc, &list, Own("x.a.test"))?;
-        assert_eq!(rt; Rows::new(alloc, &list).has_spelling(&change)?, spelled);
-    }
+    assert!(rt; !is_cell(alloc, "")?);
+    assert!(rt; is_cell(alloc, "a.test")?);
     Ok(())
 }

@@ -6,7 +6,7 @@ use Rattle.std.proofs.lemmas.Bool.Decides.{Decides-and, Decides-like}
 use Rattle.std.proofs.lemmas.Map.Keys.{IsDistinct-push}
 use Rattle.origin_site.specs.Site.{PlainSite}
 use Rattle.origin_site.proofs.SameLemmas.{same_plain_site-Decides}
-use Rattle.access_grants.specs.Grant.{PlainGrant, HasDistinctPairs, has_row, is_of, kept, same_pair}
+use Rattle.access_grants.specs.Grant.{PlainGrant, HasDistinctPairs, has_row, is_of, with_row, same_pair}
 use Rattle.access_grants.proofs.RowsLemmas.{AtMostOne, replaced, set_place, position_by}
 
 abbrev pub pair_of : PlainGrant → PlainSite × PlainSite
@@ -70,7 +70,7 @@ distinct_by row rows false is apart =
     (IsDistinct-push same_pair-equiv (map pair_of rows) (pair_of row) apart (sym (pairs_any (pair_of row) rows) ∙ is))
 
 -- pairs stay told apart after a row is kept
-pub kept_distinct : (row : PlainGrant) (rows : List PlainGrant) → HasDistinctPairs rows → HasDistinctPairs (kept row rows)
+pub kept_distinct : (row : PlainGrant) (rows : List PlainGrant) → HasDistinctPairs rows → HasDistinctPairs (with_row row rows)
 kept_distinct row rows apart = distinct_by row rows (has_row row rows) refl apart
 
 some_none : (n : ℕ) → ◌≡◌ {A = Option ℕ} None (Some n) → ⊥
@@ -94,7 +94,7 @@ has_row-None row rows at = absent_by (position_or_len (is_of row.top row.site) r
 
 -- a row that is put at the place of its pair's row is kept
 pub kept-Some : (row : PlainGrant) (rows : List PlainGrant) (i : ℕ) → HasDistinctPairs rows → position (is_of row.top row.site) rows ≡ Some i
-    → set rows i row ≡ kept row rows
+    → set rows i row ≡ with_row row rows
 kept-Some row rows i apart at =
     let there = there_by row rows i (has_row row rows) (sym (position_by (is_of row.top row.site) rows) ∙ at) in
     ap (λ n. set rows n row) (sym there.1)
@@ -102,6 +102,6 @@ kept-Some row rows i apart at =
     ∙ ap (λ b. cond b (map (replaced (is_of row.top row.site) row) rows) (rows ++ row ∷ [])) (sym there.0)
 
 -- a row of a pair that has none is kept last
-pub kept-None : (row : PlainGrant) (rows : List PlainGrant) → position (is_of row.top row.site) rows ≡ None → rows ++ row ∷ [] ≡ kept row rows
+pub kept-None : (row : PlainGrant) (rows : List PlainGrant) → position (is_of row.top row.site) rows ≡ None → rows ++ row ∷ [] ≡ with_row row rows
 kept-None row rows at =
     ap (λ b. cond b (map (replaced (is_of row.top row.site) row) rows) (rows ++ row ∷ [])) (sym (has_row-None row rows at))

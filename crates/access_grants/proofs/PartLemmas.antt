@@ -4,8 +4,8 @@ use Rattle.std.specs.List.{list_any}
 use Rattle.std.proofs.lemmas.List.Elements.{filter-append}
 use Rattle.origin_site.specs.Site.{PlainSite, same_plain_site}
 use Rattle.origin_site.proofs.SameLemmas.{same_plain_site-Decides}
-use Rattle.access_grants.specs.Grant.{PlainGrant, has_row, is_of, kept}
-use Rattle.access_grants.specs.Part.{grants_under, kept_under}
+use Rattle.access_grants.specs.Grant.{PlainGrant, has_row, is_of, with_row}
+use Rattle.access_grants.specs.UnderSite.{grants_under, with_row_under}
 use Rattle.access_grants.proofs.RowsLemmas.{replaced}
 
 find_step : (here there : Bool) (row : PlainGrant) (rest : List PlainGrant) (test : PlainGrant → Bool) (whole : Option PlainGrant)
@@ -68,7 +68,7 @@ own_by row rows false =
     ∙ ap (λ b. grants_under row.top rows ++ cond b (row ∷ []) []) (own row.top)
 
 -- what is kept under the row's own top-level site
-pub kept_own : (row : PlainGrant) (rows : List PlainGrant) → grants_under row.top (kept row rows) ≡ kept row (grants_under row.top rows)
+pub kept_own : (row : PlainGrant) (rows : List PlainGrant) → grants_under row.top (with_row row rows) ≡ with_row row (grants_under row.top rows)
 kept_own row rows =
     own_by row rows (has_row row rows)
     ∙ ap (λ b. cond b (map (replaced (is_of row.top row.site) row) (grants_under row.top rows)) (grants_under row.top rows ++ row ∷ [])) (sym (has_row_under row rows))
@@ -103,11 +103,11 @@ far_by top row rows false far =
     ∙ with_none (grants_under top rows)
 
 kept_by : (top : PlainSite) (row : PlainGrant) (rows : List PlainGrant) (here : Bool) → same_plain_site top row.top ≡ here
-    → grants_under top (kept row rows) ≡ cond here (kept row (grants_under top rows)) (grants_under top rows)
+    → grants_under top (with_row row rows) ≡ cond here (with_row row (grants_under top rows)) (grants_under top rows)
 kept_by top row rows true is =
-    subst (λ t. grants_under t (kept row rows) ≡ kept row (grants_under t rows)) (sym ((same_plain_site-Decides top row.top).0 is)) (kept_own row rows)
+    subst (λ t. grants_under t (with_row row rows) ≡ with_row row (grants_under t rows)) (sym ((same_plain_site-Decides top row.top).0 is)) (kept_own row rows)
 kept_by top row rows false far = far_by top row rows (has_row row rows) far
 
 -- what a kept row makes of the rows under a top-level site depends on these alone
-pub kept_at : (top : PlainSite) (row : PlainGrant) (rows : List PlainGrant) → grants_under top (kept row rows) ≡ kept_under top row (grants_under top rows)
+pub kept_at : (top : PlainSite) (row : PlainGrant) (rows : List PlainGrant) → grants_under top (with_row row rows) ≡ with_row_under top row (grants_under top rows)
 kept_at top row rows = kept_by top row rows (same_plain_site top row.top) refl

@@ -9,8 +9,8 @@ use Rattle.access_grants.specs.declared.outcome.Outcome.{Outcome}
 use Rattle.access_grants.specs.declared.outcome.Refusal.TheVariants as why
 use Rattle.access_grants.specs.declared.permission.GrantState.{GrantState}
 use Rattle.access_grants.specs.declared.permission.GrantState.TheVariants.{Granted, Denied, Unset}
-use Rattle.access_grants.specs.Grant.{PlainGrant, grant_state, kept, permission_at, spare_after}
-use Rattle.access_grants.specs.Part.{grants_under, kept_under}
+use Rattle.access_grants.specs.Grant.{PlainGrant, grant_state, with_row, permission_at, spare_after}
+use Rattle.access_grants.specs.UnderSite.{grants_under, with_row_under}
 use Rattle.access_grants.specs.Request.{denied_now, dismissed, first_row, granted, granted_now, has_access, refused, request_rows}
 
 -- three sites over https, and the first over http
@@ -63,10 +63,10 @@ of_no_other_scheme = refl
 abbrev renewed : PlainGrant
 renewed = record { top = site_a; site = site_x; granted = false; until = pos 7 }
 
-kept_in_place : kept renewed rows ≡ renewed ∷ deny_x ∷ []
+kept_in_place : with_row renewed rows ≡ renewed ∷ deny_x ∷ []
 kept_in_place = refl
 
-kept_last : kept renewed (deny_x ∷ []) ≡ deny_x ∷ renewed ∷ []
+kept_last : with_row renewed (deny_x ∷ []) ≡ deny_x ∷ renewed ∷ []
 kept_last = refl
 
 spare_in_place : spare_after renewed (record { rows = rows; spare = 3 }) ≡ 3
@@ -147,8 +147,8 @@ no_access_without_flag = refl
 rows_under_a_site : grants_under site_b rows ≡ deny_x ∷ []
 rows_under_a_site = refl
 
-kept_under_its_top : kept_under site_a renewed (grant_x ∷ []) ≡ renewed ∷ []
+kept_under_its_top : with_row_under site_a renewed (grant_x ∷ []) ≡ renewed ∷ []
 kept_under_its_top = refl
 
-kept_under_no_other_top : kept_under site_b renewed (deny_x ∷ []) ≡ deny_x ∷ []
+kept_under_no_other_top : with_row_under site_b renewed (deny_x ∷ []) ≡ deny_x ∷ []
 kept_under_no_other_top = refl

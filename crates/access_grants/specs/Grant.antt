@@ -56,8 +56,8 @@ abbrev pub has_row : PlainGrant → List PlainGrant → Bool
 has_row row rows = list_any (is_of row.top row.site) rows
 
 -- the rows after a row is kept: in the place of its pair's row, or last where the pair has none
-abbrev pub kept : PlainGrant → List PlainGrant → List PlainGrant
-kept row rows =
+abbrev pub with_row : PlainGrant → List PlainGrant → List PlainGrant
+with_row row rows =
     if has_row row rows
     then map (λ other. if is_of row.top row.site other then row else other) rows
     else rows ++ row ∷ []

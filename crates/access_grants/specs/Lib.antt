@@ -1,4 +1,4 @@
 pub mod Grant
-pub mod Part
+pub mod UnderSite
 pub mod Request
 pub mod Plain

@@ -5,8 +5,8 @@ ghost use Rattle.std.specs.Option.{option_copied, option_map};
 ghost use Rattle.std.specs.List.{find, list_any, position};
 ghost use Rattle.origin_site.specs.Plain.{plain_site};
 ghost use Rattle.access_grants.specs.Grant.{HasDistinctPairs, grant_state, has_row};
-ghost use Rattle.access_grants.specs.Grant.{is_of, kept, spare_after};
-ghost use Rattle.access_grants.specs.Part.{KeepsUnder, grants_under};
+ghost use Rattle.access_grants.specs.Grant.{is_of, with_row, spare_after};
+ghost use Rattle.access_grants.specs.UnderSite.{KeepsUnder, grants_under};
 ghost use Rattle.access_grants.specs.Plain.{plain_grant};
 ghost use Rattle.access_grants.specs.Request.{GivesAccess, first_row, request_rows};
 
@@ -97,7 +97,7 @@ impl Grants {
     /// Keeps a row: in the place of its pair's row, or last where the pair has none.
     pub fn keep(&mut self, row: GrantRow)
         requires room { IsTrue (has_row (plain_grant row) self.old.rows) ⊎ (0 < self.old.spare) }
-        ensures rows { self.new.rows ≡ kept (plain_grant row) self.old.rows }
+        ensures rows { self.new.rows ≡ with_row (plain_grant row) self.old.rows }
         ensures spare { self.new.spare ≡ spare_after (plain_grant row) self.old }
         ensures under { KeepsUnder (plain_grant row) self.old.rows self.new.rows }
     {

@@ -2,6 +2,7 @@
 -- `Answers` is for a call that takes memory before it decides: want of memory may then stand in the
 -- place of any answer, of a refusal too. `Decides` is for a call that decides before it takes
 -- memory: its refusals are exact, and want of memory stands only in the place of a value.
+-- Source: none.
 use Rattle.std.specs.Prelude.{◌≡◌, ◌⊎◌, Result, Ok, Err, IsOk, MatchResult}
 
 -- the answer is the expected one, seen by `plain`, or it is `memory`, the refusal that is free

@@ -1,4 +1,5 @@
 -- Counts of faults: a call of the outside may fail only where its count of faults rose.
+-- Source: none.
 -- Our own choice: a count is kept in 64 bits, and stays at its last value once it is there.
 use Rattle.std.specs.Prelude.{◌≡◌, ℕ, ◌+◌, ◌-◌, ◌^◌, ◌≤◌, min, OnErr, OnOk, Result}
 

@@ -1,4 +1,5 @@
 -- What the ends in memory show to contracts: their bytes and their calls.
+-- Source: none.
 use Rattle.std.specs.Prelude.{ℕ, Bool, List, length, ◌==◌, ◌||◌}
 use Rattle.std.specs.List.{list_any}
 use Rattle.agent_base.specs.Counts.{next_count}

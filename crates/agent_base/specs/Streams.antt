@@ -1,5 +1,6 @@
 -- The bytes that a source has left and that a sink has taken, where it tells them.
 -- `None` is an object that tells no bytes. Of such a one nothing is said.
+-- Source: none.
 -- Our own choice: an object that tells its bytes before a call tells them after it. One that tells
 -- none before may begin to tell, as std lets its readers and writers.
 use Rattle.std.specs.Prelude.{◌≡◌, ◌≤◌, ℕ, List, ◌++◌, length, take, drop, Option, Some, None}

@@ -9,7 +9,7 @@ use Rattle.unwinding.specs.Durable.{apply_all}
 use Rattle.disk_model.specs.Disk.{LeavesOnly, View}
 use Rattle.disk_model.specs.DiskLaws.{IsLawful}
 use Rattle.journal.specs.Journal.{JournalView}
-use Rattle.journal.specs.Region.{StandsFor}
+use Rattle.journal.specs.Region.{StandsForState}
 use Rattle.journal.proofs.Moments.{weaker}
 use Rattle.suffix_list.specs.Suffix.{Rule}
 use Rattle.row_changes.specs.Change.{PlainChange}
@@ -98,8 +98,8 @@ twice n = omega arith
 
 -- a store that stands for some state
 store_of : (rules : List Rule) (digest file : List ℕ) (d : Saved) (last : ℕ)
-    → StandsFor (Takes rules) nothing_saved digest file d last
-    → (base : Saved) × (n : ℕ) × StandsFor (Takes rules) nothing_saved digest file base n
+    → StandsForState (Takes rules) nothing_saved digest file d last
+    → (base : Saved) × (n : ℕ) × StandsForState (Takes rules) nothing_saved digest file base n
 store_of rules digest file d last stands = (d, last, stands)
 
 -- ---- the open batch
@@ -141,9 +141,9 @@ module _ {D : Type 0} (x : AgentView D) (v : View) (a : AgentSeen) (held : IsHel
       x.journal.changes next later)
       (IsBeforeOrAfter x.memory.rules x.journal.digest a a)
       (λ file either. ⊎_elim
-      (λ (s : StandsFor (Takes x.memory.rules) nothing_saved x.journal.digest file held.base
+      (λ (s : StandsForState (Takes x.memory.rules) nothing_saved x.journal.digest file held.base
       x.journal.changes). (held.base, x.journal.changes, s, inl (sym held.state)))
-      (λ (s : StandsFor (Takes x.memory.rules) nothing_saved x.journal.digest file next later).
+      (λ (s : StandsForState (Takes x.memory.rules) nothing_saved x.journal.digest file next later).
       (next, later, s, inr is))
       either)
       leaves
@@ -181,10 +181,10 @@ module _ {D : Type 0} (x : AgentView D) (v : View) (a : AgentSeen) (up : IsUp x 
     pub failed_stores : LeavesStores x.memory.rules x.journal.digest w
     failed_stores tells file left =
         ⊎_elim
-        (λ (s : StandsFor (Takes x.memory.rules) nothing_saved x.journal.digest file up.base
+        (λ (s : StandsForState (Takes x.memory.rules) nothing_saved x.journal.digest file up.base
         x.journal.changes).
         store_of x.memory.rules x.journal.digest file up.base x.journal.changes s)
-        (λ (s : StandsFor (Takes x.memory.rules) nothing_saved x.journal.digest file next later).
+        (λ (s : StandsForState (Takes x.memory.rules) nothing_saved x.journal.digest file next later).
         store_of x.memory.rules x.journal.digest file next later s)
         (either file left)
 
@@ -194,7 +194,7 @@ module _ {D : Type 0} (x : AgentView D) (v : View) (a : AgentSeen) (up : IsUp x 
     unfolding may_find
     failed_may d n left =
         ⊎_elim
-        (λ (s : StandsFor (Takes x.memory.rules) nothing_saved x.journal.digest left.0 up.base
+        (λ (s : StandsForState (Takes x.memory.rules) nothing_saved x.journal.digest left.0 up.base
         x.journal.changes).
         let same =
         stands_one x.memory.rules x.journal.digest left.0 left.2 up.base left.3
@@ -203,7 +203,7 @@ module _ {D : Type 0} (x : AgentView D) (v : View) (a : AgentSeen) (up : IsUp x 
           left.5 ∙ ap durable_of same.0 ∙ sym up.state,
           left.6 ∙ ap (λ (i : ℕ). since_opening i x.opened) same.1 ∙ sym up.count,
         )))
-        (λ (s : StandsFor (Takes x.memory.rules) nothing_saved x.journal.digest left.0 next
+        (λ (s : StandsForState (Takes x.memory.rules) nothing_saved x.journal.digest left.0 next
         later).
         let same =
         stands_one x.memory.rules x.journal.digest left.0 left.2 next left.3 later left.4 s in

@@ -8,7 +8,8 @@ use Rattle.agent_memory.specs.AgentState.{AgentState}
 use Rattle.agent_core.specs.AgentView.{AgentView, may_of}
 use Rattle.agent_core.specs.Batch.{PlainBatch}
 use Rattle.agent_core.specs.Flushing.{Flushes, KeepsOptions}
-use Rattle.agent_core.specs.Means.{IsBeforeOrAfter, IsTidy, OutcomeDevice}
+use Rattle.agent_core.specs.Calls.{IsTidy, OutcomeDevice}
+use Rattle.agent_core.specs.Means.{IsBeforeOrAfter}
 use Rattle.agent_core.specs.Seen.{AgentSeen, IsUp}
 use Rattle.agent_core.specs.Standing.{Finishes}
 use Rattle.agent_core.specs.declared.agent.Power.{Power}

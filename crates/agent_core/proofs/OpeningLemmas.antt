@@ -3,7 +3,7 @@ use Rattle.std.proofs.Common.{◌≡◌, ⊎_elim, ℕ, ◌<◌, true, false, Li
 use Rattle.std.specs.Prelude.{Result, Ok, Err, IsErrOf}
 use Rattle.std.proofs.lemmas.Bool.{cases_lt}
 use Rattle.disk_model.specs.Disk.{IsSettled, Makes, View}
-use Rattle.journal.specs.Journal.{JournalView, Stands}
+use Rattle.journal.specs.Journal.{JournalView, StandsInFile}
 use Rattle.journal.specs.Opening.{FileMeans, HasNoFault, IsWithin, Opens, limit}
 use Rattle.journal.specs.declared.open_fault.OpenFault.{OpenFault}
 use Rattle.journal.specs.declared.open_fault.OpenFault.TheVariants as fault
@@ -23,7 +23,7 @@ use Rattle.agent_core.specs.Seen.{IsAtBase, LeavesStores}
 -- the store is open, and nothing is pending
 pub at_base : (rules : List Rule) (journal : JournalView) (view : View) (state : Saved)
     → ((c : List ℕ) → view.contents ≡ Some c
-    → (frames : List Frame) × Stands journal c frames
+    → (frames : List Frame) × StandsInFile journal c frames
     × Runs (Takes rules) true nothing_saved 0 frames state journal.changes)
     → journal.shut ≡ false → IsSettled view → IsAtBase rules journal view state
 at_base rules journal view state stands usable settled = record {

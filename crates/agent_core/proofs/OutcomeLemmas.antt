@@ -6,7 +6,7 @@ use Rattle.agent_base.specs.Counts.{Rose}
 use Rattle.disk_model.specs.Disk.{FailedPowered, HasFailed, IsNextCut, View, WasOff}
 use Rattle.journal.specs.Journal.{JournalView}
 use Rattle.journal.specs.Opening.{HasNoFault}
-use Rattle.journal.specs.Region.{StandsFor}
+use Rattle.journal.specs.Region.{StandsForState}
 use Rattle.suffix_list.specs.Suffix.{Rule}
 use Rattle.script_actions.specs.Action.{PlainAction}
 use Rattle.reply_lines.specs.Reply.{PlainReply}
@@ -23,7 +23,8 @@ use Rattle.agent_core.specs.AgentView.{AgentView, is_due, may_find, may_of, sinc
 use Rattle.agent_core.specs.Batch.{HasNotRun, PlainBatch}
 use Rattle.open_store.specs.Commits.{CommitDevice}
 use Rattle.open_store.specs.Standing.{IsRoomier}
-use Rattle.agent_core.specs.Means.{AgentMay, FlushMeans, LineMeans, OutcomeDevice, after_commit, after_line, calls_by, checkpoint_calls}
+use Rattle.agent_core.specs.Calls.{OutcomeDevice, calls_by, checkpoint_calls}
+use Rattle.agent_core.specs.Means.{AgentMay, FlushMeans, LineMeans, after_commit, after_line}
 use Rattle.agent_core.specs.Seen.{AgentSeen, IsAtBase, IsBatch, IsSeen, IsUp, LeavesStores}
 use Rattle.agent_core.specs.Standing.{Finishes}
 use Rattle.agent_core.specs.declared.agent.Power.{Power}
@@ -159,7 +160,7 @@ module _ (j j' : JournalView) (v w : View) (roomier : IsRoomier j j' v w) where
     left.2,
     left.3,
     subst
-        (λ (i : JournalView). StandsFor (Takes rules) nothing_saved i.digest left.0 left.2 left.3)
+        (λ (i : JournalView). StandsForState (Takes rules) nothing_saved i.digest left.0 left.2 left.3)
         roomier.journal left.4,
     left.5,
     left.6,
@@ -170,7 +171,7 @@ module _ (j j' : JournalView) (v w : View) (roomier : IsRoomier j j' v w) where
   roomier_stores rules stores tells file left =
       subst
       (λ (i : JournalView). (base : Saved) × (last : ℕ)
-      × StandsFor (Takes rules) nothing_saved i.digest file base last)
+      × StandsForState (Takes rules) nothing_saved i.digest file base last)
       (sym roomier.journal)
       (stores (sym roomier.stays.tells ∙ tells) file (roomier.stays.no_more file left))
 

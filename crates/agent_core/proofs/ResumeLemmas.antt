@@ -9,7 +9,7 @@ use Rattle.suffix_list.specs.Suffix.{Rule}
 use Rattle.origin_site.specs.Site.{PlainSite}
 use Rattle.storage_key.specs.Context.{is_of}
 use Rattle.access_grants.specs.Grant.{PlainGrants}
-use Rattle.access_grants.specs.Part.{grants_under}
+use Rattle.access_grants.specs.UnderSite.{grants_under}
 use Rattle.web_storage.specs.Stored as storage
 use Rattle.web_cookies.specs.Stored as cookies
 use Rattle.agent_model.specs.Lines.{no_places, site_at}

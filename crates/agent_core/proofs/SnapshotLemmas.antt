@@ -17,10 +17,10 @@ use Rattle.storage_key.specs.Key.{PlainKey, key_order}
 use Rattle.storage_key.proofs.OrderLemmas.{key_order_same}
 use Rattle.cookie_jar.specs.Cookie.{PlainCookie, keeps_limits}
 use Rattle.cookie_jar.specs.Key.{PlainKey as PlainCell, OwnCell, PartitionCell}
-use Rattle.cookie_jar.specs.Persistent.{kept}
+use Rattle.cookie_jar.specs.Persistent.{persistent_part}
 use Rattle.local_area.specs.Area.{HasDistinctNames, Pair, area_weight, quota}
 use Rattle.access_grants.specs.Grant.{HasDistinctPairs, PlainGrant}
-use Rattle.access_grants.specs.Part.{grants_under}
+use Rattle.access_grants.specs.UnderSite.{grants_under}
 use Rattle.row_changes.specs.Body.{rows_bytes}
 use Rattle.row_changes.specs.Change.{AreaPut, CookieInsert, Grant}
 use Rattle.row_changes.specs.Spelled.{IsSpelled}
@@ -50,28 +50,28 @@ use Rattle.agent_core.specs.Standing.{kept_in}
 
 own_found : (es : List (Domain × Full PlainCookie)) (domain : Domain)
     → get_cell domain_order (kept_own_entries es) domain
-    ≡ kept (list_of (find domain_order domain es))
+    ≡ persistent_part (list_of (find domain_order domain es))
 own_found [] domain = get_none domain
 own_found (e ∷ es) domain =
     cells_of.get_set domain_order domain_order_total domain_order_same domain e.0
-    (kept (e.1.first ∷ e.1.rest)) (kept_own_entries es)
+    (persistent_part (e.1.first ∷ e.1.rest)) (kept_own_entries es)
     ∙ at (eq_by_cmp domain_order domain e.0) (own_found es domain)
   where
     at : (b : Bool)
         → get_cell domain_order (kept_own_entries es) domain
-        ≡ kept (list_of (find domain_order domain es))
-        → cond b (kept (e.1.first ∷ e.1.rest)) (get_cell domain_order (kept_own_entries es) domain)
-        ≡ kept (list_of (cond b (Some e.1) (find domain_order domain es)))
+        ≡ persistent_part (list_of (find domain_order domain es))
+        → cond b (persistent_part (e.1.first ∷ e.1.rest)) (get_cell domain_order (kept_own_entries es) domain)
+        ≡ persistent_part (list_of (cond b (Some e.1) (find domain_order domain es)))
     at true later = refl
     at false later = later
 
 -- an unpartitioned cell has what is kept of it
 own_kept : (cells : CookieCells) (domain : Domain)
-    → get_cell domain_order (kept_own_cells cells) domain ≡ kept (get_cell domain_order cells domain)
+    → get_cell domain_order (kept_own_cells cells) domain ≡ persistent_part (get_cell domain_order cells domain)
 unfolding get_cell
 own_kept cells domain =
     own_found (finite.entries cells) domain
-    ∙ ap (λ found. kept (list_of found)) (sym (get-entries cells domain))
+    ∙ ap (λ found. persistent_part (list_of found)) (sym (get-entries cells domain))
 
 -- what is kept of the cells under a site is what is kept of all, under the site
 kept_under_site : (site : PlainSite) (cells : PartitionedCells)
@@ -83,11 +83,11 @@ kept_under_site site cells =
     partitioned_order_same (is_cell_under site) (kept_cells cells) key
     ∙ ap (λ cookies. cond (is_cell_under site key) cookies []) (get_kept cells key)
     ∙ at (is_cell_under site key) (get_cell partitioned_order cells key)
-    ∙ ap kept (sym (cells_of.get_restrict partitioned_order partitioned_order_total
+    ∙ ap persistent_part (sym (cells_of.get_restrict partitioned_order partitioned_order_total
     partitioned_order_same (is_cell_under site) cells key))
     ∙ sym (get_kept (restrict_cells partitioned_order (is_cell_under site) cells) key))
   where
-    at : (b : Bool) (cookies : Cookies) → cond b (kept cookies) [] ≡ kept (cond b cookies [])
+    at : (b : Bool) (cookies : Cookies) → cond b (persistent_part cookies) [] ≡ persistent_part (cond b cookies [])
     at true cookies = refl
     at false cookies = refl
 
@@ -206,7 +206,7 @@ module _ (m : AgentState) where
 
   kept_cell : (domain : Domain)
       → get_cell domain_order (kept_in m).cells domain
-      ≡ kept (get_cell domain_order (world_of m).cells domain)
+      ≡ persistent_part (get_cell domain_order (world_of m).cells domain)
   unfolding world_of whole_world
   kept_cell domain = own_kept (cookies.shared_in m.cookies) domain
 
@@ -225,7 +225,7 @@ module _ (m : AgentState) where
     in_cells =
         cells_of.same_cells domain_order domain_order_total domain_order_same _ _
         (λ domain. kept_cell domain
-        ∙ ap (λ (w : AgentWorld). kept (get_cell domain_order w.cells domain)) (sym is)
+        ∙ ap (λ (w : AgentWorld). persistent_part (get_cell domain_order w.cells domain)) (sym is)
         ∙ sym (saved.cell domain))
 
     -- it is what the store stands for, at each site and in each cell

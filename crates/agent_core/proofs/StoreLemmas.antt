@@ -6,7 +6,7 @@ use Rattle.disk_model.specs.Disk.{LeavesOnly, Stays, View}
 use Rattle.disk_model.specs.DiskLaws.{IsLawful}
 use Rattle.journal.specs.Journal.{JournalView}
 use Rattle.journal.specs.Opening.{FileMeans}
-use Rattle.journal.specs.Region.{Runs, StandsFor}
+use Rattle.journal.specs.Region.{Runs, StandsForState}
 use Rattle.journal.proofs.Moments.{started, stays_on}
 use Rattle.journal.proofs.Refusals.{means_unique}
 use Rattle.open_store.specs.Standing.{IsRoomier}
@@ -32,19 +32,19 @@ means_one rules =
     subst (λ (r : Result Counted ℕ). MatchResult r (λ _. ⊤) (λ _. ⊥)) (sym took ∙ refused) tt)
 
 pub stands_one : (rules : List Rule) (digest file : List ℕ) (s t : Saved) (m n : ℕ)
-    → StandsFor (Takes rules) nothing_saved digest file s m
-    → StandsFor (Takes rules) nothing_saved digest file t n → (s ≡ t) × (m ≡ n)
+    → StandsForState (Takes rules) nothing_saved digest file s m
+    → StandsForState (Takes rules) nothing_saved digest file t n → (s ≡ t) × (m ≡ n)
 stands_one rules digest file s t m n one two =
     means_one rules digest file s t m n (inl one) (inl two)
 
 pub contents_stand : (rules : List Rule) (j : JournalView) (v : View) (base : Saved)
     → IsAtBase rules j v base → (c : List ℕ) → v.contents ≡ Some c
-    → StandsFor (Takes rules) nothing_saved j.digest c base j.changes
+    → StandsForState (Takes rules) nothing_saved j.digest c base j.changes
 contents_stand rules j v base at = store.contents_stand (Takes rules) nothing_saved j v base at
 
 pub images_stand : (rules : List Rule) (j : JournalView) (v : View) (base : Saved)
     → IsAtBase rules j v base → (c : List ℕ) → v.may_leave c
-    → StandsFor (Takes rules) nothing_saved j.digest c base j.changes
+    → StandsForState (Takes rules) nothing_saved j.digest c base j.changes
 images_stand rules j v base at = store.images_stand (Takes rules) nothing_saved j v base at
 
 -- nothing was done but that room was made

@@ -6,7 +6,7 @@ use Rattle.std.specs.Prelude.{◌≡◌, ℕ, ◌+◌, ◌-◌, ◌%◌, ◌^◌
 use Rattle.std.specs.Prelude.{◌&&◌, List, length}
 use Rattle.disk_model.specs.Disk.{View}
 use Rattle.journal.specs.Journal.{JournalView, since_of}
-use Rattle.journal.specs.Region.{StandsFor}
+use Rattle.journal.specs.Region.{StandsForState}
 use Rattle.suffix_list.specs.Suffix.{Rule}
 use Rattle.reply_lines.specs.Reply.{PlainReply}
 use Rattle.durable_model.specs.Keeping.{AgentDurable, durable_of}
@@ -15,6 +15,10 @@ use Rattle.row_store.specs.Bodies.{Takes}
 use Rattle.agent_memory.specs.AgentState.{AgentState}
 use Rattle.agent_core.specs.declared.agent.Power.{Power}
 use Rattle.agent_core.specs.declared.agent.Power.TheVariants.{Up, Down, Spoilt}
+
+-- the most lines that are committed together
+abbrev pub longest_batch : ℕ
+longest_batch = 256
 
 -- an agent: what it has in memory, the clock that it last told, how many lines a batch has, the
 -- bytes, the number and the replies of the open batch, its store, the number of the store's
@@ -43,7 +47,7 @@ unfoldable pub may_find : List Rule → (digest : List ℕ) → (opened : ℕ) �
     → Type 0
 may_find rules digest opened view d n =
     (file : List ℕ) × view.may_leave file × (base : Saved) × (last : ℕ)
-    × StandsFor (Takes rules) nothing_saved digest file base last
+    × StandsForState (Takes rules) nothing_saved digest file base last
     × (d ≡ durable_of base) × (n ≡ since_opening last opened)
 
 -- the same of an agent whose disk tells this

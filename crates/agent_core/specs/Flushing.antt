@@ -3,7 +3,8 @@
 use Rattle.std.specs.Prelude.{◌≡◌, ℕ, [], true}
 use Rattle.disk_model.specs.Disk.{LeavesOnly, View}
 use Rattle.agent_core.specs.AgentView.{AgentView, may_of}
-use Rattle.agent_core.specs.Means.{FlushMeans, IsBeforeOrAfter, IsTidy, OutcomeDevice}
+use Rattle.agent_core.specs.Calls.{IsTidy, OutcomeDevice}
+use Rattle.agent_core.specs.Means.{FlushMeans, IsBeforeOrAfter}
 use Rattle.agent_core.specs.Seen.{AgentSeen, IsSeen}
 use Rattle.agent_core.specs.declared.outcome.Outcome.{Outcome}
 

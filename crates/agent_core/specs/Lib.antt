@@ -1,6 +1,7 @@
 -- What contracts cite.
 pub mod AgentView
 pub mod Seen
+pub mod Calls
 pub mod Means
 pub mod Flushing
 -- What private functions compute.

@@ -3,26 +3,23 @@
 -- Our own choice: a batch is committed whole when its last line has run, or at a flush, and its
 -- replies are given out after that. A line whose commit meets a device fault is answered `Down`. A
 -- checkpoint is made at a flush with nothing held, and an agent stands for the same afterwards.
-use Rattle.std.specs.Prelude.{◌≡◌, ◌⊎◌, ℕ, ◌+◌, ◌<◌, ◌≤◌, ◌^◌, true, List, map, length, Result}
-use Rattle.std.specs.Prelude.{[], ◌∷◌, Ok, Err, IsErrOf, OnOk, false, if◌then◌else◌}
+use Rattle.std.specs.Prelude.{◌≡◌, ◌⊎◌, ℕ, ◌+◌, ◌<◌, ◌^◌, true, List, map, length, Result}
+use Rattle.std.specs.Prelude.{Ok, Err}
 use Rattle.unwinding.specs.Course.{AtBase, IsAt}
 use Rattle.unwinding.specs.CourseSteps.{GoesDown, committed, holding, reopened}
-use Rattle.agent_base.specs.Counts.{Rose}
-use Rattle.disk_model.specs.Disk.{View, HasFailed, IsNextCut, WasOff}
-use Rattle.journal.specs.Opening.{HasNoFault}
-use Rattle.journal.specs.Region.{StandsFor}
+use Rattle.disk_model.specs.Disk.{View}
+use Rattle.journal.specs.Region.{StandsForState}
 use Rattle.journal.specs.declared.open_fault.OpenFault.{OpenFault}
 use Rattle.journal.specs.declared.open_fault.OpenFault.TheVariants as fault
 use Rattle.suffix_list.specs.Suffix.{Rule}
 use Rattle.script_actions.specs.Action.{PlainAction}
 use Rattle.reply_lines.specs.Plain.{reply_of}
-use Rattle.reply_lines.specs.Reply.{PlainReply}
 use Rattle.agent_model.specs.Isolation.{printed}
 use Rattle.agent_model.specs.TheMachine.{machine}
 use Rattle.durable_model.specs.Keeping.{AgentDurable, durable_of, keeping}
 use Rattle.durable_model.specs.Saved.{Saved, nothing_saved}
 use Rattle.row_store.specs.Bodies.{Takes}
-use Rattle.agent_core.specs.AgentView.{AgentView, is_due, may_of, since_opening}
+use Rattle.agent_core.specs.AgentView.{AgentView, may_of, since_opening}
 use Rattle.agent_core.specs.Seen.{AgentSeen}
 use Rattle.agent_core.specs.declared.outcome.Outcome.{Outcome}
 use Rattle.agent_core.specs.declared.outcome.Outcome.TheVariants.{Replies, Held, Down, NoMemory}
@@ -39,10 +36,11 @@ Fits a = a.up ≡ true → a.base.count + length a.pending + 1 < 2 ^ 64
 abbrev pub Same : AgentSeen → AgentMay → AgentSeen → AgentMay → Type 0
 Same a may b may' = (b ≡ a) × ((d : AgentDurable) (n : ℕ) → may' d n → may d n)
 
--- what follows a line that ran, and what follows its commit
+-- what follows a line that ran
 abbrev pub after_line : List Rule → AgentSeen → PlainAction → AgentSeen
 after_line rules a line = holding (machine rules) keeping a line
 
+-- what follows the commit of the lines that ran
 abbrev pub after_commit : List Rule → AgentSeen → AgentSeen
 after_commit rules a = committed (machine rules) keeping a
 
@@ -95,55 +93,17 @@ RestartMeans rules a may b may' (Err (fault.NotAStore offset)) = ⊥
 RestartMeans rules a may b may' (Err (fault.OtherList kept given)) = ⊥
 RestartMeans rules a may b may' (Err (fault.TooLarge len)) = ⊥
 
--- ---- moments within a call, and the device
+-- ---- moments within a call
 
 -- a file stands for what the store stood for when the batch began, or for what follows the batch
 abbrev pub IsBeforeOrAfter : List Rule → (digest : List ℕ) → (a ran : AgentSeen) → List ℕ → Type 0
 IsBeforeOrAfter rules digest a ran file =
-    (base : Saved) × (last : ℕ) × StandsFor (Takes rules) nothing_saved digest file base last
+    (base : Saved) × (last : ℕ) × StandsForState (Takes rules) nothing_saved digest file base last
     × ((durable_of base ≡ a.base.state) ⊎ (durable_of base ≡ (after_commit rules ran).base.state))
 
 -- a file that a cut might have left: it stands for a state that a restart might have found
 abbrev pub IsOneFound : {D : Type 0} → AgentView D → View → List ℕ → Type 0
 IsOneFound v view file =
     view.may_leave file × (base : Saved) × (last : ℕ)
-    × StandsFor (Takes v.memory.rules) nothing_saved v.journal.digest file base last
+    × StandsForState (Takes v.memory.rules) nothing_saved v.journal.digest file base last
     × may_of v view (durable_of base) (since_opening last v.opened)
-
--- how many changing calls a checkpoint makes at most, where one is due; else none is made
-abbrev pub checkpoint_calls : {D : Type 0} → AgentView D → ℕ
-checkpoint_calls v = if is_due v.checkpoint v.journal then 7 else 0
-
--- how many a flush makes at most: those of a checkpoint with nothing held, and else a commit's
-abbrev pub calls_by : (held : List PlainReply) → (checkpoint : ℕ) → ℕ
-calls_by [] checkpoint = checkpoint
-calls_by (reply ∷ held) checkpoint = 4
-
-abbrev pub flush_calls : {D : Type 0} → AgentView D → ℕ
-flush_calls v = calls_by v.held (checkpoint_calls v)
-
--- where replies are given out, no checkpoint is due
-abbrev pub IsTidy : {D : Type 0} → Outcome → AgentView D → Type 0
-IsTidy (Replies given) v = is_due v.checkpoint v.journal ≡ false
-IsTidy other v = Unit {0}
-
--- a line or a flush of an agent that is up answers `Down` exactly where a call of the disk failed;
--- so many changing calls are made at most, and none where memory is wanting
-pub record OutcomeDevice (most : ℕ) (result : Outcome) (old new : View) : Type 0 where
-  pub tells : new.tells ≡ old.tells
-  pub later : old.changing ≤ new.changing
-  pub calls : new.changing ≤ old.changing + most
-  pub spared : result ≡ NoMemory → new.changing ≡ old.changing
-  pub down : result ≡ Down → Rose old.faults new.faults × HasFailed old new
-  pub others : (result ≡ Down → ⊥) → HasNoFault old new
-
--- a restart answers a device fault exactly where a call of the disk failed
-pub record RestartDevice (result : Result ℕ OpenFault) (old new : View) : Type 0 where
-  pub tells : new.tells ≡ old.tells
-  pub counted : IsErrOf result fault.DeviceFault → Rose old.faults new.faults
-  -- the disk's own restart found the power off still, or the call that failed was a cut
-  pub failed : IsErrOf result fault.DeviceFault
-      → WasOff old new ⊎ IsNextCut old.cuts new.cuts new.changing
-  pub others : IsErrOf result fault.DeviceFault
-      ⊎ ((new.faults ≡ old.faults) × (new.failures ≡ old.failures) × (new.cuts ≡ old.cuts))
-  pub on : OnOk result (new.off ≡ false)

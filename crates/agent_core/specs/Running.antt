@@ -5,7 +5,8 @@ use Rattle.disk_model.specs.Disk.{LeavesOnly, View}
 use Rattle.script_actions.specs.Action.{PlainAction}
 use Rattle.agent_core.specs.AgentView.{AgentView, may_of}
 use Rattle.agent_core.specs.Flushing.{KeepsOptions}
-use Rattle.agent_core.specs.Means.{Fits, IsBeforeOrAfter, LineMeans, OutcomeDevice, after_line}
+use Rattle.agent_core.specs.Calls.{OutcomeDevice}
+use Rattle.agent_core.specs.Means.{Fits, IsBeforeOrAfter, LineMeans, after_line}
 use Rattle.agent_core.specs.Seen.{AgentSeen, IsSeen}
 use Rattle.agent_core.specs.declared.outcome.Outcome.{Outcome}
 use Rattle.agent_core.specs.declared.outcome.Outcome.TheVariants.{Held}

@@ -12,7 +12,7 @@ use Rattle.suffix_list.specs.Suffix.{Rule}
 use Rattle.origin_site.specs.Site.{PlainSite}
 use Rattle.row_changes.specs.Change.{PlainChange}
 use Rattle.row_changes.specs.Laws.{IsWritable}
-use Rattle.agent_model.specs.Done.{SharedCells}
+use Rattle.agent_model.specs.Effects.{SharedCells}
 use Rattle.agent_model.specs.Isolation.{printed}
 use Rattle.agent_model.specs.Lines.{AgentWorld, Rest}
 use Rattle.agent_model.specs.Partition.{Partition}

@@ -17,7 +17,7 @@ use Rattle.durable_model.specs.Saved.{Saved}
 use Rattle.row_store.specs.Kept.{kept_of}
 use Rattle.row_store.specs.Stored.{saved_in}
 use Rattle.agent_memory.specs.AgentState.{AgentState}
-use Rattle.agent_core.specs.AgentView.{AgentView}
+use Rattle.agent_core.specs.AgentView.{AgentView, longest_batch}
 use Rattle.agent_core.specs.Batch.{PlainBatch}
 use Rattle.open_store.specs.Standing.{IsReady}
 use Rattle.agent_core.specs.Means.{AgentMay, after_commit}
@@ -27,15 +27,15 @@ use Rattle.agent_core.specs.declared.agent.Power.TheVariants.{Down, Spoilt, Up}
 use Rattle.agent_core.specs.declared.outcome.Outcome.{Outcome}
 use Rattle.agent_core.specs.declared.outcome.Outcome.TheVariants as outcome
 
--- its memory and its store are under its list, its clock is in time, and its batches have from 1 to
--- 256 lines; where it is up a call of its store may follow
+-- its memory and its store are under its list, its clock is in time, and its batches have at least
+-- one line and not too many; where it is up a call of its store may follow
 pub record IsStanding (list : RuleList) (memory : AgentState) (now : ℕ) (batch : PlainBatch)
     (power : Power) (journal : JournalView) (view : View) : Type 0 where
   pub rules : memory.rules ≡ list.rules
   pub digest : journal.digest ≡ list.digest
   pub in_time : now ≤ last_moment
   pub least : 1 ≤ batch.size
-  pub most : batch.size ≤ 256
+  pub most : batch.size ≤ longest_batch
   pub ready : power ≡ Up → IsReady journal view
 
 -- no line waits, so that there is no durable change

@@ -17,13 +17,13 @@ ghost use Rattle.durable_model.specs.Saved.{IsValid, Saved, nothing_saved};
 ghost use Rattle.row_store.specs.Bodies.{Refuses, Takes};
 ghost use Rattle.suffix_list.specs.ListText.{RuleList};
 ghost use Rattle.row_store.specs.Stored.{HasNoSession, saved_of};
-ghost use Rattle.agent_core.specs.AgentView.{is_down, may_of, owes, since_opening};
+ghost use Rattle.agent_core.specs.AgentView.{is_down, longest_batch, may_of, owes, since_opening};
 ghost use Rattle.open_store.specs.Commits.{HasRoomFor};
 ghost use Rattle.open_store.specs.Reopens.{LeavesAnew};
 ghost use Rattle.agent_core.specs.Flushing.{Flushes, KeepsOptions};
-ghost use Rattle.agent_core.specs.Means.{Fits, FlushMeans, IsBeforeOrAfter, IsOneFound, IsTidy};
-ghost use Rattle.agent_core.specs.Means.{LineMeans, OutcomeDevice, RestartDevice, RestartMeans};
-ghost use Rattle.agent_core.specs.Means.{after_line, flush_calls};
+ghost use Rattle.agent_core.specs.Calls.{IsTidy, OutcomeDevice, RestartDevice, flush_calls};
+ghost use Rattle.agent_core.specs.Means.{Fits, FlushMeans, IsBeforeOrAfter, IsOneFound, LineMeans};
+ghost use Rattle.agent_core.specs.Means.{RestartMeans, after_line};
 ghost use Rattle.agent_core.specs.Seen.{AgentSeen, IsSeen, IsUp};
 ghost use Rattle.agent_core.specs.Openings.{IsOpened, resumed};
 ghost use Rattle.agent_core.specs.Running.{RunsLine};
@@ -143,7 +143,7 @@ fn begin<'l, D: Disk + Drop>(
     opened: Opened,
 ) -> Agent<'l, D>
     requires start { options.start ≤ last_moment }
-    requires batch { (1 ≤ options.batch) × (options.batch ≤ 256) }
+    requires batch { (1 ≤ options.batch) × (options.batch ≤ longest_batch) }
     requires opened { IsOpened list.now opened.journal (D.view disk) opened.parts }
     ensures seen { let at : Rest = record { now = options.start; places = no_places } in
         let s = reopened (machine list.now.rules) keeping at (durable_of (saved_of opened.parts)) in
@@ -182,7 +182,7 @@ impl<'l, D: Disk + Drop> Agent<'l, D> {
         options: Options,
     ) -> Result<Agent<'l, D>, Refused<D>>
         requires start { options.start ≤ last_moment }
-        requires batch { (1 ≤ options.batch) × (options.batch ≤ 256) }
+        requires batch { (1 ≤ options.batch) × (options.batch ≤ longest_batch) }
 
         // It stands for the world that a restart opens with what the store stands for.
         ensures seen { IfOk result (λ a. (base : Saved) × IsValid base

@@ -7,8 +7,8 @@ ghost use Rattle.row_changes.specs.Body.{rows_bytes};
 ghost use Rattle.row_store.specs.Listing.{listed};
 ghost use Rattle.agent_core.specs.AgentView.{is_due, may_of};
 ghost use Rattle.agent_core.specs.Flushing.{Flushes, KeepsOptions};
-ghost use Rattle.agent_core.specs.Means.{IsBeforeOrAfter, IsTidy, OutcomeDevice};
-ghost use Rattle.agent_core.specs.Means.{checkpoint_calls};
+ghost use Rattle.agent_core.specs.Calls.{IsTidy, OutcomeDevice, checkpoint_calls};
+ghost use Rattle.agent_core.specs.Means.{IsBeforeOrAfter};
 ghost use Rattle.agent_core.specs.Seen.{AgentSeen, IsUp};
 ghost use Rattle.agent_core.specs.Standing.{Finishes, HasNone, kept_in};
 

@@ -13,7 +13,7 @@ use Rattle.live_state.specs.FramesInPlace.{IsPutIn, frames_at, requested}
 use Rattle.live_state.specs.Tabs.{PlainLive, PlainTab, tab_at}
 use Rattle.script_actions.specs.declared.words.Prompt.{Prompt}
 use Rattle.reply_lines.specs.Reply.{PlainBody, Plain}
-use Rattle.agent_model.specs.Done.{Effect}
+use Rattle.agent_model.specs.Effects.{Effect}
 use Rattle.agent_model.specs.Documents.{by_document, with_document}
 use Rattle.agent_model.specs.StorageAccess.{access_facts, answer_of, change_requested, decision_word, done_by, embedded_site, grants_requested, keeps_grant, outcome_of, request_access}
 use Rattle.agent_memory.specs.Access.{change_kept, row_of, rows_kept}

@@ -7,7 +7,7 @@ use Rattle.agent_base.specs.declared.refusals.Label.{Label}
 use Rattle.live_state.specs.Tabs.{PlainTab}
 use Rattle.script_actions.specs.Action.{DocumentAction, Frame, Nav, Drop, Click, Fetch, Set, Get, Del, Clear, Len, Key, Events, Cookie, SetCookie, Has, Request, Persisted, Estimate, Persist}
 use Rattle.script_actions.specs.Action.{PlainAction, Tick, Open, Close, Go, Evict, Act}
-use Rattle.agent_model.specs.Done.{Effect}
+use Rattle.agent_model.specs.Effects.{Effect}
 use Rattle.agent_model.specs.Documents.{Keyed, with_key}
 use Rattle.agent_model.specs.SiteStep.{act_in}
 use Rattle.agent_memory.specs.ActionKinds.{by_keyed, document_action, is_keyed, key_action}

@@ -24,7 +24,7 @@ use Rattle.agent_model.specs.CookieUse.{CookieUse}
 use Rattle.agent_model.specs.CookieUses.{fetch_use, frame_use, nav_use}
 use Rattle.agent_model.specs.Cookies.{read_cookies, request, set_cookie}
 use Rattle.agent_model.specs.Documents.{by_document, with_document}
-use Rattle.agent_model.specs.Done.{Effect, SharedCells, answers, ok}
+use Rattle.agent_model.specs.Effects.{Effect, SharedCells, answers, ok}
 use Rattle.agent_model.specs.Frames.{on_frames, frames_added, frames_navigated, frames_removed, frames_clicked}
 use Rattle.agent_model.specs.AreaActions.{pairs_of, change_event, set_item, remove_item, clear_area, get_item, get_name, get_length}
 use Rattle.agent_model.specs.Buckets.{get_mode, get_usage, persist}

@@ -25,7 +25,7 @@ use Rattle.agent_model.specs.Frames.{on_frames, refused_by}
 use Rattle.agent_model.specs.Lines.{placed}
 use Rattle.agent_model.specs.Sessions.{show}
 use Rattle.agent_model.specs.Queues.{take_events, take_queue, with_taken}
-use Rattle.agent_model.specs.Done.{Done, Effect, SharedCells, answers}
+use Rattle.agent_model.specs.Effects.{Done, Effect, SharedCells, answers}
 use Rattle.agent_memory.specs.FrameTrees.{AreTrees, IsFrameTree, IsFrameTreeAt}
 use Rattle.agent_memory.specs.HoldingsView.{HoldingsView}
 use Rattle.agent_memory.specs.HoldingsView.{cells_of, held_of}

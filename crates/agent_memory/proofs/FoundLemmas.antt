@@ -13,7 +13,7 @@ use Rattle.frame_tree.proofs.TopLemmas.{has_zero, top-document}
 use Rattle.frame_tree.specs.Keys.{key_of_document, key_of_frame}
 use Rattle.live_state.specs.Queues.{frames_by, has_document}
 use Rattle.live_state.specs.Tabs.{PlainTab, tab_at}
-use Rattle.agent_model.specs.Done.{Effect}
+use Rattle.agent_model.specs.Effects.{Effect}
 use Rattle.agent_model.specs.Documents as keyed
 use Rattle.agent_model.specs.Documents.{by_document, by_key, with_key}
 use Rattle.line_events.proofs.CellLemmas.{document_there}

@@ -15,7 +15,7 @@ use Rattle.reply_lines.specs.Reply.{PlainBody, Plain}
 use Rattle.web_cookies.specs.Prepared.{Prepares}
 use Rattle.web_cookies.specs.Stored.{Entries as CookieEntries}
 use Rattle.web_cookies.specs.declared.prepared.Prepared.{Prepared}
-use Rattle.agent_model.specs.Done.{Effect, answers}
+use Rattle.agent_model.specs.Effects.{Effect, answers}
 use Rattle.agent_model.specs.Frames.{on_frames}
 use Rattle.agent_memory.specs.Actions.{Acts, Answered, Stays}
 use Rattle.agent_memory.specs.FrameTrees.{AreTrees, IsFrameTree}

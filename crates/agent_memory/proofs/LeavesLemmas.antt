@@ -21,7 +21,7 @@ use Rattle.live_state.specs.Tabs.{PlainTab}
 use Rattle.script_actions.specs.declared.words.Prompt.{Prompt}
 use Rattle.reply_lines.specs.Reply.{Plain}
 use Rattle.agent_model.specs.Partition.{SessionKey, session_order, Holdings, with_area}
-use Rattle.agent_model.specs.Done.{Done, Effect, SharedCells, answers}
+use Rattle.agent_model.specs.Effects.{Done, Effect, SharedCells, answers}
 use Rattle.agent_model.specs.Documents.{Keyed, by_document, by_key, with_key}
 use Rattle.agent_model.specs.AreaActions.{pairs_of, change_event, write, set_by, remove_by}
 use Rattle.agent_model.specs.Buckets.{is_persistent, is_grant, persist_by, persist}

@@ -22,7 +22,7 @@ use Rattle.row_changes.specs.Change.{PlainChange}
 use Rattle.row_changes.specs.Plain.{plain_change}
 use Rattle.agent_model.specs.Partition.{Holdings}
 use Rattle.agent_model.specs.Documents.{by_document, with_document}
-use Rattle.agent_model.specs.Done.{Done, Effect, SharedCells}
+use Rattle.agent_model.specs.Effects.{Done, Effect, SharedCells}
 use Rattle.agent_model.specs.Frames.{on_frames}
 use Rattle.agent_memory.specs.Actions.{Answered}
 use Rattle.agent_memory.specs.Lines.{copied_under, with_copies}

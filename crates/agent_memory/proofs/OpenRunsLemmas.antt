@@ -16,7 +16,7 @@ use Rattle.reply_lines.specs.Plain.{reply_of}
 use Rattle.reply_lines.specs.Reply.{Plain}
 use Rattle.script_actions.specs.Action.{HeadField, PlainAction, Open}
 use Rattle.script_actions.specs.ActionNames.{action_name}
-use Rattle.agent_model.specs.Done.{Done}
+use Rattle.agent_model.specs.Effects.{Done}
 use Rattle.agent_model.specs.Partition.{Holdings}
 use Rattle.agent_model.specs.Sessions.{arrive, has_session}
 use Rattle.agent_model.specs.Isolation.{printed}

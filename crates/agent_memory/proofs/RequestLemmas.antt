@@ -26,7 +26,7 @@ use Rattle.agent_model.specs.CookieUse.{CookieUse}
 use Rattle.agent_model.specs.CookieUses.{is_granted_nav}
 use Rattle.agent_model.specs.Cookies.{request}
 use Rattle.agent_model.specs.Documents.{by_document, with_document}
-use Rattle.agent_model.specs.Done.{Effect}
+use Rattle.agent_model.specs.Effects.{Effect}
 use Rattle.agent_model.specs.Frames.{frames_added, frames_navigated, where_below}
 use Rattle.agent_memory.specs.Documents.{is_below}
 use Rattle.agent_memory.specs.Actions.{Acts, IsDone, Stays}

@@ -20,7 +20,7 @@ use Rattle.reply_lines.specs.Plain.{reply_of}
 use Rattle.reply_lines.specs.Reply.{Now}
 use Rattle.script_actions.specs.Action.{HeadField, PlainAction, DocumentAction, Tick, Close, Go, Evict, Act}
 use Rattle.agent_model.specs.Partition.{Holdings}
-use Rattle.agent_model.specs.Done.{Done, answers, ok}
+use Rattle.agent_model.specs.Effects.{Done, answers, ok}
 use Rattle.agent_model.specs.Buckets.{evict, without_evicted}
 use Rattle.agent_model.specs.Sessions.{arrive, close}
 use Rattle.agent_model.specs.SiteStep.{act_in}

@@ -17,7 +17,7 @@ use Rattle.agent_model.proofs.HoldingsLemmas.{session_order_same, session_order_
 use Rattle.agent_model.proofs.KeptLemmas as kept
 use Rattle.one_store.specs.WholeWorld.{whole_world}
 use Rattle.line_events.specs.Events.{place_in}
-use Rattle.site_entries.specs.Present.{PlainPresent, StandsFor}
+use Rattle.site_entries.specs.Present.{PlainPresent, StandsForWorld}
 use Rattle.agent_memory.specs.AgentState.{AgentState, held_in, places_in, world_of}
 use Rattle.agent_memory.proofs.LiveLemmas.{site_found}
 use Rattle.agent_memory.proofs.StandingLemmas.{tab_is}
@@ -39,7 +39,7 @@ module _ (state : AgentState) where
       (held_in state).tabs number
       ∙ λ i. cond (is_of site (site_found number state.tabs i)) (tab_is state number i) None
 
-  pub stands_for : StandsFor (present_of state) (world_of state)
+  pub stands_for : StandsForWorld (present_of state) (world_of state)
   unfolding world_of whole_world
   stands_for = record {
     moment = refl;

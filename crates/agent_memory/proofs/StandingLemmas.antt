@@ -13,7 +13,7 @@ use Rattle.reply_lines.specs.Plain.{reply_of}
 use Rattle.reply_lines.specs.Reply.{PlainBody, Plain}
 use Rattle.script_actions.specs.Action.{HeadField, PlainAction, Tick, Open, Close, Go, Evict, Act}
 use Rattle.agent_model.specs.Partition.{Holdings, session_order, tab_named}
-use Rattle.agent_model.specs.Done.{SharedCells}
+use Rattle.agent_model.specs.Effects.{SharedCells}
 use Rattle.script_actions.specs.ActionNames.{action_name}
 use Rattle.agent_model.specs.Isolation.{printed}
 use Rattle.suffix_list.specs.Suffix.{Rule}

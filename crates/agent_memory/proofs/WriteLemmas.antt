@@ -22,7 +22,7 @@ use Rattle.web_storage.specs.Stored.{Entries, held_with}
 use Rattle.web_cookies.specs.Stored.{shared_in}
 use Rattle.reply_lines.specs.Reply.{PlainBody, Plain}
 use Rattle.agent_model.specs.Partition.{Holdings, with_area}
-use Rattle.agent_model.specs.Done.{Done, SharedCells, answers, ok}
+use Rattle.agent_model.specs.Effects.{Done, SharedCells, answers, ok}
 use Rattle.agent_model.specs.AreaActions.{change_event, pairs_of, remove_by, remove_item, set_by, set_item, store, write}
 use Rattle.agent_model.specs.Documents.{Keyed, told}
 use Rattle.agent_memory.specs.AgentState.{beside_storage, places_in, tabs_in}

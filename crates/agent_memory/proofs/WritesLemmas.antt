@@ -28,7 +28,7 @@ use Rattle.row_changes.specs.Change.{PlainChange, AreaClear}
 use Rattle.row_changes.specs.Appended.{Appends, HasTexts, IsAppended, IsFront}
 use Rattle.agent_model.specs.Changes.{changes_of_write, durable_in}
 use Rattle.agent_model.specs.Partition.{Holdings}
-use Rattle.agent_model.specs.Done.{Effect, SharedCells, answers}
+use Rattle.agent_model.specs.Effects.{Effect, SharedCells, answers}
 use Rattle.agent_model.specs.Documents.{Keyed, by_document, by_key, with_key}
 use Rattle.agent_model.specs.Frames.{click, frames_clicked, frames_removed, on_frames, remove_frame}
 use Rattle.agent_model.specs.Queues.{take_events, take_queue}

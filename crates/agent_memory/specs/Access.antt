@@ -3,7 +3,7 @@
 -- and an embedded site.
 use Rattle.std.specs.Prelude.{List, [], ◌∷◌, Option, Some, None}
 use Rattle.origin_site.specs.Site.{PlainSite}
-use Rattle.access_grants.specs.Grant.{PlainGrant, kept}
+use Rattle.access_grants.specs.Grant.{PlainGrant, with_row}
 use Rattle.access_grants.specs.declared.permission.Permission.{Permission}
 use Rattle.row_changes.specs.Change.{PlainChange, Grant}
 
@@ -20,7 +20,7 @@ row_of top site permission =
 -- the rows after one is kept, where there is one
 abbrev pub rows_kept : Option PlainGrant → List PlainGrant → List PlainGrant
 rows_kept None rows = rows
-rows_kept (Some row) rows = kept row rows
+rows_kept (Some row) rows = with_row row rows
 
 -- the row change of one that is kept, where there is one
 abbrev pub change_kept : Option PlainGrant → List PlainChange

@@ -17,7 +17,7 @@ use Rattle.agent_model.specs.AreaActions.{get_item, get_name, get_length}
 use Rattle.agent_model.specs.Buckets.{get_mode, get_usage, persist}
 use Rattle.agent_model.specs.Cookies.{read_cookies, set_cookie}
 use Rattle.agent_model.specs.Documents.{Keyed}
-use Rattle.agent_model.specs.Done.{Effect}
+use Rattle.agent_model.specs.Effects.{Effect}
 
 -- what an action does that names a document
 abbrev pub document_action : PlainAction → Option DocumentAction

@@ -16,7 +16,7 @@ use Rattle.live_state.specs.Tabs.{PlainTab, tab_at}
 use Rattle.reply_lines.specs.declared.reply.ReplyBody.{ReplyBody}
 use Rattle.reply_lines.specs.Plain.{body_of}
 use Rattle.reply_lines.specs.Reply.{PlainBody}
-use Rattle.agent_model.specs.Done.{Done, Effect}
+use Rattle.agent_model.specs.Effects.{Done, Effect}
 use Rattle.agent_model.specs.Documents.{Keyed}
 use Rattle.agent_model.specs.AreaActions.{pairs_of, store}
 use Rattle.agent_model.specs.Frames.{refused_by}

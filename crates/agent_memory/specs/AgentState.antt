@@ -11,7 +11,7 @@ use Rattle.live_state.specs.Tabs.{PlainTab}
 use Rattle.web_storage.specs.Stored.{Entries, held_with}
 use Rattle.web_cookies.specs.Stored.{Entries as CookieEntries, partitioned_in, shared_in}
 use Rattle.agent_model.specs.Partition.{Tabs, Holdings, no_holdings, tab_named}
-use Rattle.agent_model.specs.Done.{SharedCells}
+use Rattle.agent_model.specs.Effects.{SharedCells}
 use Rattle.agent_model.specs.Lines.{Places, AgentWorld, no_places, placed}
 use Rattle.agent_model.specs.Rest.{last_moment}
 use Rattle.agent_model.specs.Sessions.{has_session}

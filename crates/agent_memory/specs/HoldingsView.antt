@@ -8,7 +8,7 @@ use Rattle.live_state.specs.Tabs.{PlainLive}
 use Rattle.web_storage.specs.Stored.{Entries, held_with}
 use Rattle.web_cookies.specs.Stored.{Entries as CookieEntries, shared_in}
 use Rattle.agent_model.specs.Partition.{Holdings}
-use Rattle.agent_model.specs.Done.{SharedCells}
+use Rattle.agent_model.specs.Effects.{SharedCells}
 use Rattle.agent_memory.specs.AgentState.{AgentState, beside_storage}
 
 -- the open tabs, the entries of the storage, those of the cookies, and the permissions

@@ -17,7 +17,7 @@ use Rattle.web_cookies.specs.Prepared.{Prepares}
 use Rattle.web_cookies.specs.Stored.{Entries, IsDoneBy, partitioned_in, shared_in}
 use Rattle.agent_model.specs.CookieUse.{CookieUse}
 use Rattle.agent_model.specs.Cookies.{request}
-use Rattle.agent_model.specs.Done.{Effect}
+use Rattle.agent_model.specs.Effects.{Effect}
 use Rattle.agent_model.specs.Lines.{Starter, User, Page}
 use Rattle.agent_memory.specs.Actions.{Answered}
 

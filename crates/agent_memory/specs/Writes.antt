@@ -17,7 +17,7 @@ use Rattle.script_actions.specs.Action.{PlainAction}
 use Rattle.web_cookies.specs.declared.prepared.Prepared.{Prepared}
 use Rattle.web_cookies.specs.Prepared.{Prepares}
 use Rattle.web_cookies.specs.Stored.{Entries, held_with, shared_in}
-use Rattle.agent_model.specs.Done.{Effect}
+use Rattle.agent_model.specs.Effects.{Effect}
 use Rattle.agent_model.specs.Documents.{Keyed}
 use Rattle.agent_model.specs.Partition.{Holdings}
 use Rattle.agent_model.specs.TheMachine.{machine}

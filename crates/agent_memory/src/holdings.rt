@@ -7,7 +7,7 @@ ghost use Rattle.frame_tree.specs.Document.{PlainDocument};
 ghost use Rattle.live_state.specs.Queues.{has_document};
 ghost use Rattle.live_state.specs.Tabs.{is_open, tab_at};
 ghost use Rattle.script_actions.specs.Plain.{action_of};
-ghost use Rattle.agent_model.specs.Done.{no_shared_cells};
+ghost use Rattle.agent_model.specs.Effects.{no_shared_cells};
 ghost use Rattle.agent_model.specs.Lines.{site_at};
 ghost use Rattle.agent_model.specs.Partition.{no_holdings};
 ghost use Rattle.line_events.specs.Events.{HasAreas};

@@ -19,7 +19,7 @@ use Rattle.live_state.specs.Tabs.{PlainTab, queue_of}
 use Rattle.script_actions.specs.declared.words.Prompt.{Prompt}
 use Rattle.reply_lines.specs.Reply.{Plain}
 use Rattle.agent_model.specs.Partition.{Holdings}
-use Rattle.agent_model.specs.Done.{SharedCells, Done, Effect, no_shared_cells, answers, ok}
+use Rattle.agent_model.specs.Effects.{SharedCells, Done, Effect, no_shared_cells, answers, ok}
 use Rattle.agent_model.specs.Documents.{Keyed, by_document, by_key, with_key}
 use Rattle.agent_model.specs.AreaActions.{pairs_of, change_event, write, store, set_by, set_item, remove_by, remove_item, clear_area}
 use Rattle.agent_model.specs.Buckets.{is_persistent, is_grant, persist_by, persist}

@@ -19,7 +19,7 @@ use Rattle.script_actions.specs.declared.words.Prompt.TheVariants.{Grant, Deny, 
 use Rattle.reply_lines.specs.Reply.{Plain, Truth, Cleared}
 use Rattle.agent_model.specs.Partition.{Areas, Holdings, no_holdings, area_of}
 use Rattle.row_changes.specs.Change.{AreaClear, SetMode}
-use Rattle.agent_model.specs.Done.{SharedCells, no_shared_cells, answers, changes_to}
+use Rattle.agent_model.specs.Effects.{SharedCells, no_shared_cells, answers, changes_to}
 use Rattle.agent_model.specs.Changes.{clears}
 use Rattle.agent_model.specs.Buckets.{is_persistent, made_persistent, persist_by, persist, is_evicted, areas_taken, evict}
 use Rattle.agent_model.proofs.KeptLemmas as kept

@@ -14,7 +14,7 @@ use Rattle.live_state.specs.Tabs.{PlainTab}
 use Rattle.script_actions.specs.Action.{DocumentAction, HeadField, Frame, Nav, Drop, Click, Fetch, Set, Get, Del, Clear, Len, Key}
 use Rattle.script_actions.specs.Action.{Events, Cookie, SetCookie, Has, Request, Persisted, Estimate, Persist}
 use Rattle.agent_model.specs.CookieCells.{domain_order}
-use Rattle.agent_model.specs.Done.{SharedCells, Effect, no_shared_cells, answers}
+use Rattle.agent_model.specs.Effects.{SharedCells, Effect, no_shared_cells, answers}
 use Rattle.agent_model.specs.Documents.{Keyed, by_document, by_key, with_key}
 use Rattle.agent_model.specs.CookieUse.{CookieUse, consulted_by}
 use Rattle.agent_model.specs.CookieUses.{fetch_use, frame_use, nav_use, script_use}

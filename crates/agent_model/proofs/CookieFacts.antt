@@ -12,7 +12,7 @@ use Rattle.agent_model.specs.CookieUse.{CookieUse, consulted_by, key_of}
 use Rattle.agent_model.specs.CookieUses.{fetch_use, frame_use, nav_use, script_use, top_use}
 use Rattle.agent_model.specs.CookieStore.{BothCells, both_marked, cookie_texts, header_text, sent, store_text, store_texts}
 use Rattle.agent_model.specs.Partition.{Holdings, no_holdings}
-use Rattle.agent_model.specs.Done.{SharedCells, no_shared_cells}
+use Rattle.agent_model.specs.Effects.{SharedCells, no_shared_cells}
 use Rattle.agent_model.specs.Cookies.{read_cookies, request}
 use Rattle.agent_model.proofs.CookieCellsLemmas.{get_none}
 use Rattle.agent_model.proofs.StandardFacts.{address, site, shown, stores, widget, a, b}

@@ -12,7 +12,7 @@ use Rattle.origin_site.specs.Site.{PlainSite}
 use Rattle.agent_model.specs.CookieCells.{Domain, Cookies, domain_order}
 use Rattle.agent_model.specs.PartitionedCells.{partitioned_order}
 use Rattle.agent_model.specs.Partition.{Holdings}
-use Rattle.agent_model.specs.Done.{SharedCells, Done, Effect}
+use Rattle.agent_model.specs.Effects.{SharedCells, Done, Effect}
 use Rattle.agent_model.specs.Documents.{Keyed}
 use Rattle.agent_model.specs.CookieUse.{CookieUse, consulted_by, cookie_domain, key_of, uses_own}
 use Rattle.agent_model.specs.CookieUses.{script_use}

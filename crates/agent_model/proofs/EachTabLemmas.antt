@@ -30,7 +30,7 @@ use Rattle.reply_lines.specs.Reply.{Plain}
 use Rattle.script_actions.specs.Action as script
 use Rattle.script_actions.specs.Action.{DocumentAction, Frame, Nav, Drop, Click, Fetch, SetCookie, Set, Get, Del, Clear, Len, Key, Has, Request, Persisted, Estimate, Persist}
 use Rattle.agent_model.specs.Partition.{Holdings, tab_named, with_area}
-use Rattle.agent_model.specs.Done.{SharedCells, Done, Effect, answers, ok}
+use Rattle.agent_model.specs.Effects.{SharedCells, Done, Effect, answers, ok}
 use Rattle.agent_model.specs.CookieUses.{fetch_use, frame_use, nav_use}
 use Rattle.agent_model.specs.Cookies.{read_cookies, request, set_cookie}
 use Rattle.agent_model.specs.Frames.{on_frames, frames_added, frames_navigated, frames_removed, frames_clicked}

@@ -13,7 +13,7 @@ use Rattle.script_actions.specs.declared.words.Method.TheVariants as method
 use Rattle.script_actions.specs.Action.{PlainAction, Tick, Evict, Act, Click}
 use Rattle.agent_model.specs.CookieCells.{Domain}
 use Rattle.agent_model.specs.Partition.{empty_partition}
-use Rattle.agent_model.specs.Done.{no_shared_cells}
+use Rattle.agent_model.specs.Effects.{no_shared_cells}
 use Rattle.agent_model.specs.SiteEvent.{SiteEvent, TimedEvent, Acts, Arrives, Leaves, Evicts, Goes}
 use Rattle.agent_model.specs.Lines.{AgentWorld, Places, no_places, placed, site_at}
 use Rattle.agent_model.specs.Rest.{rest_after}

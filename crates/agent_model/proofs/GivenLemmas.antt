@@ -15,7 +15,7 @@ use Rattle.script_actions.specs.declared.words.Method.{Method}
 use Rattle.script_actions.specs.Action.{HeadField, PlainAction, Tick, Open, Close, Go, Evict, Act}
 use Rattle.agent_model.specs.CookieCells.{Domain, Cookies, domain_order}
 use Rattle.agent_model.specs.Partition.{tab_named}
-use Rattle.agent_model.specs.Done.{SharedCells}
+use Rattle.agent_model.specs.Effects.{SharedCells}
 use Rattle.agent_model.specs.SiteEvent.{SiteEvent, Acts, Closes, Copies, Leaves, Arrives, Goes, TimedEvent}
 use Rattle.agent_model.specs.CookieUse.{consulted_by}
 use Rattle.agent_model.specs.CookieUses.{top_use}

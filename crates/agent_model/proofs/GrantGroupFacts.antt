@@ -10,7 +10,7 @@ use Rattle.live_state.specs.Tabs.{PlainTab}
 use Rattle.script_actions.specs.Action.{Click, DocumentAction, PlainAction}
 use Rattle.agent_model.specs.CookieCells.{Domain}
 use Rattle.agent_model.specs.Partition.{Holdings, tab_named}
-use Rattle.agent_model.specs.Done.{SharedCells}
+use Rattle.agent_model.specs.Effects.{SharedCells}
 use Rattle.agent_model.specs.Lines.{AgentWorld, main_event}
 use Rattle.agent_model.specs.SideEvents.{side_event}
 use Rattle.agent_model.specs.TheMachine.{machine}

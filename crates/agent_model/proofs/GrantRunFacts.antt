@@ -27,7 +27,7 @@ use Rattle.script_actions.specs.declared.words.Prompt.TheVariants as prompt
 use Rattle.agent_model.specs.CookieCells.{Domain, Cookies, domain_order, equal_cookies}
 use Rattle.agent_model.specs.PartitionedCells.{PartitionedKey, partitioned_order}
 use Rattle.agent_model.specs.Partition.{Holdings, Partition, empty_partition, no_holdings, tab_named, with_tab}
-use Rattle.agent_model.specs.Done.{SharedCells, no_shared_cells}
+use Rattle.agent_model.specs.Effects.{SharedCells, no_shared_cells}
 use Rattle.agent_model.specs.SiteEvent.{SiteEvent, Arrives, Goes}
 use Rattle.agent_model.specs.CookieUse.{CookieUse}
 use Rattle.agent_model.specs.CookieUses.{fetch_use, frame_use}

@@ -17,7 +17,7 @@ use Rattle.agent_base.specs.declared.refusals.Label.{Label}
 use Rattle.script_actions.specs.Action.{DocumentAction, PlainAction, Tick, Open, Close, Go, Evict, Act}
 use Rattle.agent_model.specs.CookieCells.{domain_order}
 use Rattle.agent_model.specs.Partition.{Partition, empty_partition, tab_named}
-use Rattle.agent_model.specs.Done.{SharedCells}
+use Rattle.agent_model.specs.Effects.{SharedCells}
 use Rattle.agent_model.specs.SiteEvent.{SiteEvent, Acts, Arrives, Leaves, Copies, Closes, Evicts, TimedEvent, Answer}
 use Rattle.agent_model.specs.Consults.{event_names}
 use Rattle.agent_model.specs.Sessions.{has_session}

@@ -20,7 +20,7 @@ use Rattle.script_actions.specs.Action.{PlainAction, Tick, Open, Close, Go, Evic
 use Rattle.agent_model.specs.CookieCells.{Cookies, Domain, domain_order}
 use Rattle.agent_model.specs.PartitionedCells.{partitioned_order}
 use Rattle.agent_model.specs.Partition.{Holdings, Partition, tab_named, with_tab}
-use Rattle.agent_model.specs.Done.{Effect, no_shared_cells}
+use Rattle.agent_model.specs.Effects.{Effect, no_shared_cells}
 use Rattle.agent_model.specs.Documents.{by_document, by_key}
 use Rattle.agent_model.specs.CookieUse.{CookieUse, cookie_domain, key_of, uses_own}
 use Rattle.agent_model.specs.CookieUses.{fetch_use, frame_use, nav_use, top_use}

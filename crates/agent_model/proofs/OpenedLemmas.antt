@@ -13,7 +13,7 @@ use Rattle.script_actions.specs.Action.{HeadField, PlainAction, Open}
 use Rattle.agent_model.specs.CookieCells.{Domain, Cookies, domain_order}
 use Rattle.agent_model.specs.PartitionedCells.{PartitionedKey, partitioned_order, no_partitioned_cells}
 use Rattle.agent_model.specs.Partition.{empty_partition, no_holdings}
-use Rattle.agent_model.specs.Done.{SharedCells}
+use Rattle.agent_model.specs.Effects.{SharedCells}
 use Rattle.agent_model.specs.SiteEvent.{SiteEvent, Arrives, Opens}
 use Rattle.agent_model.specs.CookieUses.{top_use}
 use Rattle.agent_model.specs.CookieStore.{both_marked, cookie_texts, store_texts}

@@ -12,7 +12,7 @@ use Rattle.reply_lines.specs.Reply.{PlainBody, Plain}
 use Rattle.script_actions.specs.Action.{PlainAction, Open}
 use Rattle.agent_model.specs.Partition.{Holdings}
 use Rattle.agent_model.specs.CookieCells.{domain_order}
-use Rattle.agent_model.specs.Done.{SharedCells, no_shared_cells}
+use Rattle.agent_model.specs.Effects.{SharedCells, no_shared_cells}
 use Rattle.agent_model.specs.SiteEvent.{Answer, Arrives, Copies, Opens, TimedEvent}
 use Rattle.agent_model.specs.Sessions.{copy_sessions}
 use Rattle.agent_model.specs.SiteStep.{site_step}

@@ -15,7 +15,7 @@ use Rattle.script_actions.specs.declared.words.Method.{Method}
 use Rattle.script_actions.specs.Action.{HeadField, PlainAction, Tick, Open, Close, Go, Evict, Act}
 use Rattle.agent_model.specs.CookieCells.{Domain}
 use Rattle.agent_model.specs.Partition.{Partition}
-use Rattle.agent_model.specs.Done.{SharedCells, no_shared_cells}
+use Rattle.agent_model.specs.Effects.{SharedCells, no_shared_cells}
 use Rattle.agent_model.specs.SiteEvent.{SiteEvent, Acts, Closes}
 use Rattle.agent_model.specs.Consults.{event_names}
 use Rattle.agent_model.specs.Lines.{AgentWorld, SiteOccurrence, Starter, occurs, opener_of, opening, going, site_at, main_event}

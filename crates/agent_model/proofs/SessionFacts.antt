@@ -9,7 +9,7 @@ use Rattle.unwinding.specs.FiniteCells.{list_of, get_cell, set_cell}
 use Rattle.storage_key.specs.Key.{PlainKey}
 use Rattle.storage_events.specs.declared.event.AreaKind.TheVariants.{Session}
 use Rattle.agent_model.specs.Partition.{Holdings, no_holdings, is_under, session_order, tab_named, area_of, with_area}
-use Rattle.agent_model.specs.Done.{no_shared_cells}
+use Rattle.agent_model.specs.Effects.{no_shared_cells}
 use Rattle.agent_model.specs.SiteEvent.{Closes}
 use Rattle.agent_model.specs.Sessions.{is_of_tab, has_session, close, copy_sessions}
 use Rattle.agent_model.specs.Lines.{AgentWorld, no_places, timed}

@@ -12,7 +12,7 @@ use Rattle.storage_key.specs.Context.{is_of}
 use Rattle.script_actions.specs.Action.{PlainAction}
 use Rattle.agent_model.specs.CookieCells.{Domain, domain_order}
 use Rattle.agent_model.specs.Partition.{Partition}
-use Rattle.agent_model.specs.Done.{SharedCells, no_shared_cells}
+use Rattle.agent_model.specs.Effects.{SharedCells, no_shared_cells}
 use Rattle.agent_model.specs.SiteEvent.{TimedEvent, Answer}
 use Rattle.agent_model.specs.SiteStep.{site_step}
 use Rattle.agent_model.specs.Lines.{AgentWorld, SiteOccurrence, main_event}

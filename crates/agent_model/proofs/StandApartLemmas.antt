@@ -18,7 +18,7 @@ use Rattle.script_actions.specs.declared.words.Method.{Method}
 use Rattle.script_actions.specs.Action.{DocumentAction, HeadField, PlainAction, Tick, Open, Close, Go, Evict, Act}
 use Rattle.agent_model.specs.CookieCells.{Domain}
 use Rattle.agent_model.specs.Partition.{Partition, empty_partition, no_holdings, tab_named}
-use Rattle.agent_model.specs.Done.{SharedCells}
+use Rattle.agent_model.specs.Effects.{SharedCells}
 use Rattle.agent_model.specs.SiteEvent.{SiteEvent, Acts, Arrives, Leaves, Copies, Closes, Evicts, TimedEvent}
 use Rattle.agent_model.specs.SiteStep.{act, close_at, site_step}
 use Rattle.agent_model.specs.Consults.{names_at}

@@ -22,7 +22,7 @@ use Rattle.live_state.specs.Tabs.{PlainTab, made_tab}
 use Rattle.reply_lines.specs.Reply as reply
 use Rattle.agent_model.specs.Partition.{Holdings, Tabs, no_holdings, session_order, tab_named, with_tab, area_of, with_area}
 use Rattle.row_changes.specs.Change.{AreaPut, AreaRemove, AreaClear}
-use Rattle.agent_model.specs.Done.{SharedCells, Done, Effect, no_shared_cells, answers, ok}
+use Rattle.agent_model.specs.Effects.{SharedCells, Done, Effect, no_shared_cells, answers, ok}
 use Rattle.agent_model.specs.Changes.{changes_of_write, durable_in}
 use Rattle.agent_model.specs.Documents.{Keyed, with_document, with_key, told_tab}
 use Rattle.agent_model.specs.AreaActions.{change_event, write, store, set_by, set_item, remove_by, remove_item, clear_area}

@@ -14,7 +14,7 @@ use Rattle.live_state.specs.Tabs.{PlainTab}
 use Rattle.script_actions.specs.Action.{DocumentAction, PlainAction, Act}
 use Rattle.agent_model.specs.CookieCells.{Domain, Cookies, domain_order}
 use Rattle.agent_model.specs.Partition.{Holdings, Partition, tab_named}
-use Rattle.agent_model.specs.Done.{SharedCells}
+use Rattle.agent_model.specs.Effects.{SharedCells}
 use Rattle.agent_model.specs.SiteEvent.{SiteEvent, Acts, SiteOutcome}
 use Rattle.agent_model.specs.SiteStep.{act, site_step}
 use Rattle.agent_model.specs.Consults.{names_at}

@@ -9,7 +9,7 @@ use Rattle.storage_events.specs.declared.event.AreaKind.{AreaKind}
 use Rattle.storage_events.specs.Event.{PlainEvent}
 use Rattle.reply_lines.specs.Reply.{Plain, Text, Number}
 use Rattle.agent_model.specs.Partition.{Holdings, area_of, with_area}
-use Rattle.agent_model.specs.Done.{Effect, answers, changes_to, ok}
+use Rattle.agent_model.specs.Effects.{Effect, answers, changes_to, ok}
 use Rattle.agent_model.specs.Changes.{changes_of_write, durable_in}
 use Rattle.agent_model.specs.Documents.{Keyed, told}
 

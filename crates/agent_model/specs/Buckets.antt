@@ -20,7 +20,7 @@ use Rattle.script_actions.specs.declared.words.Prompt.TheVariants as prompt
 use Rattle.reply_lines.specs.Reply.{Plain, Truth, Estimate, Cleared}
 use Rattle.row_changes.specs.Change.{SetMode}
 use Rattle.agent_model.specs.Partition.{Areas, Holdings, is_under}
-use Rattle.agent_model.specs.Done.{Effect, answers, changes_to}
+use Rattle.agent_model.specs.Effects.{Effect, answers, changes_to}
 use Rattle.agent_model.specs.Changes.{clears}
 use Rattle.agent_model.specs.Documents.{Keyed}
 use Rattle.agent_model.specs.AreaActions.{pairs_of}

@@ -33,10 +33,11 @@ pub record BothCells : Type 0 where
 
 -- ---- what goes out
 
--- the places of the cookies that go out of each cell
+-- the places of the cookies that go out of the unpartitioned cell
 abbrev pub own_places : ℕ → CookieUse → BothCells → List ℕ
 own_places now how both = select kind.Own (access_of how) (pos now) both.own
 
+-- the places of those that go out of the partitioned one
 abbrev pub partition_places : ℕ → CookieUse → BothCells → List ℕ
 partition_places now how both = select kind.Partition (access_of how) (pos now) both.partition
 

@@ -56,10 +56,11 @@ key_of rules how =
       domain = cookie_domain rules how;
     }
 
--- the names of both cells
+-- the name of the unpartitioned cell
 abbrev pub own_cell : List Rule → CookieUse → PlainCell
 own_cell rules how = OwnCell (cookie_domain rules how)
 
+-- the name of the partitioned cell
 abbrev pub partition_cell : List Rule → CookieUse → PlainCell
 partition_cell rules how = PartitionCell how.top how.context.bit (cookie_domain rules how)
 

@@ -18,7 +18,7 @@ use Rattle.reply_lines.specs.Reply.{PlainBody, Load, Cookie, SetOne}
 use Rattle.agent_model.specs.CookieCells.{Cookies, domain_order}
 use Rattle.agent_model.specs.PartitionedCells.{partitioned_order}
 use Rattle.agent_model.specs.Partition.{Holdings}
-use Rattle.agent_model.specs.Done.{SharedCells, Effect, answers}
+use Rattle.agent_model.specs.Effects.{SharedCells, Effect, answers}
 use Rattle.agent_model.specs.Documents.{Keyed, with_document}
 use Rattle.agent_model.specs.CookieUse.{CookieUse, cookie_domain, key_of, uses_own}
 use Rattle.agent_model.specs.CookieUses.{fetch_use, script_use}

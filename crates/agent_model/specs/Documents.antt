@@ -16,7 +16,7 @@ use Rattle.frame_tree.specs.Keys.{key_of_document, key_of_frame}
 use Rattle.live_state.specs.Queues.{queue_told}
 use Rattle.reply_lines.specs.Reply.{Plain}
 use Rattle.agent_model.specs.Partition.{Tabs}
-use Rattle.agent_model.specs.Done.{Effect, answers}
+use Rattle.agent_model.specs.Effects.{Effect, answers}
 
 -- a document with a storage key: its tab and frame, itself, and the key
 pub record Keyed : Type 0 where

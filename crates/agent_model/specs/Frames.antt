@@ -20,7 +20,7 @@ use Rattle.script_actions.specs.declared.words.Method.{Method}
 use Rattle.script_actions.specs.Action.{HeadField}
 use Rattle.reply_lines.specs.Reply.{PlainBody, Plain}
 use Rattle.agent_model.specs.Partition.{with_tab}
-use Rattle.agent_model.specs.Done.{Effect, answers, ok}
+use Rattle.agent_model.specs.Effects.{Effect, answers, ok}
 use Rattle.agent_model.specs.CookieUses.{frame_use, is_granted_nav, nav_use}
 use Rattle.agent_model.specs.Cookies.{request}
 

@@ -16,7 +16,7 @@ use Rattle.script_actions.specs.declared.words.Method.{Method}
 use Rattle.script_actions.specs.Action.{HeadField, PlainAction, Tick, Open, Close, Go, Evict, Act}
 use Rattle.agent_model.specs.CookieCells.{Domain, Cookies, domain_order, is_home}
 use Rattle.agent_model.specs.Partition.{Partition, tab_named}
-use Rattle.agent_model.specs.Done.{SharedCells}
+use Rattle.agent_model.specs.Effects.{SharedCells}
 use Rattle.agent_model.specs.SiteEvent.{SiteEvent, Acts, Arrives, Leaves, Copies, Closes, Evicts}
 use Rattle.agent_model.specs.SiteEvent.{TopLoad, Opens, Goes, TimedEvent}
 use Rattle.agent_model.specs.Consults.{event_names}

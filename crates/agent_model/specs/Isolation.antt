@@ -11,7 +11,7 @@ use Rattle.script_actions.specs.Action.{PlainAction}
 use Rattle.reply_lines.specs.Reply.{PlainReply, reply_text}
 use Rattle.agent_model.specs.CookieCells.{Domain, Cookies}
 use Rattle.agent_model.specs.Partition.{Partition}
-use Rattle.agent_model.specs.Done.{SharedCells}
+use Rattle.agent_model.specs.Effects.{SharedCells}
 use Rattle.agent_model.specs.SiteEvent.{TimedEvent, Answer}
 use Rattle.agent_model.specs.TheMachine.{machine, beginning}
 

@@ -2,7 +2,7 @@
 pub mod CookieCells
 pub mod PartitionedCells
 pub mod Partition
-pub mod Done
+pub mod Effects
 pub mod Changes
 pub mod Documents
 pub mod AreaActions

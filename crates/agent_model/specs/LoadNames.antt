@@ -1,4 +1,5 @@
 -- The names of top-level loads, as replies have them.
+-- Source: the script format of docs/FORMATS.md.
 -- Our own choice: the name is that of the line's member `do`.
 use Rattle.std.specs.Prelude.{ℕ, List, codes}
 use Rattle.agent_model.specs.SiteEvent.{TopLoad, Opens, Goes}

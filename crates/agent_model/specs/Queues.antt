@@ -8,7 +8,7 @@ use Rattle.frame_tree.specs.Tree.{has_frame}
 use Rattle.live_state.specs.Tabs.{PlainFrameQueue, PlainTab, empty_queue, queue_of}
 use Rattle.reply_lines.specs.Reply as reply
 use Rattle.agent_model.specs.Partition.{with_tab}
-use Rattle.agent_model.specs.Done.{Effect, answers}
+use Rattle.agent_model.specs.Effects.{Effect, answers}
 
 -- a tab whose queue of one frame is empty
 abbrev pub with_taken : ℕ → PlainTab → PlainTab

@@ -1,4 +1,5 @@
 -- What a line makes of the clock and of where each tab is, and the answer to a line without event.
+-- Source: none.
 -- Our own choice: the clock stands still at the last second of the year 9999.
 use Rattle.std.specs.Prelude.{ℕ, ◌+◌, min, pos, List, Option, Some, None, codes}
 use Rattle.std.specs.FinMap as map

@@ -16,7 +16,7 @@ use Rattle.live_state.specs.Tabs.{made_tab}
 use Rattle.script_actions.specs.declared.words.Method.{Method}
 use Rattle.script_actions.specs.Action.{HeadField}
 use Rattle.agent_model.specs.Partition.{SessionKey, Holdings, is_under, with_tab, without_tab}
-use Rattle.agent_model.specs.Done.{Effect}
+use Rattle.agent_model.specs.Effects.{Effect}
 use Rattle.agent_model.specs.CookieUses.{top_use}
 use Rattle.agent_model.specs.Cookies.{request}
 

@@ -11,7 +11,7 @@ use Rattle.script_actions.specs.Action.{DocumentAction, HeadField}
 use Rattle.row_changes.specs.Change.{PlainChange}
 use Rattle.reply_lines.specs.Reply.{PlainBody}
 use Rattle.agent_model.specs.Partition.{Holdings, Partition}
-use Rattle.agent_model.specs.Done.{SharedCells, Done}
+use Rattle.agent_model.specs.Effects.{SharedCells, Done}
 
 -- a load of a top document: a tab that is opened, or one that goes to an address
 pub data TopLoad : Type 0 where

@@ -11,7 +11,7 @@ use Rattle.origin_site.specs.Site.{PlainSite, same_plain_site}
 use Rattle.storage_key.specs.Context.{is_of}
 use Rattle.script_actions.specs.Action.{PlainAction}
 use Rattle.agent_model.specs.Partition.{Partition, empty_partition}
-use Rattle.agent_model.specs.Done.{no_shared_cells}
+use Rattle.agent_model.specs.Effects.{no_shared_cells}
 use Rattle.agent_model.specs.SiteEvent.{TimedEvent, Answer, SiteOutcome}
 use Rattle.agent_model.specs.SiteStep.{site_step}
 use Rattle.agent_model.specs.Lines.{AgentWorld, SiteOccurrence, main_event}

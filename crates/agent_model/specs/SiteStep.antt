@@ -11,7 +11,7 @@ use Rattle.script_actions.specs.Action.{DocumentAction, Frame, Nav, Drop, Click,
 use Rattle.script_actions.specs.Action.{Clear, Len, Key, Events, Cookie, SetCookie, Has, Request}
 use Rattle.script_actions.specs.Action.{Persisted, Estimate, Persist}
 use Rattle.agent_model.specs.Partition.{Partition, tab_named, without_tab}
-use Rattle.agent_model.specs.Done.{SharedCells, Effect, answers, ok}
+use Rattle.agent_model.specs.Effects.{SharedCells, Effect, answers, ok}
 use Rattle.agent_model.specs.Documents.{with_key}
 use Rattle.agent_model.specs.Cookies.{fetch, read_cookies, set_cookie}
 use Rattle.agent_model.specs.StorageAccess.{request_access, tell_access}

@@ -22,7 +22,7 @@ use Rattle.access_grants.specs.declared.outcome.Outcome.{Outcome}
 use Rattle.access_grants.specs.declared.outcome.Refusal.{Refusal}
 use Rattle.access_grants.specs.declared.outcome.Refusal.TheVariants as why
 use Rattle.access_grants.specs.declared.permission.Permission.{Permission}
-use Rattle.access_grants.specs.Grant.{PlainGrant, grant_state, kept}
+use Rattle.access_grants.specs.Grant.{PlainGrant, grant_state, with_row}
 use Rattle.access_grants.specs.Request.{first_row, has_access, request_rows}
 use Rattle.live_state.specs.FramesInPlace.{requested}
 use Rattle.live_state.specs.Tabs.{PlainTab}
@@ -30,7 +30,7 @@ use Rattle.script_actions.specs.declared.words.Prompt.{Prompt}
 use Rattle.script_actions.specs.declared.words.Prompt.TheVariants as prompt
 use Rattle.reply_lines.specs.Reply.{PlainBody, Plain, Truth}
 use Rattle.row_changes.specs.Change.{PlainChange, Grant}
-use Rattle.agent_model.specs.Done.{Effect, answers, changes_to}
+use Rattle.agent_model.specs.Effects.{Effect, answers, changes_to}
 use Rattle.agent_model.specs.Documents.{with_document}
 use Rattle.agent_model.specs.Frames.{on_frames}
 
@@ -67,7 +67,7 @@ answer_of prompt.Grant = answer.Grant
 answer_of prompt.Deny = answer.Deny
 answer_of prompt.Dismiss = answer.Dismiss
 
--- the words of the answers
+-- the word of a refusal
 abbrev pub refusal_word : Refusal → List ℕ
 refusal_word why.Opaque = codes "opaque"
 refusal_word why.Insecure = codes "insecure"
@@ -78,6 +78,7 @@ refusal_word why.NoActivation = codes "no-activation"
 refusal_word why.DeniedNow = codes "denied-now"
 refusal_word why.Dismissed = codes "dismissed"
 
+-- the word of a decision
 abbrev pub decision_word : Decision → List ℕ
 decision_word (decision.Granted prompted) = codes "granted"
 decision_word (decision.Refused cause) = refusal_word cause
@@ -96,7 +97,7 @@ row_of permission top site =
 abbrev pub grants_requested : Option Permission → (top site : PlainSite) → List PlainGrant
     → List PlainGrant
 grants_requested None top site grants = grants
-grants_requested (Some permission) top site grants = kept (row_of permission top site) grants
+grants_requested (Some permission) top site grants = with_row (row_of permission top site) grants
 
 -- and its row change
 abbrev pub change_requested : Option Permission → (top site : PlainSite) → List PlainChange

@@ -11,7 +11,7 @@ use Rattle.script_actions.specs.Action.{PlainAction}
 use Rattle.agent_model.specs.CookieCells.{Domain, Cookies, domain_order, is_home, is_own}
 use Rattle.agent_model.specs.CookieCells.{equal_cookies}
 use Rattle.agent_model.specs.Partition.{Partition, empty_partition}
-use Rattle.agent_model.specs.Done.{SharedCells, no_shared_cells}
+use Rattle.agent_model.specs.Effects.{SharedCells, no_shared_cells}
 use Rattle.agent_model.specs.SiteEvent.{TimedEvent, Answer}
 use Rattle.agent_model.specs.SiteStep.{site_step}
 use Rattle.agent_model.specs.Consults.{event_names}

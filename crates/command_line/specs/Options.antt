@@ -7,6 +7,7 @@ use Rattle.std.specs.Prelude.{List, [], ◌∷◌, length, codes}
 use Rattle.std.specs.Prelude.{bytes_eq, Option, Some, None, option_and_then, option_map, unwrap_or}
 use Rattle.std.specs.Prelude.{find, is_none, is_some, if◌then◌else◌}
 use Rattle.std.specs.List.{list_all, list_any}
+use Rattle.std.specs.Str.{byte}
 use Rattle.std.specs.Str.Parse.{digits_value}
 
 -- ---- words
@@ -14,11 +15,11 @@ use Rattle.std.specs.Str.Parse.{digits_value}
 -- a word that can be a path: it is not empty and does not begin with `-`
 abbrev pub is_path : List ℕ → Bool
 is_path [] = false
-is_path (first ∷ rest) = not (first == 45)
+is_path (first ∷ rest) = not (first == byte "-")
 
 -- an ASCII digit
 abbrev pub is_digit : ℕ → Bool
-is_digit b = nat_le 48 b && nat_le b 57
+is_digit b = nat_le (byte "0") b && nat_le b (byte "9")
 
 -- the most digits of a number
 abbrev pub most_digits : ℕ

@@ -16,7 +16,7 @@ use Rattle.partition_limits.specs.declared.tally.CellKind.TheVariants.{Own, Part
 use Rattle.partition_limits.specs.declared.tally.Tally.{Tally}
 use Rattle.partition_limits.specs.Limits.{fits}
 use Rattle.cookie_jar.specs.Cookie.{PlainCookie, IsCell, counted, copies, same, keeps_limits}
-use Rattle.cookie_jar.specs.Views.{plain_cookie}
+use Rattle.cookie_jar.specs.Plain.{plain_cookie}
 use Rattle.cookie_jar.specs.declared.cookie.Cookie.{Cookie}
 
 pub map-remove : {A B : Type 0} (f : A → B) (xs : List A) (i : ℕ) → map f (remove xs i) ≡ remove (map f xs) i

@@ -9,7 +9,7 @@ use Rattle.cookie_jar.specs.declared.header_text.Sent.{Sent}
 use Rattle.cookie_jar.specs.Cookie.{PlainCookie}
 use Rattle.cookie_jar.specs.Sending.{PlainSent, sent_at, sent_of, in_order, joined, pair_text}
 use Rattle.cookie_jar.specs.Sent.{plain_sent}
-use Rattle.cookie_jar.specs.Views.{plain_cookie}
+use Rattle.cookie_jar.specs.Plain.{plain_cookie}
 
 -- one more pair
 pair_more : (s : PlainSent) (ss : List PlainSent) (t : PlainSent) → joined (s ∷ (ss ++ t ∷ [])) ≡ joined (s ∷ ss) ++ (codes "; " ++ pair_text t.cookie)

@@ -12,11 +12,11 @@ use Rattle.partition_limits.specs.declared.tally.CellKind.{CellKind}
 use Rattle.partition_limits.specs.declared.tally.CellKind.TheVariants.{Own, Partition}
 use Rattle.partition_limits.specs.declared.tally.Tally.{Tally}
 use Rattle.cookie_jar.specs.declared.cookie.Cookie.{Cookie}
-use Rattle.cookie_jar.specs.Views.{plain_cookie}
+use Rattle.cookie_jar.specs.Plain.{plain_cookie}
 use Rattle.cookie_jar.specs.Cookie.{PlainCookie, IsCell, copies, counted, same}
 use Rattle.cookie_jar.specs.Lifetime.{is_persistent}
 use Rattle.cookie_jar.specs.Marked.{used_at}
-use Rattle.cookie_jar.specs.Persistent.{kept, kept_cookie}
+use Rattle.cookie_jar.specs.Persistent.{persistent_part, kept_cookie}
 use Rattle.cookie_jar.specs.Sending.{marked, used}
 use Rattle.cookie_jar.proofs.CellLemmas.{fits_less}
 
@@ -59,29 +59,29 @@ pub marked_more : (p : ℕ) (ps : List ℕ) (now : ℤ) (cs : List PlainCookie) 
 marked_more p ps now cs = more_marked 0 p p ps now cs (omega arith)
 
 -- what outlives a restart is not marked
-kept_from : (n : ℕ) (ps : List ℕ) (now : ℤ) (cs : List PlainCookie) → kept (marked_from n ps now cs) ≡ kept cs
+kept_from : (n : ℕ) (ps : List ℕ) (now : ℤ) (cs : List PlainCookie) → persistent_part (marked_from n ps now cs) ≡ persistent_part cs
 kept_from n ps now [] = refl
 kept_from n ps now (c ∷ cs) = at (list_any (λ q. q == n) ps) (is_persistent c) (kept_from (n + 1) ps now cs)
   where
-    at : (b a : Bool) → kept (marked_from (n + 1) ps now cs) ≡ kept cs
+    at : (b a : Bool) → persistent_part (marked_from (n + 1) ps now cs) ≡ persistent_part cs
         → map kept_cookie (cond (is_persistent (cond b (used now c) c)) (cond b (used now c) c ∷ filter is_persistent (marked_from (n + 1) ps now cs)) (filter is_persistent (marked_from (n + 1) ps now cs)))
         ≡ map kept_cookie (cond (is_persistent c) (c ∷ filter is_persistent cs) (filter is_persistent cs))
     at true a ih = with_flag (is_persistent c) ih
       where
-        with_flag : (a : Bool) → kept (marked_from (n + 1) ps now cs) ≡ kept cs
+        with_flag : (a : Bool) → persistent_part (marked_from (n + 1) ps now cs) ≡ persistent_part cs
             → map kept_cookie (cond a (used now c ∷ filter is_persistent (marked_from (n + 1) ps now cs)) (filter is_persistent (marked_from (n + 1) ps now cs)))
             ≡ map kept_cookie (cond a (c ∷ filter is_persistent cs) (filter is_persistent cs))
         with_flag true ih = ap (λ r. kept_cookie c ∷ r) ih
         with_flag false ih = ih
     at false a ih = with_flag (is_persistent c) ih
       where
-        with_flag : (a : Bool) → kept (marked_from (n + 1) ps now cs) ≡ kept cs
+        with_flag : (a : Bool) → persistent_part (marked_from (n + 1) ps now cs) ≡ persistent_part cs
             → map kept_cookie (cond a (c ∷ filter is_persistent (marked_from (n + 1) ps now cs)) (filter is_persistent (marked_from (n + 1) ps now cs)))
             ≡ map kept_cookie (cond a (c ∷ filter is_persistent cs) (filter is_persistent cs))
         with_flag true ih = ap (λ r. kept_cookie c ∷ r) ih
         with_flag false ih = ih
 
-pub kept_marked : (ps : List ℕ) (now : ℤ) (cs : List PlainCookie) → kept (marked ps now cs) ≡ kept cs
+pub kept_marked : (ps : List ℕ) (now : ℤ) (cs : List PlainCookie) → persistent_part (marked ps now cs) ≡ persistent_part cs
 kept_marked ps now cs = kept_from 0 ps now cs
 
 -- a sum of what no use changes

@@ -15,7 +15,7 @@ use Rattle.cookie_jar.specs.Steps.{after_step, after_steps, going, place_of, pla
 use Rattle.partition_limits.specs.Victims.{without}
 use Rattle.cookie_jar.proofs.StepLaws.{stored_fits, removals_from_all, going_apart, fresh_stays, place_end, place_within}
 use Rattle.cookie_jar.specs.Cookie.{PlainJar}
-use Rattle.cookie_jar.specs.Persistent.{apply_rows, kept, rows_of_steps}
+use Rattle.cookie_jar.specs.Persistent.{apply_rows, persistent_part, rows_of_steps}
 use Rattle.cookie_jar.specs.Planned.{PlainPlan, IsPlanFor}
 use Rattle.cookie_jar.proofs.PutLemmas.{all_removed, small_pair}
 use Rattle.cookie_jar.proofs.ValidLaws.{stored_once, there_now, same_self, valid_rows}
@@ -152,7 +152,7 @@ put_leaves kind fresh cs left new ss first last el e1 e2 done is =
 
 -- the row changes of a plan are valid where it is done, and lead to what is kept of the cell
 pub performs_rows : (jar : PlainJar) (plan : PlainPlan) → IsPlanFor jar plan
-    → kept (after_steps plan.fresh jar.cookies plan.steps) ≡ apply_rows jar.kind (kept jar.cookies) (rows_of_steps plan.fresh plan.steps)
+    → persistent_part (after_steps plan.fresh jar.cookies plan.steps) ≡ apply_rows jar.kind (persistent_part jar.cookies) (rows_of_steps plan.fresh plan.steps)
 performs_rows jar plan fit =
-    subst (λ ss. kept (after_steps plan.fresh jar.cookies ss) ≡ apply_rows jar.kind (kept jar.cookies) (rows_of_steps plan.fresh ss)) (sym fit.1)
+    subst (λ ss. persistent_part (after_steps plan.fresh jar.cookies ss) ≡ apply_rows jar.kind (persistent_part jar.cookies) (rows_of_steps plan.fresh ss)) (sym fit.1)
     (sym (valid_rows jar.kind fit.0 plan.fresh jar.cookies (small_pair jar.kind plan.fresh fit.2) fit.3))

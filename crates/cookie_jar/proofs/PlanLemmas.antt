@@ -12,7 +12,7 @@ use Rattle.cookie_jar.specs.declared.cause.CookieDrop.{CookieDrop}
 use Rattle.cookie_jar.specs.declared.cause.CookieDrop.TheVariants as why
 use Rattle.cookie_jar.specs.Access.{PlainAccess}
 use Rattle.cookie_jar.specs.Cookie.{PlainCookie, PlainJar, copies}
-use Rattle.cookie_jar.specs.Views.{plain_cookie}
+use Rattle.cookie_jar.specs.Plain.{plain_cookie}
 use Rattle.cookie_jar.specs.NewCookie.{has_such, made_with, own_domain}
 use Rattle.cookie_jar.specs.Drops as spec
 use Rattle.cookie_jar.specs.NewCookie.{lower_domain}

@@ -4,7 +4,7 @@ use Rattle.std.specs.List.{filter, enumerate_from}
 use Rattle.std.proofs.lemmas.List.{drop_all}
 use Rattle.cookie_jar.specs.declared.cookie.Cookie.{Cookie}
 use Rattle.cookie_jar.specs.Cookie.{PlainCookie}
-use Rattle.cookie_jar.specs.Views.{plain_cookie}
+use Rattle.cookie_jar.specs.Plain.{plain_cookie}
 
 pub places_plain : (p : PlainCookie → Bool) (n : ℕ) (xs : List Cookie)
     → map (λ c. c.0) (filter (λ c. p (plain_cookie c.1)) (enumerate_from n xs)) ≡ map (λ c. c.0) (filter (λ c. p c.1) (enumerate_from n (map plain_cookie xs)))

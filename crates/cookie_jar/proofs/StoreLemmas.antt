@@ -15,7 +15,7 @@ use Rattle.cookie_jar.specs.Cookie.{PlainCookie, PlainJar, IsCell, copies, count
 use Rattle.cookie_jar.specs.Drops.{dropped}
 use Rattle.cookie_jar.specs.Lifetime.{is_expired}
 use Rattle.cookie_jar.specs.NewCookie.{fresh, made}
-use Rattle.cookie_jar.specs.Persistent.{apply_rows, kept, rows_of_steps}
+use Rattle.cookie_jar.specs.Persistent.{apply_rows, persistent_part, rows_of_steps}
 use Rattle.cookie_jar.specs.Planned.{PlainPlan, PlainStored, IsPlanFor, plan_of, planned, stored_answer, stored_of}
 use Rattle.cookie_jar.specs.Steps.{after_steps, live_steps, place_of, removal_at, remove_step, steps, stored}
 use Rattle.cookie_jar.specs.Stored.{plain_stored}
@@ -90,13 +90,13 @@ leaves_steps rules text access jar moment now p answer new e h told is =
 -- as their ranks do for what is kept
 pub leaves_rows : (rules : List Rule) (text : CookieText) (access : PlainAccess) (jar before : PlainJar) (moment now : ℤ) (p : PlainPlan) (answer : PlainStored) (new : List PlainCookie) → moment ≡ now
     → planned rules text access jar.kind moment jar.cookies ≡ Ok p → answer ≡ stored_of p → before.kind ≡ jar.kind → before.cookies ≡ jar.cookies
-    → kept new ≡ apply_rows before.kind (kept before.cookies) (rows_of_steps p.fresh p.steps)
-    → kept new ≡ apply_rows jar.kind (kept jar.cookies) (rows_of_steps (fresh rules text access now jar.cookies) answer.steps)
+    → persistent_part new ≡ apply_rows before.kind (persistent_part before.cookies) (rows_of_steps p.fresh p.steps)
+    → persistent_part new ≡ apply_rows jar.kind (persistent_part jar.cookies) (rows_of_steps (fresh rules text access now jar.cookies) answer.steps)
 leaves_rows rules text access jar before moment now p answer new e h told ek ec is =
-    is ∙ ap (λ k. apply_rows k (kept before.cookies) (rows_of_steps p.fresh p.steps)) ek
-    ∙ ap (λ cs. apply_rows jar.kind (kept cs) (rows_of_steps p.fresh p.steps)) ec
-    ∙ ap (λ ss. apply_rows jar.kind (kept jar.cookies) (rows_of_steps p.fresh ss)) (sym (ap (λ (t : PlainStored). t.steps) told))
-    ∙ ap (λ f. apply_rows jar.kind (kept jar.cookies) (rows_of_steps f answer.steps)) (ap (λ (q : PlainPlan). q.fresh) (sym (text_plan rules text access jar moment now p e h)))
+    is ∙ ap (λ k. apply_rows k (persistent_part before.cookies) (rows_of_steps p.fresh p.steps)) ek
+    ∙ ap (λ cs. apply_rows jar.kind (persistent_part cs) (rows_of_steps p.fresh p.steps)) ec
+    ∙ ap (λ ss. apply_rows jar.kind (persistent_part jar.cookies) (rows_of_steps p.fresh ss)) (sym (ap (λ (t : PlainStored). t.steps) told))
+    ∙ ap (λ f. apply_rows jar.kind (persistent_part jar.cookies) (rows_of_steps f answer.steps)) (ap (λ (q : PlainPlan). q.fresh) (sym (text_plan rules text access jar moment now p e h)))
 
 -- a plan that is done leaves a list that a cell may have
 pub leaves_held : (jar : PlainJar) (p : PlainPlan) (kind : CellKind) (new : List PlainCookie) → IsPlanFor jar p → kind ≡ jar.kind → new ≡ after_steps p.fresh jar.cookies p.steps

@@ -16,7 +16,7 @@ use Rattle.cookie_jar.specs.declared.step.JarStep.{JarStep}
 use Rattle.cookie_jar.specs.declared.step.JarStep.TheVariants.{Insert, Replace}
 use Rattle.cookie_jar.specs.Steps.{rank, persists_at, after_step, after_steps, removals, remove_step, put_step, place_now, steps, stored, going, place_of, put}
 use Rattle.cookie_jar.specs.Lifetime.{is_persistent, is_expired}
-use Rattle.cookie_jar.specs.Persistent.{CookieRow, RowInsert, kept, kept_cookie, after_rows, row_edit, row_fits, apply_rows, rows_of_step, rows_of_steps, insert_row, remove_row, replace_row}
+use Rattle.cookie_jar.specs.Persistent.{CookieRow, RowInsert, persistent_part, kept_cookie, after_rows, row_edit, row_fits, apply_rows, rows_of_step, rows_of_steps, insert_row, remove_row, replace_row}
 use Rattle.cookie_jar.proofs.CellLemmas.{fits_less, copies_alike, same_to}
 use Rattle.cookie_jar.proofs.PersistentLaws.{persistent, rank_le, rank_below, drop_rank, remove_kept, insert_kept, replace_kept, steps_kept, removals_right, rows_keep}
 use Rattle.cookie_jar.proofs.StepLaws.{among, place_from, place_more, place_end, going_apart, fresh_stays, stored_is, stored_fits, removals_from_all, put_there, put_last}
@@ -36,14 +36,14 @@ fits_append : (kind : CellKind) (cs : List PlainCookie) (first more : List Cooki
 fits_append kind cs [] more fits rest = rest
 fits_append kind cs (row ∷ first) more fits rest = (fits.0, fits_append kind (row_edit cs row) first more fits.1 rest)
 
-kept_length : (cs : List PlainCookie) → length (kept cs) ≡ length (persistent cs)
+kept_length : (cs : List PlainCookie) → length (persistent_part cs) ≡ length (persistent cs)
 kept_length cs = length-map (persistent cs) kept_cookie
 
-remove_fits : (kind : CellKind) (i : ℕ) (cs : List PlainCookie) → AreFitting kind (kept cs) (remove_row (persists_at i cs) (rank i cs))
+remove_fits : (kind : CellKind) (i : ℕ) (cs : List PlainCookie) → AreFitting kind (persistent_part cs) (remove_row (persists_at i cs) (rank i cs))
 remove_fits kind i cs = at (persists_at i cs) refl
   where
-    at : (b : Bool) → persists_at i cs ≡ b → AreFitting kind (kept cs) (remove_row b (rank i cs))
-    at true is = (lt-ltb (rank i cs) (length (kept cs)) (omega (arith, kept_length cs, rank_below i cs is)), tt)
+    at : (b : Bool) → persists_at i cs ≡ b → AreFitting kind (persistent_part cs) (remove_row b (rank i cs))
+    at true is = (lt-ltb (rank i cs) (length (persistent_part cs)) (omega (arith, kept_length cs, rank_below i cs is)), tt)
     at false is = tt
 
 -- what a cell within its limits keeps is within them
@@ -59,7 +59,7 @@ map_sum : (f : PlainCookie → ℕ) → ((c : PlainCookie) → f (kept_cookie c)
 map_sum f h [] = refl
 map_sum f h (c ∷ cs) = let e = map_sum f h cs in let one = h c in rw (sum_by-cons f (kept_cookie c) (map kept_cookie cs), sum_by-cons f c cs) (omega (arith, e, one))
 
-kept_sum_le : (f : PlainCookie → ℕ) → ((c : PlainCookie) → f (kept_cookie c) ≡ f c) → (cs : List PlainCookie) → sum_by f (kept cs) ≤ sum_by f cs
+kept_sum_le : (f : PlainCookie → ℕ) → ((c : PlainCookie) → f (kept_cookie c) ≡ f c) → (cs : List PlainCookie) → sum_by f (persistent_part cs) ≤ sum_by f cs
 kept_sum_le f h cs = omega (arith, map_sum f h (persistent cs), filter_sum_le f cs)
 
 counted_kept : (kind : CellKind) (c : PlainCookie) → counted kind (kept_cookie c) ≡ counted kind c
@@ -70,10 +70,10 @@ long_sum : (cs : List PlainCookie) → sum_by (λ c. 1) cs ≡ length cs
 long_sum [] = refl
 long_sum (c ∷ cs) = let e = long_sum cs in rw (sum_by-cons (λ d. 1) c cs) (omega (arith, e))
 
-pub kept_limits : (kind : CellKind) (cs : List PlainCookie) → keeps_limits kind cs ≡ true → keeps_limits kind (kept cs) ≡ true
-kept_limits kind cs h = fits_less kind _ _ _ _ h (omega (arith, long_sum cs, long_sum (kept cs), kept_sum_le (λ c. 1) (λ c. refl) cs)) (kept_sum_le (counted kind) (counted_kept kind) cs)
+pub kept_limits : (kind : CellKind) (cs : List PlainCookie) → keeps_limits kind cs ≡ true → keeps_limits kind (persistent_part cs) ≡ true
+kept_limits kind cs h = fits_less kind _ _ _ _ h (omega (arith, long_sum cs, long_sum (persistent_part cs), kept_sum_le (λ c. 1) (λ c. refl) cs)) (kept_sum_le (counted kind) (counted_kept kind) cs)
 
-pub kept_copies : (c : PlainCookie) (cs : List PlainCookie) → copies c (kept cs) ≤ copies c cs
+pub kept_copies : (c : PlainCookie) (cs : List PlainCookie) → copies c (persistent_part cs) ≤ copies c cs
 kept_copies c cs = kept_sum_le (λ d. cond (same c d) 1 0) (λ d. refl) cs
 
 beq_self : (b : Bool) → beq b b ≡ true
@@ -98,7 +98,7 @@ head_same f (d ∷ ds) h k = at (is_persistent d) h
     at true h = k
     at false h = absurd (false≢true h)
 
-same_at_rank : (f : PlainCookie) (i : ℕ) (cs : List PlainCookie) → persists_at i cs ≡ true → list_any (λ d. same f d) (take 1 (drop i cs)) ≡ true → list_any (λ d. same (kept_cookie f) d) (take 1 (drop (rank i cs) (kept cs))) ≡ true
+same_at_rank : (f : PlainCookie) (i : ℕ) (cs : List PlainCookie) → persists_at i cs ≡ true → list_any (λ d. same f d) (take 1 (drop i cs)) ≡ true → list_any (λ d. same (kept_cookie f) d) (take 1 (drop (rank i cs) (persistent_part cs))) ≡ true
 same_at_rank f i cs h k =
     ap (λ ds. list_any (λ d. same (kept_cookie f) d) (take 1 ds)) (drop-map kept_cookie (rank i cs) (persistent cs) ∙ ap (map kept_cookie) (drop_rank i cs)) ∙ head_same f (drop i cs) h k
 
@@ -106,27 +106,27 @@ last_fits : (kind : CellKind) (fresh : PlainCookie) (i : ℕ) (cs : List PlainCo
     → keeps_limits kind (after_step fresh cs (put_step i cs)) ≡ true
     → ((c : PlainCookie) → copies c (after_step fresh cs (put_step i cs)) ≤ 1)
     → (i < length cs → list_any (λ d. same fresh d) (take 1 (drop i cs)) ≡ true)
-    → AreFitting kind (kept cs) (rows_of_step fresh (put_step i cs))
+    → AreFitting kind (persistent_part cs) (rows_of_step fresh (put_step i cs))
 last_fits kind fresh i cs = at (nat_lt i (length cs)) refl
   where
     replaced : (a b : Bool) → persists_at i cs ≡ b → (b ≡ true → list_any (λ d. same fresh d) (take 1 (drop i cs)) ≡ true)
-        → keeps_limits kind (after_rows (kept cs) (replace_row a b (rank i cs) fresh)) ≡ true → ((c : PlainCookie) → copies c (after_rows (kept cs) (replace_row a b (rank i cs) fresh)) ≤ 1)
-        → AreFitting kind (kept cs) (replace_row a b (rank i cs) fresh)
-    replaced true true is there within once = (and_from _ _ (lt-ltb (rank i cs) (length (kept cs)) (omega (arith, kept_length cs, rank_below i cs is))) (and_from _ _ (same_at_rank fresh i cs is (there refl)) within), tt)
-    replaced true false is there within once = (insert_valid kind (kept cs) (rank i cs) (kept_cookie fresh) (omega (arith, kept_length cs, rank_le i cs)) (once (kept_cookie fresh)) within, tt)
-    replaced false true is there within once = (lt-ltb (rank i cs) (length (kept cs)) (omega (arith, kept_length cs, rank_below i cs is)), tt)
+        → keeps_limits kind (after_rows (persistent_part cs) (replace_row a b (rank i cs) fresh)) ≡ true → ((c : PlainCookie) → copies c (after_rows (persistent_part cs) (replace_row a b (rank i cs) fresh)) ≤ 1)
+        → AreFitting kind (persistent_part cs) (replace_row a b (rank i cs) fresh)
+    replaced true true is there within once = (and_from _ _ (lt-ltb (rank i cs) (length (persistent_part cs)) (omega (arith, kept_length cs, rank_below i cs is))) (and_from _ _ (same_at_rank fresh i cs is (there refl)) within), tt)
+    replaced true false is there within once = (insert_valid kind (persistent_part cs) (rank i cs) (kept_cookie fresh) (omega (arith, kept_length cs, rank_le i cs)) (once (kept_cookie fresh)) within, tt)
+    replaced false true is there within once = (lt-ltb (rank i cs) (length (persistent_part cs)) (omega (arith, kept_length cs, rank_below i cs is)), tt)
     replaced false false is there within once = tt
 
-    added : (a : Bool) → keeps_limits kind (after_rows (kept cs) (insert_row a (rank i cs) fresh)) ≡ true → ((c : PlainCookie) → copies c (after_rows (kept cs) (insert_row a (rank i cs) fresh)) ≤ 1)
-        → AreFitting kind (kept cs) (insert_row a (rank i cs) fresh)
-    added true within once = (insert_valid kind (kept cs) (rank i cs) (kept_cookie fresh) (omega (arith, kept_length cs, rank_le i cs)) (once (kept_cookie fresh)) within, tt)
+    added : (a : Bool) → keeps_limits kind (after_rows (persistent_part cs) (insert_row a (rank i cs) fresh)) ≡ true → ((c : PlainCookie) → copies c (after_rows (persistent_part cs) (insert_row a (rank i cs) fresh)) ≤ 1)
+        → AreFitting kind (persistent_part cs) (insert_row a (rank i cs) fresh)
+    added true within once = (insert_valid kind (persistent_part cs) (rank i cs) (kept_cookie fresh) (omega (arith, kept_length cs, rank_le i cs)) (once (kept_cookie fresh)) within, tt)
     added false within once = tt
 
     at : (b : Bool) → nat_lt i (length cs) ≡ b
         → keeps_limits kind (after_step fresh cs (cond b (Replace i (rank i cs) (persists_at i cs)) (Insert i (rank i cs)))) ≡ true
         → ((c : PlainCookie) → copies c (after_step fresh cs (cond b (Replace i (rank i cs) (persists_at i cs)) (Insert i (rank i cs)))) ≤ 1)
         → (i < length cs → list_any (λ d. same fresh d) (take 1 (drop i cs)) ≡ true)
-        → AreFitting kind (kept cs) (rows_of_step fresh (cond b (Replace i (rank i cs) (persists_at i cs)) (Insert i (rank i cs))))
+        → AreFitting kind (persistent_part cs) (rows_of_step fresh (cond b (Replace i (rank i cs) (persists_at i cs)) (Insert i (rank i cs))))
     at true is within once there =
         let lt = ltb-true i (length cs) is in
         let e = replace_kept i fresh cs lt in
@@ -137,12 +137,12 @@ last_fits kind fresh i cs = at (nat_lt i (length cs)) refl
         added (is_persistent fresh) (ap (keeps_limits kind) (sym e) ∙ kept_limits kind (insert cs i fresh) within)
         (λ c. subst (λ k. copies c k ≤ 1) e (omega (arith, kept_copies c (insert cs i fresh), once c)))
 
-removals_fit : (kind : CellKind) (fresh : PlainCookie) (cs : List PlainCookie) (gone ps : List ℕ) → AreFitting kind (kept cs) (rows_of_steps fresh (removals cs gone ps))
+removals_fit : (kind : CellKind) (fresh : PlainCookie) (cs : List PlainCookie) (gone ps : List ℕ) → AreFitting kind (persistent_part cs) (rows_of_steps fresh (removals cs gone ps))
 removals_fit kind fresh cs gone [] = tt
 removals_fit kind fresh cs gone (p ∷ ps) =
     let i = place_now gone p in
     let more = rows_of_steps fresh (removals (remove cs i) (p ∷ gone) ps) in
-    fits_append kind (kept cs) (rows_of_step fresh (remove_step i cs)) more (remove_fits kind i cs)
+    fits_append kind (persistent_part cs) (rows_of_step fresh (remove_step i cs)) more (remove_fits kind i cs)
     (subst (λ k. AreFitting kind k more) (remove_kept i cs) (removals_fit kind fresh (remove cs i) (p ∷ gone) ps))
 
 -- leaving out adds no copies
@@ -240,7 +240,7 @@ one_fits : (kind : CellKind) (fresh : PlainCookie) (k : List PlainCookie) (s : J
 one_fits kind fresh k s fits = subst (AreFitting kind k) (sym (append-nil (rows_of_step fresh s))) fits
 
 live_fit : (kind : CellKind) (now : ℤ) (fresh : PlainCookie) (cs : List PlainCookie) → counted kind fresh ≤ 10240 → ((c : PlainCookie) → copies c cs ≤ 1) → is_expired now fresh ≡ false
-    → AreFitting kind (kept cs) (rows_of_steps fresh (steps kind now fresh cs))
+    → AreFitting kind (persistent_part cs) (rows_of_steps fresh (steps kind now fresh cs))
 live_fit kind now fresh cs small once live =
     let gone = going kind now fresh cs in
     let first = removals cs [] gone in
@@ -253,26 +253,26 @@ live_fit kind now fresh cs small once live =
     let single : (c : PlainCookie) → copies c (after_step fresh cur last) ≤ 1 = λ c. subst (λ xs. copies c xs ≤ 1) whole (stored_once kind now fresh cs live once c) in
     let there : place < length cur → list_any (λ d. same fresh d) (take 1 (drop place cur)) ≡ true = subst (λ xs. place < length xs → list_any (λ d. same fresh d) (take 1 (drop place xs)) ≡ true) (sym left) (there_now kind now fresh cs) in
     let all : steps kind now fresh cs ≡ first ++ last ∷ [] = rw live refl in
-    subst (AreFitting kind (kept cs)) (sym (ap (rows_of_steps fresh) all ∙ flat_map-append (rows_of_step fresh) first (last ∷ [])))
-    (fits_append kind (kept cs) (rows_of_steps fresh first) (rows_of_steps fresh (last ∷ [])) (removals_fit kind fresh cs [] gone)
+    subst (AreFitting kind (persistent_part cs)) (sym (ap (rows_of_steps fresh) all ∙ flat_map-append (rows_of_step fresh) first (last ∷ [])))
+    (fits_append kind (persistent_part cs) (rows_of_steps fresh first) (rows_of_steps fresh (last ∷ [])) (removals_fit kind fresh cs [] gone)
     (subst (λ k. AreFitting kind k (rows_of_steps fresh (last ∷ []))) (sym (steps_kept fresh cs first (removals_right fresh cs [] gone)))
-    (one_fits kind fresh (kept cur) last (last_fits kind fresh place cur within single there))))
+    (one_fits kind fresh (persistent_part cur) last (last_fits kind fresh place cur within single there))))
 
 -- the row changes of a store are valid one after another
 pub rows_fit : (kind : CellKind) (now : ℤ) (fresh : PlainCookie) (cs : List PlainCookie) → counted kind fresh ≤ 10240 → ((c : PlainCookie) → copies c cs ≤ 1)
-    → AreFitting kind (kept cs) (rows_of_steps fresh (steps kind now fresh cs))
+    → AreFitting kind (persistent_part cs) (rows_of_steps fresh (steps kind now fresh cs))
 rows_fit kind now fresh cs small once = at (is_expired now fresh) refl
   where
-    gone_row : (b : Bool) → AreFitting kind (kept cs) (rows_of_steps fresh (cond b (remove_step (place_of fresh cs) cs ∷ []) []))
-    gone_row true = one_fits kind fresh (kept cs) (remove_step (place_of fresh cs) cs) (remove_fits kind (place_of fresh cs) cs)
+    gone_row : (b : Bool) → AreFitting kind (persistent_part cs) (rows_of_steps fresh (cond b (remove_step (place_of fresh cs) cs ∷ []) []))
+    gone_row true = one_fits kind fresh (persistent_part cs) (remove_step (place_of fresh cs) cs) (remove_fits kind (place_of fresh cs) cs)
     gone_row false = tt
 
-    at : (b : Bool) → is_expired now fresh ≡ b → AreFitting kind (kept cs) (rows_of_steps fresh (steps kind now fresh cs))
+    at : (b : Bool) → is_expired now fresh ≡ b → AreFitting kind (persistent_part cs) (rows_of_steps fresh (steps kind now fresh cs))
     at true is = rw is (gone_row (nat_lt (place_of fresh cs) (length cs)))
     at false is = live_fit kind now fresh cs small once is
 
 -- and lead from what was kept to what is kept
 pub valid_rows : (kind : CellKind) (now : ℤ) (fresh : PlainCookie) (cs : List PlainCookie) → counted kind fresh ≤ 10240 → ((c : PlainCookie) → copies c cs ≤ 1)
-    → apply_rows kind (kept cs) (rows_of_steps fresh (steps kind now fresh cs)) ≡ kept (stored kind now fresh cs)
+    → apply_rows kind (persistent_part cs) (rows_of_steps fresh (steps kind now fresh cs)) ≡ persistent_part (stored kind now fresh cs)
 valid_rows kind now fresh cs small once =
-    fitting_done kind (kept cs) (rows_of_steps fresh (steps kind now fresh cs)) (rows_fit kind now fresh cs small once) ∙ rows_keep kind now fresh cs
+    fitting_done kind (persistent_part cs) (rows_of_steps fresh (steps kind now fresh cs)) (rows_fit kind now fresh cs small once) ∙ rows_keep kind now fresh cs

@@ -1,6 +1,6 @@
 -- What contracts cite.
 pub mod Cookie
-pub mod Views
+pub mod Plain
 pub mod Access
 pub mod Key
 pub mod Lifetime

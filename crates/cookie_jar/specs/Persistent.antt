@@ -23,8 +23,8 @@ abbrev pub kept_cookie : PlainCookie → PlainCookie
 kept_cookie c = record c { last = pos 0 }
 
 -- what of a cell outlives a restart
-abbrev pub kept : List PlainCookie → List PlainCookie
-kept cs = map kept_cookie (filter is_persistent cs)
+abbrev pub persistent_part : List PlainCookie → List PlainCookie
+persistent_part cs = map kept_cookie (filter is_persistent cs)
 
 -- the change of an insertion, by whether the cookie is persistent
 abbrev pub insert_row : Bool → ℕ → PlainCookie → List CookieRow

@@ -3,7 +3,7 @@
 -- Our own choice: nothing is done to the cell of a dropped cookie.
 use Rattle.std.specs.Prelude.{◌≡◌, ℕ, ℤ, ◌≤◌, List, Option, Some, None, Result, Ok, Err}
 use Rattle.suffix_list.specs.Suffix.{Rule}
-use Rattle.setcookie_parse.specs.SetCookie.{CookieText}
+use Rattle.setcookie_parse.specs.SetCookie.{CookieText, pair_limit}
 use Rattle.partition_limits.specs.declared.tally.CellKind.{CellKind}
 use Rattle.cookie_jar.specs.declared.cause.CookieDrop.{CookieDrop}
 use Rattle.cookie_jar.specs.declared.plan.StoredKind.{StoredKind}
@@ -55,7 +55,7 @@ planned rules text access cell now cs =
 abbrev pub IsPlanFor : PlainJar → PlainPlan → Type 0
 IsPlanFor jar plan =
     (now : ℤ) × (plan.steps ≡ steps jar.kind now plan.fresh jar.cookies)
-    × (pair_bytes plan.fresh ≤ 4096) × ((c : PlainCookie) → copies c jar.cookies ≤ 1)
+    × (pair_bytes plan.fresh ≤ pair_limit) × ((c : PlainCookie) → copies c jar.cookies ≤ 1)
 
 -- what a store answers: its kind and its steps
 pub record PlainStored : Type 0 where

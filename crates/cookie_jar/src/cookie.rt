@@ -3,7 +3,7 @@ ghost use Rattle.std.specs.Prelude.{◌≡◌, ◌≤◌, IfOk, map, option_map,
 ghost use Rattle.cookie_jar.specs.Cookie as spec;
 ghost use Rattle.cookie_jar.specs.Borrowed.{plain_borrowed};
 ghost use Rattle.cookie_jar.specs.Lifetime as spec_of;
-ghost use Rattle.cookie_jar.specs.Views.{plain_cookie};
+ghost use Rattle.cookie_jar.specs.Plain.{plain_cookie};
 
 use agent_base::NoMemory;
 use partition_limits::CellKind;

@@ -1,12 +1,12 @@
 //! Why the cookie of a text is dropped.
 ghost use Rattle.std.specs.Prelude.{◌≡◌, ◌&&◌, not, map, option_copied};
 ghost use Rattle.std.specs.List.{list_any};
-ghost use Rattle.setcookie_parse.specs.Views.{cookie_view};
+ghost use Rattle.setcookie_parse.specs.Plain.{plain_text};
 ghost use Rattle.cookie_jar.specs.Borrowed.{plain_borrowed};
 ghost use Rattle.cookie_jar.specs.Drops as spec;
 ghost use Rattle.cookie_jar.specs.NewCookie.{has_such, made_with};
 ghost use Rattle.cookie_jar.specs.NewCookie as new_cookie;
-ghost use Rattle.cookie_jar.specs.Views.{plain_access, plain_cookie};
+ghost use Rattle.cookie_jar.specs.Plain.{plain_access, plain_cookie};
 
 use crate::access::{Access, Destination};
 use crate::cause::CookieDrop;
@@ -19,7 +19,7 @@ use setcookie_parse::{CookieText, SameSite};
 use suffix_list::SuffixList;
 
 pub fn is_not_ascii_domain(text: &CookieText<'_>) -> bool
-    ensures { result ≡ spec.is_not_ascii_domain (cookie_view text.now) }
+    ensures { result ≡ spec.is_not_ascii_domain (plain_text text.now) }
 {
     match text.domain {
         None => false,
@@ -47,9 +47,9 @@ pub fn later_drop(
     requires own { option_copied own ≡ new_cookie.own_domain list.now.rules
         (plain_access access.now) (option_copied lower) }
     requires new { plain_borrowed new.now ≡ made_with
-        (option_copied own) (cookie_view text.now) (plain_access access.now) now }
+        (option_copied own) (plain_text text.now) (plain_access access.now) now }
     ensures { result ≡ spec.first_drop (spec.later_rows list.now.rules (option_copied lower.entry)
-        (cookie_view text.now) (plain_access access.now) now (map plain_cookie cookies.now)) }
+        (plain_text text.now) (plain_access access.now) now (map plain_cookie cookies.now)) }
 {
     first_applying(&[
         (
@@ -224,19 +224,19 @@ fn lacks_secure_prefix(text: &CookieText<'_>) -> bool
 
 fn lacks_host_prefix(text: &CookieText<'_>, new: &BorrowedCookie<'_>) -> bool
     ensures { result ≡ (spec.has_prefix spec.host_prefix text.now.name.now
-        && not (spec.is_for_host (cookie_view text.now) (plain_borrowed new.now))) }
+        && not (spec.is_for_host (plain_text text.now) (plain_borrowed new.now))) }
 {
     has_prefix("__Host-", text.name) && !is_for_host(text, new)
 }
 
 fn is_for_host(text: &CookieText<'_>, new: &BorrowedCookie<'_>) -> bool
-    ensures { result ≡ spec.is_for_host (cookie_view text.now) (plain_borrowed new.now) }
+    ensures { result ≡ spec.is_for_host (plain_text text.now) (plain_borrowed new.now) }
 {
     text.secure && new.host_only && text.has_path && new.path == "/"
 }
 
 fn is_nameless_prefix(text: &CookieText<'_>) -> bool
-    ensures { result ≡ spec.is_nameless_prefix (cookie_view text.now) }
+    ensures { result ≡ spec.is_nameless_prefix (plain_text text.now) }
 {
     text.name == "" && (has_prefix("__Secure-", text.value) || has_prefix("__Host-", text.value))
 }
@@ -275,7 +275,7 @@ fn is_partitioned_without_secure(text: &CookieText<'_>) -> bool
 }
 
 fn is_third_party(text: &CookieText<'_>, access: &Access<'_>) -> bool
-    ensures { result ≡ spec.is_third_party (cookie_view text.now) (plain_access access.now) }
+    ensures { result ≡ spec.is_third_party (plain_text text.now) (plain_access access.now) }
 {
     matches!(destination(text, access), Destination::Nowhere)
 }

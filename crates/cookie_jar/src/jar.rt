@@ -3,7 +3,7 @@ ghost use Rattle.std.specs.Prelude.{◌≡◌, ◌<◌, ◌≤◌, ◌+◌, [], 
 ghost use Rattle.std.specs.Prelude.{map, slice_index_or, slice_set, slice_get, option_map};
 ghost use Rattle.std.specs.List.{insert, remove};
 ghost use Rattle.cookie_jar.specs.Cookie.{PlainCookie, copies, keeps_limits, same};
-ghost use Rattle.cookie_jar.specs.Views.{plain_cookie};
+ghost use Rattle.cookie_jar.specs.Plain.{plain_cookie};
 
 use crate::cookie::{Cookie, counted};
 use agent_base::NoMemory;
@@ -23,7 +23,7 @@ impl Model for Jar {
     ghost use Rattle.std.specs.Prelude.{map, ◌-◌};
     ghost use Rattle.std.specs.Vec.{vec_capacity, vec_len};
     ghost use Rattle.cookie_jar.specs.Cookie.{PlainJar, IsCell};
-    ghost use Rattle.cookie_jar.specs.Views.{plain_cookie};
+    ghost use Rattle.cookie_jar.specs.Plain.{plain_cookie};
 
     ghost Value = { PlainJar };
 

@@ -1,9 +1,9 @@
 //! Which cell a cookie goes to, and what names a cell.
 ghost use Rattle.std.specs.Prelude.{◌≡◌, IfOk};
-ghost use Rattle.setcookie_parse.specs.Views.{cookie_view};
+ghost use Rattle.setcookie_parse.specs.Plain.{plain_text};
 ghost use Rattle.cookie_jar.specs.Access as spec;
 ghost use Rattle.cookie_jar.specs.Key.{plain_key};
-ghost use Rattle.cookie_jar.specs.Views.{plain_access};
+ghost use Rattle.cookie_jar.specs.Plain.{plain_access};
 
 use crate::access::{Access, Destination};
 use agent_base::NoMemory;
@@ -46,7 +46,7 @@ impl CellKey {
 
 /// The cell that the cookie of a text goes to.
 pub fn destination(cookie: &CookieText<'_>, access: &Access<'_>) -> Destination
-    ensures value { result ≡ spec.destination (cookie_view cookie.now) (plain_access access.now) }
+    ensures value { result ≡ spec.destination (plain_text cookie.now) (plain_access access.now) }
 {
     if cookie.partitioned {
         Destination::Partition

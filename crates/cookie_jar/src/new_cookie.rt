@@ -2,12 +2,12 @@
 ghost use Rattle.std.specs.Prelude.{◌≡◌, true, is_some, IfOk, OnErr, map, option_copied};
 ghost use Rattle.std.specs.Prelude.{not, option_map, string_bytes};
 ghost use Rattle.std.proofs.lemmas.Map.Entries.{option_filter};
-ghost use Rattle.setcookie_parse.specs.Views.{cookie_view};
+ghost use Rattle.setcookie_parse.specs.Plain.{plain_text};
 ghost use Rattle.cookie_jar.specs.Borrowed.{plain_borrowed};
 ghost use Rattle.cookie_jar.specs.Lifetime.{is_expired as has_expired};
 ghost use Rattle.cookie_jar.specs.NewCookie as spec;
 ghost use Rattle.cookie_jar.specs.Steps.{place_of};
-ghost use Rattle.cookie_jar.specs.Views.{plain_access, plain_cookie};
+ghost use Rattle.cookie_jar.specs.Plain.{plain_access, plain_cookie};
 
 use crate::access::Access;
 use crate::cookie::{BorrowedCookie, Cookie, cookie_at, is_expired};
@@ -18,7 +18,7 @@ use suffix_list::SuffixList;
 
 pub fn lower_domain(alloc: Global, text: &CookieText<'_>) -> Result<Option<String>, AllocError>
     ensures value { IfOk result
-        (λ d. option_map string_bytes d ≡ spec.lower_domain (cookie_view text.now)) }
+        (λ d. option_map string_bytes d ≡ spec.lower_domain (plain_text text.now)) }
     ensures some { OnErr result (is_some text.now.domain ≡ true) }
 {
     match text.domain {
@@ -60,7 +60,7 @@ pub fn made<'a>(
     now: i64,
 ) -> BorrowedCookie<'a>
     ensures { plain_borrowed result ≡ spec.made_with
-        (option_copied own.entry) (cookie_view text.now) (plain_access access.now) now }
+        (option_copied own.entry) (plain_text text.now) (plain_access access.now) now }
 {
     BorrowedCookie {
         name: text.name,

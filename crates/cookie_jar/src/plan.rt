@@ -2,13 +2,14 @@
 ghost use Rattle.std.specs.Prelude.{◌≡◌, ◌≤◌, ◌+◌, ◌⊎◌, Ok, true, false, is_some, IfOk};
 ghost use Rattle.std.specs.Prelude.{IsErrOf, IsOk, MatchResult, length, map, option_copied};
 ghost use Rattle.agent_base.specs.Answers.{Answers, Decides};
-ghost use Rattle.setcookie_parse.specs.Views.{cookie_view};
+ghost use Rattle.setcookie_parse.specs.Plain.{plain_text};
+ghost use Rattle.setcookie_parse.specs.SetCookie.{pair_limit};
 ghost use Rattle.cookie_jar.specs.Cookie.{IsCell, pair_bytes};
 ghost use Rattle.cookie_jar.specs.Borrowed.{plain_borrowed};
 ghost use Rattle.cookie_jar.specs.Drops.{is_not_ascii_domain};
 ghost use Rattle.cookie_jar.specs.NewCookie.{kind_with};
 ghost use Rattle.cookie_jar.specs.Planned as spec;
-ghost use Rattle.cookie_jar.specs.Views.{plain_access, plain_cookie};
+ghost use Rattle.cookie_jar.specs.Plain.{plain_access, plain_cookie};
 
 use crate::access::Access;
 use crate::cause::CookieDrop;
@@ -46,7 +47,7 @@ pub struct Plan {
 
 impl Model for Plan {
     ghost use Rattle.cookie_jar.specs.Planned.{PlainPlan};
-    ghost use Rattle.cookie_jar.specs.Views.{plain_cookie};
+    ghost use Rattle.cookie_jar.specs.Plain.{plain_cookie};
 
     ghost Value = { PlainPlan };
 
@@ -103,13 +104,13 @@ impl Jar {
         list: &SuffixList,
         now: i64,
     ) -> Result<Plan, CookieDrop>
-        requires pair { length text.now.name.now + length text.now.value.now ≤ 4096 }
+        requires pair { length text.now.name.now + length text.now.value.now ≤ pair_limit }
         ensures answer { Answers (λ p. p) CookieDrop.NoMemory (spec.planned list.now.rules
-            (cookie_view text.now) (plain_access access.now) self.now.kind now self.now.cookies)
+            (plain_text text.now) (plain_access access.now) self.now.kind now self.now.cookies)
             result }
         ensures memory { IsErrOf result CookieDrop.NoMemory → (is_some text.now.domain ≡ true)
-            × (is_not_ascii_domain (cookie_view text.now) ≡ false)
-            ⊎ IsOk (spec.planned list.now.rules (cookie_view text.now) (plain_access access.now)
+            × (is_not_ascii_domain (plain_text text.now) ≡ false)
+            ⊎ IsOk (spec.planned list.now.rules (plain_text text.now) (plain_access access.now)
             self.now.kind now self.now.cookies) }
         ensures fit { IfOk result (λ p. spec.IsPlanFor self.now p) }
     {
@@ -143,9 +144,9 @@ fn planned_with(
     now: i64,
 ) -> Result<Plan, CookieDrop>
     requires cell { IsCell kind tally (map plain_cookie cookies.now) }
-    requires pair { length text.now.name.now + length text.now.value.now ≤ 4096 }
+    requires pair { length text.now.name.now + length text.now.value.now ≤ pair_limit }
     ensures answer { Decides (λ p. p) CookieDrop.NoMemory (spec.planned_with list.now.rules
-        (option_copied lower.entry) (cookie_view text.now) (plain_access access.now) kind now
+        (option_copied lower.entry) (plain_text text.now) (plain_access access.now) kind now
         (map plain_cookie cookies.now)) result }
 {
     let own = own_domain(lower, access, list);
@@ -165,7 +166,7 @@ fn plan_unless_memory(
     now: i64,
 ) -> Result<Plan, CookieDrop>
     requires cell { IsCell kind tally (map plain_cookie cookies.now) }
-    requires pair { pair_bytes (plain_borrowed new.now) ≤ 4096 }
+    requires pair { pair_bytes (plain_borrowed new.now) ≤ pair_limit }
     ensures { MatchResult result (λ p. p
         ≡ spec.plan_of kind now (plain_borrowed new.now) (map plain_cookie cookies.now))
         (λ why. why ≡ CookieDrop.NoMemory) }
@@ -182,7 +183,7 @@ fn plan_of(
     now: i64,
 ) -> Result<Plan, NoMemory>
     requires cell { IsCell kind tally (map plain_cookie cookies.now) }
-    requires pair { pair_bytes (plain_borrowed new.now) ≤ 4096 }
+    requires pair { pair_bytes (plain_borrowed new.now) ≤ pair_limit }
     ensures { IfOk result (λ p. p
         ≡ spec.plan_of kind now (plain_borrowed new.now) (map plain_cookie cookies.now)) }
 {

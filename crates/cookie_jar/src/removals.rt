@@ -5,7 +5,7 @@ ghost use Rattle.cookie_jar.specs.Flags as flagged;
 ghost use Rattle.cookie_jar.specs.Lifetime.{is_persistent};
 ghost use Rattle.cookie_jar.specs.Performed.{after_removals};
 ghost use Rattle.cookie_jar.specs.Steps as spec;
-ghost use Rattle.cookie_jar.specs.Views.{plain_cookie};
+ghost use Rattle.cookie_jar.specs.Plain.{plain_cookie};
 
 use crate::cookie::Cookie;
 use crate::step::JarStep;

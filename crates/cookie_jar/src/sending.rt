@@ -3,9 +3,9 @@ ghost use Rattle.std.specs.Prelude.{◌≡◌, IfOk, map, filter};
 ghost use Rattle.std.specs.List.{enumerate_from};
 ghost use Rattle.cookie_jar.specs.Drops.{is_none as is_none_of};
 ghost use Rattle.cookie_jar.specs.Marked.{used_at};
-ghost use Rattle.cookie_jar.specs.Persistent.{kept};
+ghost use Rattle.cookie_jar.specs.Persistent.{persistent_part};
 ghost use Rattle.cookie_jar.specs.Sending as spec;
-ghost use Rattle.cookie_jar.specs.Views.{plain_access, plain_cookie};
+ghost use Rattle.cookie_jar.specs.Plain.{plain_access, plain_cookie};
 
 use crate::access::Access;
 use crate::cookie::{Cookie, is_expired};
@@ -29,7 +29,7 @@ impl Jar {
     /// does not. Takes no memory.
     pub fn mark(&mut self, places: &[usize], now: i64)
         ensures cookies { self.new.cookies ≡ spec.marked places.now now self.old.cookies }
-        ensures persistent { kept self.new.cookies ≡ kept self.old.cookies }
+        ensures persistent { persistent_part self.new.cookies ≡ persistent_part self.old.cookies }
         ensures kind { self.new.kind ≡ self.old.kind }
         ensures spare { self.new.spare ≡ self.old.spare }
     {

@@ -5,7 +5,7 @@ ghost use Rattle.partition_limits.specs.Limits.{fits};
 ghost use Rattle.cookie_jar.specs.Cookie.{IsCell, counted};
 ghost use Rattle.cookie_jar.specs.Borrowed.{plain_borrowed};
 ghost use Rattle.cookie_jar.specs.Steps as spec;
-ghost use Rattle.cookie_jar.specs.Views.{plain_cookie};
+ghost use Rattle.cookie_jar.specs.Plain.{plain_cookie};
 
 use crate::cookie::{BorrowedCookie, Cookie, cookie_at, counted, is_expired, is_same};
 use crate::removals::{live_steps, removal_alone};

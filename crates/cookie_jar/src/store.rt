@@ -3,16 +3,17 @@ ghost use Rattle.std.specs.Prelude.{◌≡◌, ◌<◌, ◌≤◌, ◌+◌, ◌-
 ghost use Rattle.std.specs.Prelude.{IsErrOf, IsOk, IsTrue, OnErr, length, slice_get};
 ghost use Rattle.std.specs.List.{remove};
 ghost use Rattle.agent_base.specs.Answers.{Answers};
-ghost use Rattle.setcookie_parse.specs.Views.{cookie_view};
+ghost use Rattle.setcookie_parse.specs.Plain.{plain_text};
+ghost use Rattle.setcookie_parse.specs.SetCookie.{pair_limit};
 ghost use Rattle.cookie_jar.specs.Cookie.{PlainCookie, copies, keeps_limits};
 ghost use Rattle.cookie_jar.specs.Drops.{is_not_ascii_domain};
 ghost use Rattle.cookie_jar.specs.NewCookie.{fresh};
 ghost use Rattle.cookie_jar.specs.Performed.{CanPut, after_put, after_removals};
-ghost use Rattle.cookie_jar.specs.Persistent.{apply_rows, kept, rows_of_steps};
+ghost use Rattle.cookie_jar.specs.Persistent.{apply_rows, persistent_part, rows_of_steps};
 ghost use Rattle.cookie_jar.specs.Planned as spec;
 ghost use Rattle.cookie_jar.specs.Steps.{after_steps, stored};
 ghost use Rattle.cookie_jar.specs.Stored.{plain_stored};
-ghost use Rattle.cookie_jar.specs.Views.{plain_access, plain_cookie};
+ghost use Rattle.cookie_jar.specs.Plain.{plain_access, plain_cookie};
 
 use crate::access::Access;
 use crate::cause::CookieDrop;
@@ -55,23 +56,23 @@ impl Jar {
         list: &SuffixList,
         now: i64,
     ) -> Result<Stored, CookieDrop>
-        requires pair { length text.now.name.now + length text.now.value.now ≤ 4096 }
+        requires pair { length text.now.name.now + length text.now.value.now ≤ pair_limit }
         ensures answer { Answers plain_stored CookieDrop.NoMemory (spec.stored_answer
-            (spec.planned list.now.rules (cookie_view text.now) (plain_access access.now)
+            (spec.planned list.now.rules (plain_text text.now) (plain_access access.now)
             self.old.kind now self.old.cookies)) result }
         ensures memory { IsErrOf result CookieDrop.NoMemory → (is_some text.now.domain ≡ true)
-            × (is_not_ascii_domain (cookie_view text.now) ≡ false)
-            ⊎ IsOk (spec.planned list.now.rules (cookie_view text.now) (plain_access access.now)
+            × (is_not_ascii_domain (plain_text text.now) ≡ false)
+            ⊎ IsOk (spec.planned list.now.rules (plain_text text.now) (plain_access access.now)
             self.old.kind now self.old.cookies) }
         ensures stored { IfOk result (λ s. self.new.cookies ≡ stored self.old.kind now
-            (fresh list.now.rules (cookie_view text.now) (plain_access access.now) now
+            (fresh list.now.rules (plain_text text.now) (plain_access access.now) now
             self.old.cookies) self.old.cookies) }
         ensures steps { IfOk result (λ s. self.new.cookies ≡ after_steps
-            (fresh list.now.rules (cookie_view text.now) (plain_access access.now) now
+            (fresh list.now.rules (plain_text text.now) (plain_access access.now) now
             self.old.cookies) self.old.cookies s.steps.items) }
-        ensures persistent { IfOk result (λ s. kept self.new.cookies ≡ apply_rows self.old.kind
-            (kept self.old.cookies) (rows_of_steps
-            (fresh list.now.rules (cookie_view text.now) (plain_access access.now) now
+        ensures persistent { IfOk result (λ s. persistent_part self.new.cookies
+            ≡ apply_rows self.old.kind (persistent_part self.old.cookies) (rows_of_steps
+            (fresh list.now.rules (plain_text text.now) (plain_access access.now) now
             self.old.cookies) s.steps.items)) }
         ensures within { IsTrue (keeps_limits self.new.kind self.new.cookies) }
         ensures distinct { (c : PlainCookie) → copies c self.new.cookies ≤ 1 }
@@ -91,8 +92,8 @@ impl Jar {
         requires fit { spec.IsPlanFor self.old plan }
         ensures answer { plain_stored result ≡ spec.stored_of plan }
         ensures steps { self.new.cookies ≡ after_steps plan.fresh self.old.cookies plan.steps }
-        ensures persistent { kept self.new.cookies ≡ apply_rows self.old.kind
-            (kept self.old.cookies) (rows_of_steps plan.fresh plan.steps) }
+        ensures persistent { persistent_part self.new.cookies ≡ apply_rows self.old.kind
+            (persistent_part self.old.cookies) (rows_of_steps plan.fresh plan.steps) }
         ensures kind { self.new.kind ≡ self.old.kind }
     {
         let Plan { kind, steps, fresh } = plan;

@@ -5,7 +5,7 @@ use Rattle.std.specs.declared.alloc.Global.{Global}
 use Rattle.std.proofs.lemmas.List.{append-nil, take-append-le, take_at}
 use Rattle.disk_model.specs.History.{Held, Event, wrote, overlaid, after, replay, at_first}
 use Rattle.disk_model.specs.Record.{syncs, written_len, written_events, all_events, unless_fresh}
-use Rattle.disk_model.specs.MediumBuffers.{IsKept}
+use Rattle.disk_model.specs.MediumBuffers.{AreBuffersOf}
 use Rattle.disk_model.specs.declared.medium.Entry.{Entry}
 use Rattle.disk_model.specs.ImageLaws.{end_push}
 use Rattle.disk_model.specs.Laws.{overlaid-written}
@@ -44,7 +44,7 @@ written_events-push (x ∷ entries) e log bytes is size =
 overlaid_len : (file : List ℕ) (at : ℕ) (bytes : List ℕ) → at ≤ length file → length (overlaid file at bytes) ≡ max (length file) (at + length bytes)
 overlaid_len file at bytes le = (overlaid-written file at bytes le).len
 
-module _ (contents synced_bytes first : List ℕ) (fresh : Bool) (entries : List Entry) (log : List ℕ) (failed good : ℕ) (ranges : List (ℕ × ℕ)) (kept : IsKept contents synced_bytes first fresh entries log failed good ranges) where
+module _ (contents synced_bytes first : List ℕ) (fresh : Bool) (entries : List Entry) (log : List ℕ) (failed good : ℕ) (ranges : List (ℕ × ℕ)) (kept : AreBuffersOf contents synced_bytes first fresh entries log failed good ranges) where
   -- a write
   module _ (at : ℕ) (bytes : List ℕ) where
     entry : Entry
@@ -59,7 +59,7 @@ module _ (contents synced_bytes first : List ℕ) (fresh : Bool) (entries : List
     pub replay_write : replay (at_first (unless_fresh fresh contents first)) (all_events entries log failed good ++ wrote at bytes ∷ []) ≡ record { contents = overlaid contents at bytes; synced = unless_fresh fresh contents synced_bytes; ranges = ranges ++ (at, length bytes) ∷ [] }
     replay_write = replay-push (at_first (unless_fresh fresh contents first)) (all_events entries log failed good) (wrote at bytes) ∙ ap (λ (h : Held). after h (wrote at bytes)) kept.replayed
 
-    pub kept_write : at ≤ length contents → IsKept (overlaid contents at bytes) (unless_fresh fresh contents synced_bytes) (unless_fresh fresh contents first) false (entries ++ record { failed = failed; good = good; at = at; len = length bytes } ∷ []) (log ++ bytes) 0 0 (ranges ++ (at, length bytes) ∷ [])
+    pub kept_write : at ≤ length contents → AreBuffersOf (overlaid contents at bytes) (unless_fresh fresh contents synced_bytes) (unless_fresh fresh contents first) false (entries ++ record { failed = failed; good = good; at = at; len = length bytes } ∷ []) (log ++ bytes) 0 0 (ranges ++ (at, length bytes) ∷ [])
     kept_write place = record {
       replayed = ap (λ (l : List Event). replay (at_first (unless_fresh fresh contents first)) l) events_write ∙ replay_write;
       log_len = omega (arith, length-append log bytes, kept.log_len, written_len-push entries (record { failed = failed; good = good; at = at; len = length bytes }));

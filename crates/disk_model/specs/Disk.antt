@@ -1,4 +1,5 @@
 -- What the calls of a disk do to its file, and what a cut of the power may leave at each moment.
+-- Source: none.
 -- Our own choice: the model of a device. Between two syncs any byte may stand after a cut in each
 -- range that was written, also by a write that failed, and past the old end. All other bytes stay.
 -- After a sync that succeeded a cut leaves what a read returns. That a real device keeps to this

@@ -1,4 +1,5 @@
 -- What holds of all that a disk tells, whatever was called.
+-- Source: none.
 -- Our own choice: the laws are part of the model of a device.
 use Rattle.std.specs.Prelude.{true, ◌≡◌, ℕ, ◌<◌, ◌≤◌, List, Some, All}
 use Rattle.disk_model.specs.Disk.{View}

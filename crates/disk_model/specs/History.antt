@@ -1,4 +1,5 @@
 -- The past of a disk in memory: what it held at each moment since it was made or last restarted.
+-- Source: none.
 -- Our own choice: the record has what the file was at first, and then each write, failed ones too,
 -- each sync that succeeded and each that failed.
 use Rattle.std.specs.Prelude.{◌≡◌, ◌⊎◌, ℕ, ◌+◌, ◌-◌, ◌^◌, ◌≤◌, nat_le, List, [], ◌∷◌, ◌++◌, length}

@@ -1,4 +1,5 @@
 -- The images of a file: what a cut may leave of what was synced and of the writes since.
+-- Source: none.
 -- Our own choice: an image is what was synced, but for any bytes in the ranges written since the
 -- last sync and past the synced end, up to the greatest end written.
 use Rattle.std.specs.Prelude.{◌≡◌, ◌⊎◌, ℕ, ◌+◌, ◌<◌, ◌≤◌, max, List, [], ◌∷◌, length, slice_index}

@@ -1,4 +1,5 @@
 -- What a `Medium` keeps in its buffers.
+-- Source: none.
 use Rattle.std.specs.Prelude.{◌≡◌, ℕ, ◌+◌, ◌*◌, ◌<◌, ◌≤◌, Bool, true, false, List, [], length, Vec}
 use Rattle.std.specs.Prelude.{slice_index, vec_capacity, vec_len}
 use Rattle.std.specs.declared.alloc.Global.{Global}
@@ -17,7 +18,7 @@ pub record IsPlaced (synced contents : List ℕ) (ranges : List (ℕ × ℕ)) (f
   pub inside : (i : ℕ) → (IsOutside i ranges → ⊥) → slice_index file i ≡ slice_index contents i
 
 -- the buffers are those of the record
-pub record IsKept (contents synced_bytes first : List ℕ) (fresh : Bool) (entries : List Entry)
+pub record AreBuffersOf (contents synced_bytes first : List ℕ) (fresh : Bool) (entries : List Entry)
     (log : List ℕ) (failed good : ℕ) (ranges : List (ℕ × ℕ)) : Type 0 where
   pub replayed : replay (at_first (unless_fresh fresh contents first))
       (all_events entries log failed good)

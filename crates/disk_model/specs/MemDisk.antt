@@ -1,4 +1,5 @@
 -- A disk in memory, as contracts see it, and what it tells.
+-- Source: none.
 use Rattle.std.specs.Prelude.{◌≡◌, ◌↔◌, true, ℕ, ◌+◌, List, [], ◌∷◌, length}
 use Rattle.std.specs.Prelude.{Option, Some, None, is_some, unwrap_or, Result, IsErr, IsTrue}
 use Rattle.std.specs.Prelude.{filter, nat_lt, ◌==◌, if◌then◌else◌}

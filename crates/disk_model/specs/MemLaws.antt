@@ -1,4 +1,5 @@
 -- What a disk in memory tells keeps to the laws of a disk.
+-- Source: none.
 use Rattle.std.proofs.Common.{◌≡◌, ℕ, ◌<◌, true, List, arith, subst, refl}
 use Rattle.std.specs.Prelude.{Some, None, All, length, ◌==◌, nat_lt}
 use Rattle.std.proofs.lemmas.Bool.{cond_both, ltb-true}
@@ -36,6 +37,7 @@ told_ahead plan cuts is =
     none_is : {A : Type 0} → None ≡ Some cuts → A
     none_is e = cc
 
+-- what a disk in memory tells keeps to the laws
 pub mem_lawful : (disk : MemView) → IsLawful (view_of disk)
 mem_lawful disk = record {
   counts_now = λ t c le image. now_counts disk.past.first disk.past.events disk.base t c le image;

@@ -1,4 +1,5 @@
 -- What a file of the system does, which may read or write a part of what it is asked.
+-- Source: none.
 -- Our own choice: a call that succeeds has read or written at least one byte, the first ones.
 use Rattle.std.specs.Prelude.{◌≡◌, ℕ, ◌+◌, ◌^◌, ◌<◌, ◌≤◌, max, false, List, length, slice_index}
 use Rattle.std.specs.Prelude.{None, Result}

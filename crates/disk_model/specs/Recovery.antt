@@ -1,4 +1,5 @@
 -- What a disk in memory holds after the power came back, by the pick of the cut.
+-- Source: none.
 -- Our own choice: four picks. 0 leaves what was synced, 1 every range in place, 2 every range
 -- spoiled by the byte A5, 3 the first half of every range.
 use Rattle.std.specs.Prelude.{◌≡◌, ℕ, zero, suc, ◌+◌, ◌/◌, ◌<◌, max, nat_lt, List, [], ◌∷◌, length}

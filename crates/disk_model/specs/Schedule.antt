@@ -1,4 +1,5 @@
 -- In which changing calls a disk in memory fails, and when its power is cut.
+-- Source: none.
 -- Our own choice: changing calls are counted from 1 on while the power is on, and a count that has
 -- reached its last value stays there. A cut fires in the call of its number. A number in the list
 -- of failing calls makes that call fail while the power stays on.

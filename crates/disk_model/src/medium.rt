@@ -5,7 +5,7 @@ ghost use Rattle.disk_model.specs.Image.{greatest_end};
 ghost use Rattle.disk_model.specs.History.{overlaid, wrote, synced, after, Past, held, Grows};
 ghost use Rattle.disk_model.specs.Recovery.{Recovered};
 ghost use Rattle.disk_model.specs.Record.{all_events, unless_fresh, IsMore, IsMiss};
-ghost use Rattle.disk_model.specs.MediumBuffers.{IsPlaced, IsKept, HasRoom};
+ghost use Rattle.disk_model.specs.MediumBuffers.{IsPlaced, AreBuffersOf, HasRoom};
 
 use crate::recovery::{keep_each, recover};
 use std::alloc::{AllocError, Global};
@@ -139,7 +139,7 @@ impl Model for Medium {
       room_writes = m.room_writes;
     } };
 
-    ghost invariant = { λ m. IsKept m.contents.items m.synced.items m.first.items m.fresh
+    ghost invariant = { λ m. AreBuffersOf m.contents.items m.synced.items m.first.items m.fresh
         m.entries.items m.log.items m.failed m.good m.ranges.items
         × HasRoom m.contents m.synced m.first m.fresh m.entries m.log m.ranges
         m.room_end m.room_writes };

@@ -17,7 +17,7 @@ use Rattle.script_actions.specs.Action.{DocumentAction, Frame, Nav, Drop, Click,
 use Rattle.reply_lines.specs.Reply.{Plain, Truth}
 use Rattle.agent_model.specs.CookieCells.{Domain}
 use Rattle.agent_model.specs.Partition.{Holdings, with_tab}
-use Rattle.agent_model.specs.Done.{Done, SharedCells, Effect, answers, ok}
+use Rattle.agent_model.specs.Effects.{Done, SharedCells, Effect, answers, ok}
 use Rattle.agent_model.specs.Documents.{Keyed, by_document, by_key, with_document, with_key}
 use Rattle.agent_model.specs.AreaActions.{clear_area, get_item, get_length, get_name, remove_item, set_item}
 use Rattle.agent_model.specs.Buckets.{get_mode, get_usage, persist}

@@ -16,7 +16,7 @@ use Rattle.storage_events.specs.Event.{PlainEvent}
 use Rattle.reply_lines.specs.Reply.{Plain}
 use Rattle.agent_model.specs.CookieCells.{Domain}
 use Rattle.agent_model.specs.Partition.{Holdings, with_area}
-use Rattle.agent_model.specs.Done.{SharedCells, answers, changes_to, ok}
+use Rattle.agent_model.specs.Effects.{SharedCells, answers, changes_to, ok}
 use Rattle.agent_model.specs.Changes.{changes_of_write}
 use Rattle.agent_model.specs.Documents.{Keyed, told}
 use Rattle.agent_model.specs.AreaActions.{change_event, clear_area, pairs_of, remove_by, remove_item, set_by, set_item, write}

@@ -9,7 +9,7 @@ use Rattle.script_actions.specs.declared.words.Prompt.{Prompt}
 use Rattle.reply_lines.specs.Reply.{Plain, Truth}
 use Rattle.agent_model.specs.CookieCells.{Domain}
 use Rattle.agent_model.specs.Partition.{Holdings}
-use Rattle.agent_model.specs.Done.{SharedCells, answers}
+use Rattle.agent_model.specs.Effects.{SharedCells, answers}
 use Rattle.agent_model.specs.Documents.{Keyed}
 use Rattle.agent_model.specs.Buckets.{is_grant, is_persistent, made_persistent, persist, persist_by}
 use Rattle.durable_model.proofs.FollowsLemmas.{DoneFollows, IsOnce, one_follows, rows_of, stays}

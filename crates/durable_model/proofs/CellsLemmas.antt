@@ -7,7 +7,7 @@ use Rattle.std.specs.FinMap.{FinMap, IsAntisymmetric, entries, find, get-entries
 use Rattle.unwinding.specs.FiniteCells.{Full, list_of, get_cell, set_cell}
 use Rattle.unwinding.proofs.FiniteCellsLemmas.{get_set, same_cells}
 use Rattle.stored_cookie.specs.StoredCookie.{PlainCookie}
-use Rattle.cookie_jar.specs.Persistent.{kept}
+use Rattle.cookie_jar.specs.Persistent.{persistent_part}
 use Rattle.agent_model.specs.CookieCells.{Cookies}
 use Rattle.agent_model.specs.PartitionedCells.{PartitionedCells, PartitionedKey, no_partitioned_cells, partitioned_order}
 use Rattle.agent_model.proofs.KeptLemmas.{tied}
@@ -50,37 +50,37 @@ pub get_none : (key : PartitionedKey) → get_cell partitioned_order no_partitio
 unfolding get_cell no_partitioned_cells
 get_none key = ap list_of (get-empty partitioned_order key)
 
-kept_found : (es : List (PartitionedKey × Full PlainCookie)) (key : PartitionedKey) → get_cell partitioned_order (kept_entries es) key ≡ kept (list_of (find partitioned_order key es))
+kept_found : (es : List (PartitionedKey × Full PlainCookie)) (key : PartitionedKey) → get_cell partitioned_order (kept_entries es) key ≡ persistent_part (list_of (find partitioned_order key es))
 kept_found [] key = get_none key
 kept_found (e ∷ es) key =
-    get_set partitioned_order partitioned_order_total partitioned_order_same key e.0 (kept (e.1.first ∷ e.1.rest)) (kept_entries es)
+    get_set partitioned_order partitioned_order_total partitioned_order_same key e.0 (persistent_part (e.1.first ∷ e.1.rest)) (kept_entries es)
     ∙ at (eq_by_cmp partitioned_order key e.0) (kept_found es key)
   where
-    at : (b : Bool) → get_cell partitioned_order (kept_entries es) key ≡ kept (list_of (find partitioned_order key es))
-        → cond b (kept (e.1.first ∷ e.1.rest)) (get_cell partitioned_order (kept_entries es) key)
-        ≡ kept (list_of (cond b (Some e.1) (find partitioned_order key es)))
+    at : (b : Bool) → get_cell partitioned_order (kept_entries es) key ≡ persistent_part (list_of (find partitioned_order key es))
+        → cond b (persistent_part (e.1.first ∷ e.1.rest)) (get_cell partitioned_order (kept_entries es) key)
+        ≡ persistent_part (list_of (cond b (Some e.1) (find partitioned_order key es)))
     at true later = refl
     at false later = later
 
 -- what is kept of cells has what is kept of each
-pub get_kept : (m : PartitionedCells) (key : PartitionedKey) → get_cell partitioned_order (kept_cells m) key ≡ kept (get_cell partitioned_order m key)
+pub get_kept : (m : PartitionedCells) (key : PartitionedKey) → get_cell partitioned_order (kept_cells m) key ≡ persistent_part (get_cell partitioned_order m key)
 unfolding get_cell
-get_kept m key = kept_found (entries m) key ∙ ap (λ found. kept (list_of found)) (sym (get-entries m key))
+get_kept m key = kept_found (entries m) key ∙ ap (λ found. persistent_part (list_of found)) (sym (get-entries m key))
 
 -- and of a cell that is set
-pub kept_set : (key : PartitionedKey) (cookies : Cookies) (m : PartitionedCells) → kept_cells (set_cell partitioned_order key cookies m) ≡ set_cell partitioned_order key (kept cookies) (kept_cells m)
+pub kept_set : (key : PartitionedKey) (cookies : Cookies) (m : PartitionedCells) → kept_cells (set_cell partitioned_order key cookies m) ≡ set_cell partitioned_order key (persistent_part cookies) (kept_cells m)
 kept_set key cookies m =
     same_cells partitioned_order partitioned_order_total partitioned_order_same _ _
     (λ q.
     get_kept (set_cell partitioned_order key cookies m) q
-    ∙ ap kept (get_set partitioned_order partitioned_order_total partitioned_order_same q key cookies m)
+    ∙ ap persistent_part (get_set partitioned_order partitioned_order_total partitioned_order_same q key cookies m)
     ∙ at q (eq_by_cmp partitioned_order q key)
-    ∙ sym (get_set partitioned_order partitioned_order_total partitioned_order_same q key (kept cookies) (kept_cells m)))
+    ∙ sym (get_set partitioned_order partitioned_order_total partitioned_order_same q key (persistent_part cookies) (kept_cells m)))
   where
-    at : (q : PartitionedKey) (b : Bool) → kept (cond b cookies (get_cell partitioned_order m q)) ≡ cond b (kept cookies) (get_cell partitioned_order (kept_cells m) q)
+    at : (q : PartitionedKey) (b : Bool) → persistent_part (cond b cookies (get_cell partitioned_order m q)) ≡ cond b (persistent_part cookies) (get_cell partitioned_order (kept_cells m) q)
     at q true = refl
     at q false = sym (get_kept m q)
 
 -- what cells keep that have kept cookies alone is all that they have
-pub kept_all : (m : PartitionedCells) → ((key : PartitionedKey) → kept (get_cell partitioned_order m key) ≡ get_cell partitioned_order m key) → kept_cells m ≡ m
+pub kept_all : (m : PartitionedCells) → ((key : PartitionedKey) → persistent_part (get_cell partitioned_order m key) ≡ get_cell partitioned_order m key) → kept_cells m ≡ m
 kept_all m alike = same_cells partitioned_order partitioned_order_total partitioned_order_same _ _ (λ key. get_kept m key ∙ alike key)

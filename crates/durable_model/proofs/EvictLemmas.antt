@@ -19,7 +19,7 @@ use Rattle.storage_key.proofs.OrderLemmas.{key_order_total, key_order_same}
 use Rattle.local_area.specs.Area.{Pair}
 use Rattle.row_changes.specs.Change.{PlainChange, AreaClear}
 use Rattle.agent_model.specs.Partition.{Areas, Holdings, is_under}
-use Rattle.agent_model.specs.Done.{SharedCells}
+use Rattle.agent_model.specs.Effects.{SharedCells}
 use Rattle.agent_model.specs.Changes.{by_text}
 use Rattle.agent_model.specs.Buckets.{areas_left, areas_taken, evict, is_evicted, is_persistent}
 use Rattle.agent_model.proofs.KeptLemmas.{kept_cell, kept_pass, tied}

@@ -7,7 +7,7 @@ use Rattle.unwinding.specs.Durable.{cell_changes, partition_changes}
 use Rattle.unwinding.specs.Facts.{DurableFacts, Facts, KeepingFacts}
 use Rattle.suffix_list.specs.Suffix.{Rule}
 use Rattle.origin_site.specs.Site.{PlainSite, same_plain_site}
-use Rattle.cookie_jar.specs.Persistent.{kept}
+use Rattle.cookie_jar.specs.Persistent.{persistent_part}
 use Rattle.script_actions.specs.Action.{PlainAction}
 use Rattle.row_changes.specs.Change.{PlainChange}
 use Rattle.agent_model.specs.CookieCells.{Cookies, Domain, domain_order}
@@ -75,14 +75,14 @@ module _ (rules : List Rule) (w : AgentWorld) (l : PlainAction) (a : SiteOccurre
       cookies_are c changes cookies ∙ cookies_elsewhere names c changes cookies (sym (or_none (is_in bytes_eq c names)) ∙ out) (main_follows rules w ok l a).among
 
   new_cookies : (c : Domain) → consulted (machine rules) a.site ((after_sides (machine rules) w l).partition a.site) a.event c ≡ true
-      → cell_changes keeping c changes (kept (get_cell domain_order w.cells c))
-      ≡ kept (get_cell domain_order (outcome (machine rules) a.site ((after_sides (machine rules) w l).partition a.site) w.cells a.event).cells c)
+      → cell_changes keeping c changes (persistent_part (get_cell domain_order w.cells c))
+      ≡ persistent_part (get_cell domain_order (outcome (machine rules) a.site ((after_sides (machine rules) w l).partition a.site) w.cells a.event).cells c)
   unfolding machine
   new_cookies c is =
       let q = (after_sides (machine rules) w l).partition a.site in
       let test = consulted (machine rules) a.site q a.event in
-      cookies_are c changes (kept (get_cell domain_order w.cells c))
-      ∙ ap (λ cookies. cookies_after c changes (kept cookies)) (sym (get_restrict test w.cells c ∙ ap (λ b. cond b (get_cell domain_order w.cells c) []) is))
+      cookies_are c changes (persistent_part (get_cell domain_order w.cells c))
+      ∙ ap (λ cookies. cookies_after c changes (persistent_part cookies)) (sym (get_restrict test w.cells c ∙ ap (λ b. cond b (get_cell domain_order w.cells c) []) is))
       ∙ (main_follows rules w ok l a).cell c (sym (or_none (is_in bytes_eq c (event_names rules q a.event.event))) ∙ is)
 
   new_rows : (let q = (after_sides (machine rules) w l).partition a.site in
@@ -116,7 +116,7 @@ main_valid rules w l a d ok is =
       is.partition a.site ∙ sym (side_rows rules w l a.site ok),
       λ c there.
           is.cell c
-          ∙ ap kept (sym (get_restrict test w.cells c ∙ ap (λ b. cond b (get_cell domain_order w.cells c) []) (or_none (is_in bytes_eq c names) ∙ there))),
+          ∙ ap persistent_part (sym (get_restrict test w.cells c ∙ ap (λ b. cond b (get_cell domain_order w.cells c) []) (or_none (is_in bytes_eq c names) ∙ there))),
     )
 
 pub keeping_facts : (rules : List Rule) → KeepingFacts (machine rules) keeping IsSoundWorld IsValidState

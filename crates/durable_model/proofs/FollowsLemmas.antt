@@ -9,13 +9,13 @@ use Rattle.origin_site.proofs.SameLemmas.{same_plain_site-Decides}
 use Rattle.storage_key.specs.Context.{is_of}
 use Rattle.stored_cookie.specs.StoredCookie.{PlainCookie}
 use Rattle.cookie_jar.specs.Cookie.{copies}
-use Rattle.cookie_jar.specs.Persistent.{kept}
+use Rattle.cookie_jar.specs.Persistent.{persistent_part}
 use Rattle.row_changes.specs.Change.{PlainChange}
 use Rattle.reply_lines.specs.Reply.{PlainBody}
 use Rattle.agent_model.specs.CookieCells.{Domain, domain_order}
 use Rattle.agent_model.specs.PartitionedCells.{PartitionedCells, PartitionedKey, partitioned_order}
 use Rattle.agent_model.specs.Partition.{Holdings}
-use Rattle.agent_model.specs.Done.{Done, SharedCells, answers, changes_to}
+use Rattle.agent_model.specs.Effects.{Done, SharedCells, answers, changes_to}
 use Rattle.durable_model.specs.Saved.{Saved, SiteRows}
 use Rattle.durable_model.specs.RowEdits.{AreValid, domain_of_change, edited, is_valid, top_of_change}
 use Rattle.durable_model.specs.Keeping.{kept_cells, passes, rows_alone, rows_under}
@@ -40,7 +40,7 @@ pub record IsOnce (cells : SharedCells) (cookies : PartitionedCells) : Type 0 wh
 -- a durable state that has what was kept of a site and of these domains
 abbrev pub HasKept : PlainSite → List Domain → SharedCells → SiteRows → Saved → Type 0
 HasKept site names cells before d =
-    (rows_under site d.under ≡ before) × ((domain : Domain) → is_in bytes_eq domain names ≡ true → get_cell domain_order d.cells domain ≡ kept (get_cell domain_order cells domain))
+    (rows_under site d.under ≡ before) × ((domain : Domain) → is_in bytes_eq domain names ≡ true → get_cell domain_order d.cells domain ≡ persistent_part (get_cell domain_order cells domain))
 
 -- What row changes of an event at a site lead to, where the event consults these domains: they are
 -- under the site and of these domains alone, each is valid where it is done, and they make of what
@@ -49,7 +49,7 @@ pub record Follows (site : PlainSite) (names : List Domain) (cells : SharedCells
   pub under : AreUnder site changes
   pub among : AreAmong names changes
   pub valid : (d : Saved) → HasKept site names cells before d → AreValid d changes
-  pub cell : (domain : Domain) → is_in bytes_eq domain names ≡ true → cookies_after domain changes (kept (get_cell domain_order cells domain)) ≡ kept (get_cell domain_order left domain)
+  pub cell : (domain : Domain) → is_in bytes_eq domain names ≡ true → cookies_after domain changes (persistent_part (get_cell domain_order cells domain)) ≡ persistent_part (get_cell domain_order left domain)
   pub rows : rows_after site changes before ≡ rows_of held
   pub once : IsOnce left held.cookies
 
@@ -75,7 +75,7 @@ module _ (site : PlainSite) (names : List Domain) (cells : SharedCells) where
         under = (at_top, tt);
         among = (at_none, tt);
         valid = λ d has. (valid_here site d change here ∙ ap (λ rows. is_valid change (rows_alone rows)) has.0 ∙ valid, tt);
-        cell = λ domain is. cell_elsewhere domain change (kept (get_cell domain_order cells domain)) (ap (passes (bytes_eq domain)) apart);
+        cell = λ domain is. cell_elsewhere domain change (persistent_part (get_cell domain_order cells domain)) (ap (passes (bytes_eq domain)) apart);
         rows = row_done site change before here valid ∙ leads;
         once = once;
       }

@@ -10,7 +10,7 @@ use Rattle.live_state.specs.Tabs.{PlainTab, made_tab}
 use Rattle.reply_lines.specs.Reply.{PlainBody, Plain}
 use Rattle.agent_model.specs.CookieCells.{Domain}
 use Rattle.agent_model.specs.Partition.{Holdings, with_tab}
-use Rattle.agent_model.specs.Done.{SharedCells}
+use Rattle.agent_model.specs.Effects.{SharedCells}
 use Rattle.agent_model.specs.StorageAccess.{decision_word, done_by, grants_requested, keeps_grant, row_of}
 use Rattle.durable_model.proofs.FollowsLemmas.{DoneFollows, IsOnce, one_follows, rows_of, stays}
 

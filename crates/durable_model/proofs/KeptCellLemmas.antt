@@ -14,7 +14,7 @@ use Rattle.partition_limits.specs.declared.tally.CellKind.{CellKind}
 use Rattle.cookie_jar.specs.Cookie.{copies}
 use Rattle.cookie_jar.specs.Key.{PlainKey as PlainCell, OwnCell, PartitionCell}
 use Rattle.cookie_jar.specs.Lifetime.{is_persistent}
-use Rattle.cookie_jar.specs.Persistent.{CookieRow, RowInsert, RowReplace, RowRemove, kept, kept_cookie, row_edit, row_fits}
+use Rattle.cookie_jar.specs.Persistent.{CookieRow, RowInsert, RowReplace, RowRemove, persistent_part, kept_cookie, row_edit, row_fits}
 use Rattle.cookie_jar.proofs.CellLemmas.{inserted_once, removed_once, replaced_once}
 use Rattle.cookie_jar.proofs.PerformLemmas.{head_at}
 use Rattle.row_changes.specs.Change.{PlainChange, AreaPut, AreaRemove, AreaClear, SetMode, CookieInsert, CookieReplace, CookieRemove, Grant}
@@ -62,7 +62,7 @@ edit_keeps kind cs (RowRemove place) valid is =
     (all_joined (take place cs) (drop (suc place) cs) front.0 back.1, λ c. removed_once cs place c below is.1 c)
 
 -- what such a cell keeps is all that it has
-pub kept_same : (cs : Cookies) → list_all is_kept_cookie cs ≡ true → kept cs ≡ cs
+pub kept_same : (cs : Cookies) → list_all is_kept_cookie cs ≡ true → persistent_part cs ≡ cs
 kept_same [] all = refl
 kept_same (c ∷ cs) all =
     let both = and_parts (is_kept_cookie c) (list_all is_kept_cookie cs) all in

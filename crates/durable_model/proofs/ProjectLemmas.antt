@@ -13,7 +13,7 @@ use Rattle.local_area.specs.Area.{Pair, area_get, area_put, area_remove, area_we
 use Rattle.partition_limits.specs.declared.tally.CellKind.TheVariants as kind
 use Rattle.cookie_jar.specs.Key.{PlainKey as PlainCell, OwnCell, PartitionCell}
 use Rattle.cookie_jar.specs.Persistent.{CookieRow, RowInsert, RowReplace, RowRemove, row_fits}
-use Rattle.access_grants.specs.Grant.{PlainGrant, kept}
+use Rattle.access_grants.specs.Grant.{PlainGrant, with_row}
 use Rattle.access_grants.proofs.PartLemmas.{kept_at}
 use Rattle.row_changes.specs.Change.{PlainChange, AreaPut, AreaRemove, AreaClear, SetMode, CookieInsert, CookieReplace, CookieRemove, Grant}
 use Rattle.agent_model.specs.CookieCells.{Cookies}
@@ -156,7 +156,7 @@ module _ (site : PlainSite) (d : Saved) where
   grant_seen : (row : PlainGrant) → IsSeen (Grant row)
   grant_seen row = ap (λ grants. record here { grants = grants }) (kept_at site row d.under.grants) ∙ at (same_plain_site site row.top)
     where
-      at : (b : Bool) → record here { grants = cond b (kept row here.grants) here.grants } ≡ cond b (edited (Grant row) alone).under here
+      at : (b : Bool) → record here { grants = cond b (with_row row here.grants) here.grants } ≡ cond b (edited (Grant row) alone).under here
       at true = refl
       at false = refl
 

@@ -15,7 +15,7 @@ use Rattle.script_actions.specs.Action.{DocumentAction}
 use Rattle.agent_model.specs.CookieCells.{Domain, domain_order}
 use Rattle.agent_model.specs.PartitionedCells.{PartitionedKey, partitioned_order}
 use Rattle.agent_model.specs.Partition.{Holdings, Partition, tab_named, without_tab}
-use Rattle.agent_model.specs.Done.{SharedCells, ok}
+use Rattle.agent_model.specs.Effects.{SharedCells, ok}
 use Rattle.agent_model.specs.CookieUses.{top_use}
 use Rattle.agent_model.specs.Sessions.{close, copy_sessions, show}
 use Rattle.agent_model.specs.SiteEvent.{SiteEvent, Acts, Arrives, Leaves, Copies, Closes, Evicts, SiteOutcome, TimedEvent}

@@ -15,7 +15,7 @@ use Rattle.cookie_jar.specs.declared.cause.CookieDrop.{CookieDrop}
 use Rattle.cookie_jar.specs.Drops.{dropped}
 use Rattle.cookie_jar.specs.Key.{OwnCell}
 use Rattle.cookie_jar.specs.NewCookie.{made, renewed}
-use Rattle.cookie_jar.specs.Persistent.{CookieRow, apply_rows, kept, rows_of_steps}
+use Rattle.cookie_jar.specs.Persistent.{CookieRow, apply_rows, persistent_part, rows_of_steps}
 use Rattle.cookie_jar.specs.Planned.{PlainPlan, plan_of, planned}
 use Rattle.cookie_jar.specs.Steps.{steps}
 use Rattle.cookie_jar.proofs.PlanLemmas.{planned_plan}
@@ -52,11 +52,11 @@ module _ (rules : List Rule) (now : ℕ) (how : CookieUse) where
   pub record Stores (before after : BothCells) (changes : List PlainChange) : Type 0 where
     pub under : AreUnder how.top changes
     pub among : AreAmong (consulted_by rules how) changes
-    pub valid : (d : Saved) → get_cell partitioned_order (rows_under how.top d.under).cookies key ≡ kept before.partition
-        → (uses_own how ≡ true → get_cell domain_order d.cells domain ≡ kept before.own) → AreValid d changes
-    pub own : uses_own how ≡ true → cookies_after domain changes (kept before.own) ≡ kept after.own
-    pub partition : (rows : SiteRows) → get_cell partitioned_order rows.cookies key ≡ kept before.partition
-        → rows_after how.top changes rows ≡ with_kept (kept after.partition) rows
+    pub valid : (d : Saved) → get_cell partitioned_order (rows_under how.top d.under).cookies key ≡ persistent_part before.partition
+        → (uses_own how ≡ true → get_cell domain_order d.cells domain ≡ persistent_part before.own) → AreValid d changes
+    pub own : uses_own how ≡ true → cookies_after domain changes (persistent_part before.own) ≡ persistent_part after.own
+    pub partition : (rows : SiteRows) → get_cell partitioned_order rows.cookies key ≡ persistent_part before.partition
+        → rows_after how.top changes rows ≡ with_kept (persistent_part after.partition) rows
     pub once : AreOnce after.own × AreOnce after.partition
 
   -- the same of a text that was stored
@@ -72,7 +72,7 @@ module _ (rules : List Rule) (now : ℕ) (how : CookieUse) where
 
   module _ (both : BothCells) (once : AreOnce both.own × AreOnce both.partition) where
     pub none_stores : Stores both both []
-    none_stores = record { under = tt; among = tt; valid = λ d there own. tt; own = λ uses. refl; partition = λ rows is. unchanged (kept both.partition) rows is; once = once }
+    none_stores = record { under = tt; among = tt; valid = λ d there own. tt; own = λ uses. refl; partition = λ rows is. unchanged (persistent_part both.partition) rows is; once = once }
 
     -- a text with a name and a value of few bytes
     module _ (text : CookieText) (small : length text.name + length text.value ≤ 4096) where
@@ -94,9 +94,9 @@ module _ (rules : List Rule) (now : ℕ) (how : CookieUse) where
                 (subst (λ cookies. AreFitting kind.Own cookies changed) (sym (own uses))
                 (rows_fit kind.Own (pos now) (new both.own) both.own (small_pair kind.Own (new both.own) small) once.0));
             own = λ is.
-                own_all domain changed (kept both.own) (puts_steps (new both.own) (steps kind.Own (pos now) (new both.own) both.own))
+                own_all domain changed (persistent_part both.own) (puts_steps (new both.own) (steps kind.Own (pos now) (new both.own) both.own))
                 ∙ valid_rows kind.Own (pos now) (new both.own) both.own (small_pair kind.Own (new both.own) small) once.0;
-            partition = λ rows is. own_unseen how.top domain changed rows ∙ unchanged (kept both.partition) rows is;
+            partition = λ rows is. own_unseen how.top domain changed rows ∙ unchanged (persistent_part both.partition) rows is;
             once = (stays_once kind.Own (pos now) (new both.own) both.own once.0, once.1);
           }
         where
@@ -113,7 +113,7 @@ module _ (rules : List Rule) (now : ℕ) (how : CookieUse) where
                 cell_valid (partition_cell rules how) changed d (puts_steps (new both.partition) (steps kind.Partition (pos now) (new both.partition) both.partition))
                 (subst (λ cookies. AreFitting kind.Partition cookies changed) (sym there ∙ cookies_here how.top d key ((same_plain_site-Decides how.top how.top).1 refl))
                 (rows_fit kind.Partition (pos now) (new both.partition) both.partition (small_pair kind.Partition (new both.partition) small) once.1));
-            own = λ uses. cookies_elsewhere [] domain (all_in (partition_cell rules how) changed) (kept both.own) refl (in_among [] (partition_cell rules how) changed tt);
+            own = λ uses. cookies_elsewhere [] domain (all_in (partition_cell rules how) changed) (persistent_part both.own) refl (in_among [] (partition_cell rules how) changed tt);
             partition = λ rows is.
                 partition_all how.top how.context.bit domain changed rows (puts_steps (new both.partition) (steps kind.Partition (pos now) (new both.partition) both.partition))
                 ∙ ap (λ found. with_kept (apply_rows kind.Partition found changed) rows) is
@@ -174,13 +174,13 @@ module _ (rules : List Rule) (now : ℕ) (how : CookieUse) where
             valid_append d first more (one.valid d there own)
             (two.valid (after_changes d first)
             (ap (λ rows. get_cell partitioned_order rows.cookies key) (rows_left how.top first d ∙ one.partition (rows_under how.top d.under) there)
-            ∙ get_own partitioned_order partitioned_order_total partitioned_order_same key (kept between.partition) (rows_under how.top d.under).cookies)
+            ∙ get_own partitioned_order partitioned_order_total partitioned_order_same key (persistent_part between.partition) (rows_under how.top d.under).cookies)
             (λ uses. cookies_left domain first d ∙ ap (cookies_after domain first) (own uses) ∙ one.own uses));
-        own = λ uses. cookies_append domain first more (kept before.own) ∙ ap (cookies_after domain more) (one.own uses) ∙ two.own uses;
+        own = λ uses. cookies_append domain first more (persistent_part before.own) ∙ ap (cookies_after domain more) (one.own uses) ∙ two.own uses;
         partition = λ rows is.
             rows_append how.top first more rows ∙ ap (rows_after how.top more) (one.partition rows is)
-            ∙ two.partition (with_kept (kept between.partition) rows) (get_own partitioned_order partitioned_order_total partitioned_order_same key (kept between.partition) rows.cookies)
-            ∙ ap (λ cells. record rows { cookies = cells }) (set_twice partitioned_order partitioned_order_total partitioned_order_same key (kept between.partition) (kept after.partition) rows.cookies);
+            ∙ two.partition (with_kept (persistent_part between.partition) rows) (get_own partitioned_order partitioned_order_total partitioned_order_same key (persistent_part between.partition) rows.cookies)
+            ∙ ap (λ cells. record rows { cookies = cells }) (set_twice partitioned_order partitioned_order_total partitioned_order_same key (persistent_part between.partition) (persistent_part after.partition) rows.cookies);
         once = two.once;
       }
 

@@ -9,7 +9,7 @@ use Rattle.unwinding.specs.World.{is_in}
 use Rattle.unwinding.proofs.FiniteCellsLemmas as cells_of
 use Rattle.suffix_list.specs.Suffix.{Rule}
 use Rattle.cookie_jar.specs.Cookie.{copies}
-use Rattle.cookie_jar.specs.Persistent.{kept}
+use Rattle.cookie_jar.specs.Persistent.{persistent_part}
 use Rattle.cookie_jar.proofs.MarkLemmas.{kept_marked, marked_copies}
 use Rattle.row_changes.specs.Change.{PlainChange}
 use Rattle.script_actions.specs.Action.{HeadField}
@@ -17,7 +17,7 @@ use Rattle.reply_lines.specs.Reply.{PlainBody, Load, SetOne}
 use Rattle.agent_model.specs.CookieCells.{Cookies, Domain, domain_order}
 use Rattle.agent_model.specs.PartitionedCells.{PartitionedKey, partitioned_order}
 use Rattle.agent_model.specs.Partition.{Holdings}
-use Rattle.agent_model.specs.Done.{SharedCells}
+use Rattle.agent_model.specs.Effects.{SharedCells}
 use Rattle.agent_model.specs.CookieStore.{BothCells, both_marked, cookie_texts, header_text, own_places, partition_places, sent, store_text, store_texts}
 use Rattle.agent_model.specs.CookieUse.{CookieUse, consulted_by, cookie_domain, key_of, uses_own}
 use Rattle.agent_model.specs.Cookies.{both_found, leaves, request, set_cookie_by}
@@ -54,7 +54,7 @@ module _ (rules : List Rule) (now : ℕ) (how : CookieUse) (cells : SharedCells)
   )
 
   -- what both cells are left with is held and kept
-  leaves_follow : (before after : BothCells) (changes : List PlainChange) (body : PlainBody) → kept before.own ≡ kept found.own → kept before.partition ≡ kept found.partition
+  leaves_follow : (before after : BothCells) (changes : List PlainChange) (body : PlainBody) → persistent_part before.own ≡ persistent_part found.own → persistent_part before.partition ≡ persistent_part found.partition
       → Stores rules now how before after changes → DoneFollows how.top (consulted_by rules how) cells (rows_of held) (leaves rules how after changes body cells held)
   leaves_follow before after changes body same_own same_partition stores =
       record {
@@ -86,21 +86,21 @@ module _ (rules : List Rule) (now : ℕ) (how : CookieUse) (cells : SharedCells)
       own_once false d = once.own d
 
       -- the cell of its own domain, where it uses that
-      kept_own : uses_own how ≡ true → kept (get_cell domain_order cells domain) ≡ kept before.own
-      kept_own uses = sym (same_own ∙ ap (λ b. kept (cond b (get_cell domain_order cells domain) [])) uses)
+      kept_own : uses_own how ≡ true → persistent_part (get_cell domain_order cells domain) ≡ persistent_part before.own
+      kept_own uses = sym (same_own ∙ ap (λ b. persistent_part (cond b (get_cell domain_order cells domain) [])) uses)
 
       cell_own : (b : Bool) → uses_own how ≡ true → (c : Domain) → bytes_eq c domain ≡ b → cond b true false ≡ true
-          → cookies_after c changes (kept (get_cell domain_order cells c)) ≡ kept (get_cell domain_order (set_cell domain_order domain after.own cells) c)
+          → cookies_after c changes (persistent_part (get_cell domain_order cells c)) ≡ persistent_part (get_cell domain_order (set_cell domain_order domain after.own cells) c)
       cell_own true uses c tie is =
-          subst (λ d. cookies_after d changes (kept (get_cell domain_order cells d)) ≡ kept (get_cell domain_order (set_cell domain_order domain after.own cells) d))
+          subst (λ d. cookies_after d changes (persistent_part (get_cell domain_order cells d)) ≡ persistent_part (get_cell domain_order (set_cell domain_order domain after.own cells) d))
           (sym ((bytes_eq-Decides c domain).0 tie))
           (ap (cookies_after domain changes) (kept_own uses)
           ∙ stores.own uses
-          ∙ ap kept (sym (get_set domain domain after.own cells ∙ ap (λ b. cond b after.own (get_cell domain_order cells domain)) ((bytes_eq-Decides domain domain).1 refl))))
+          ∙ ap persistent_part (sym (get_set domain domain after.own cells ∙ ap (λ b. cond b after.own (get_cell domain_order cells domain)) ((bytes_eq-Decides domain domain).1 refl))))
       cell_own false uses c tie is = absurd (true≢false (sym is))
 
       cell_by : (b : Bool) → uses_own how ≡ b → (c : Domain) → is_in bytes_eq c (cond b (domain ∷ []) []) ≡ true
-          → cookies_after c changes (kept (get_cell domain_order cells c)) ≡ kept (get_cell domain_order (cond b (set_cell domain_order domain after.own cells) cells) c)
+          → cookies_after c changes (persistent_part (get_cell domain_order cells c)) ≡ persistent_part (get_cell domain_order (cond b (set_cell domain_order domain after.own cells) cells) c)
       cell_by true uses c is = cell_own (bytes_eq c domain) uses c refl is
       cell_by false uses c is = absurd (true≢false (sym is))
 

@@ -11,7 +11,7 @@ use Rattle.cookie_jar.specs.Cookie.{copies}
 use Rattle.script_actions.specs.Action.{PlainAction, Tick, Open, Close, Go, Evict, Act}
 use Rattle.agent_model.specs.CookieCells.{Domain, domain_order}
 use Rattle.agent_model.specs.Partition.{Partition}
-use Rattle.agent_model.specs.Done.{SharedCells}
+use Rattle.agent_model.specs.Effects.{SharedCells}
 use Rattle.agent_model.specs.SiteEvent.{Acts, Closes, Copies, Leaves, TimedEvent}
 use Rattle.agent_model.specs.Lines.{AgentWorld, SiteOccurrence, Starter, going, main_event, occurs, opener_of, opening, site_at, timed}
 use Rattle.agent_model.specs.Rest.{rest_after}

@@ -9,26 +9,27 @@ use Rattle.unwinding.specs.FiniteCells.{Full, get_cell, set_cell, restrict_cells
 use Rattle.origin_site.specs.Site.{PlainSite}
 use Rattle.storage_key.specs.Context.{is_of}
 use Rattle.stored_cookie.specs.StoredCookie.{PlainCookie}
-use Rattle.cookie_jar.specs.Persistent.{kept}
-use Rattle.access_grants.specs.Part.{grants_under}
+use Rattle.cookie_jar.specs.Persistent.{persistent_part}
+use Rattle.access_grants.specs.UnderSite.{grants_under}
 use Rattle.row_changes.specs.Change.{PlainChange}
 use Rattle.agent_model.specs.CookieCells.{CookieCells, Cookies, Domain, domain_order, no_cookies}
 use Rattle.agent_model.specs.PartitionedCells.{PartitionedCells, PartitionedKey}
 use Rattle.agent_model.specs.PartitionedCells.{no_partitioned_cells, partitioned_order}
 use Rattle.agent_model.specs.Partition.{Partition, is_cell_under, is_under, no_holdings}
-use Rattle.agent_model.specs.Done.{SharedCells}
+use Rattle.agent_model.specs.Effects.{SharedCells}
 use Rattle.agent_model.specs.Lines.{Rest, no_places}
 use Rattle.durable_model.specs.Saved.{SiteRows, Saved, no_rows}
 use Rattle.durable_model.specs.RowEdits.{after_change, domain_of_change, top_of_change}
 
 -- ---- what is kept
 
--- cells with what outlives a restart of their cookies
+-- cells of these entries, with what outlives a restart of their cookies
 abbrev pub kept_entries : List (PartitionedKey × Full PlainCookie) → PartitionedCells
 kept_entries [] = no_partitioned_cells
 kept_entries (e ∷ es) =
-    set_cell partitioned_order e.0 (kept (e.1.first ∷ e.1.rest)) (kept_entries es)
+    set_cell partitioned_order e.0 (persistent_part (e.1.first ∷ e.1.rest)) (kept_entries es)
 
+-- the same of all entries of cells
 abbrev pub kept_cells : PartitionedCells → PartitionedCells
 kept_cells cells = kept_entries (finite.entries cells)
 
@@ -57,10 +58,11 @@ partition_again site rows =
 
 -- ---- row changes of a part
 
--- a durable state with the rows of one site alone, and one with unpartitioned cells alone
+-- a durable state with the rows of one site alone
 abbrev pub rows_alone : SiteRows → Saved
 rows_alone rows = record { under = rows; cells = no_cookies }
 
+-- a durable state with unpartitioned cells alone
 abbrev pub cells_alone : CookieCells → Saved
 cells_alone cells = record { under = no_rows; cells = cells }
 
@@ -89,13 +91,14 @@ cell_changed domain change cookies =
 
 -- ---- the record that the general law takes
 
+-- what is kept of a world, and how row changes change it
 unfoldable pub keeping :
     Keeping PlainSite Domain SharedCells Partition Cookies Rest PlainChange SiteRows Cookies
     CookieCells
 keeping =
     record {
       partition_kept = rows_kept;
-      cell_kept = λ domain cookies. kept cookies;
+      cell_kept = λ domain cookies. persistent_part cookies;
       partition_again = partition_again;
       cell_again = λ domain cookies. cookies;
       rest_again = λ rest. record { now = rest.now; places = no_places };
@@ -119,9 +122,10 @@ rows_under site rows =
       grants = grants_under site rows.grants;
     }
 
--- a durable state as the general law has it: a part for each site, and the unpartitioned cells
+-- durable states as the general law has them: a part for each site, and the unpartitioned cells
 abbrev pub AgentDurable : Type 0
 AgentDurable = Durable PlainSite SiteRows CookieCells
 
+-- a durable state as the general law has it
 abbrev pub durable_of : Saved → AgentDurable
 durable_of d = record { partition = λ site. rows_under site d.under; cells = d.cells }

@@ -12,7 +12,7 @@ use Rattle.script_actions.specs.Action.{PlainAction}
 use Rattle.row_changes.specs.Change.{PlainChange}
 use Rattle.agent_model.specs.CookieCells.{CookieCells, Cookies, Domain}
 use Rattle.agent_model.specs.Partition.{Partition}
-use Rattle.agent_model.specs.Done.{SharedCells}
+use Rattle.agent_model.specs.Effects.{SharedCells}
 use Rattle.agent_model.specs.SiteEvent.{Answer, TimedEvent}
 use Rattle.agent_model.specs.Lines.{AgentWorld, Rest}
 use Rattle.agent_model.specs.TheMachine.{machine}

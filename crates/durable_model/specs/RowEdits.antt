@@ -13,7 +13,7 @@ use Rattle.local_area.specs.Area.{area_get, area_put, area_remove, area_weight, 
 use Rattle.cookie_jar.specs.Key.{PlainKey as PlainCell, OwnCell, PartitionCell}
 use Rattle.cookie_jar.specs.Persistent.{CookieRow, RowInsert, RowReplace, RowRemove, row_edit}
 use Rattle.cookie_jar.specs.Persistent.{row_fits}
-use Rattle.access_grants.specs.Grant.{kept}
+use Rattle.access_grants.specs.Grant.{with_row}
 use Rattle.row_changes.specs.Change.{PlainChange, AreaPut, AreaRemove, AreaClear, SetMode}
 use Rattle.row_changes.specs.Change.{CookieInsert, CookieReplace, CookieRemove, Grant}
 use Rattle.agent_model.specs.CookieCells.{Domain}
@@ -65,7 +65,7 @@ edited (CookieInsert cell place cookie) d = edited_in cell (RowInsert place cook
 edited (CookieReplace cell place cookie) d = edited_in cell (RowReplace place cookie) d
 edited (CookieRemove cell place) d = edited_in cell (RowRemove place) d
 edited (Grant row) d =
-    record d { under = record (d.under) { grants = kept row d.under.grants } }
+    record d { under = record (d.under) { grants = with_row row d.under.grants } }
 
 -- the state after a row change, which leaves it where it is not valid
 abbrev pub after_change : Saved → PlainChange → Saved

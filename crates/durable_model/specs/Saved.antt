@@ -35,7 +35,7 @@ pub record Saved : Type 0 where
   pub under : SiteRows
   pub cells : CookieCells
 
--- nothing is durable
+-- nothing is durable of a site
 unfoldable pub no_rows : SiteRows
 no_rows =
     record {
@@ -45,6 +45,7 @@ no_rows =
       grants = [];
     }
 
+-- nothing is durable
 unfoldable pub nothing_saved : Saved
 nothing_saved = record { under = no_rows; cells = no_cookies }
 

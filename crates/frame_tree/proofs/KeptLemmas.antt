@@ -7,7 +7,7 @@ use Rattle.std.proofs.lemmas.List.Elements.{All-cons, All-head, All-map, All-nil
 use Rattle.std.proofs.lemmas.Simd.{map-map}
 use Rattle.storage_key.specs.Key.{own_bit, storage_key}
 use Rattle.frame_tree.specs.Document.{PlainDocument}
-use Rattle.frame_tree.specs.Kept.{IsKept, KeptFrame, kept_frame, kept_with}
+use Rattle.frame_tree.specs.Kept.{KeepsChain, KeptFrame, kept_frame, kept_with}
 use Rattle.frame_tree.specs.Keys.{sites}
 use Rattle.frame_tree.specs.Plain.{plain_frame}
 use Rattle.frame_tree.specs.Tree.{PlainFrame, chain_of, has_frame, with_next}
@@ -17,7 +17,7 @@ use Rattle.frame_tree.proofs.ShapeLemmas.{flip_apart, or_none}
 
 -- what is kept stays where the sites of the chain and the origin do
 kept_same : (fs gs : List PlainFrame) (k l : KeptFrame) → sites (chain_of l.plain.frame gs) ≡ sites (chain_of k.plain.frame fs)
-    → l.bit ≡ k.bit → l.key ≡ k.key → l.plain.document.origin ≡ k.plain.document.origin → IsKept fs k → IsKept gs l
+    → l.bit ≡ k.bit → l.key ≡ k.key → l.plain.document.origin ≡ k.plain.document.origin → KeepsChain fs k → KeepsChain gs l
 kept_same fs gs k l chain bit key origin is = record {
   bit = bit ∙ is.bit ∙ ap own_bit (sym chain);
   key = key ∙ is.key
@@ -96,10 +96,10 @@ plain-where counts next k = at (counts k.plain.frame)
 
 -- what is kept after such a change
 pub kept-marked : (counts : ℕ → Bool) (next : PlainDocument → PlainDocument) → KeepsOrigin next → (fs : List PlainFrame) (ks : List KeptFrame)
-    → All (IsKept fs) ks → All (IsKept (map (next_where counts next) fs)) (map (kept_where counts next) ks)
+    → All (KeepsChain fs) ks → All (KeepsChain (map (next_where counts next) fs)) (map (kept_where counts next) ks)
 kept-marked counts next same fs ks all =
-    All-map (IsKept gs) (kept_where counts next) ks
-    (All-weaker (IsKept fs) (λ k. IsKept gs (kept_where counts next k)) (λ k is. each (counts k.plain.frame) k is) ks all)
+    All-map (KeepsChain gs) (kept_where counts next) ks
+    (All-weaker (KeepsChain fs) (λ k. KeepsChain gs (kept_where counts next k)) (λ k is. each (counts k.plain.frame) k is) ks all)
   where
     keeps : KeepsPlace (next_where counts next)
     keeps = keeps-place counts next same
@@ -110,36 +110,36 @@ kept-marked counts next same fs ks all =
     chains : (n : ℕ) → sites (chain_of n (map (next_where counts next) fs)) ≡ sites (chain_of n fs)
     chains n = ap sites (chain-of-map (next_where counts next) keeps.place n fs) ∙ sites_map (next_where counts next) keeps.site (chain_of n fs)
 
-    each : (b : Bool) (k : KeptFrame) → IsKept fs k → IsKept (map (next_where counts next) fs) (cond b (kept_with next k) k)
+    each : (b : Bool) (k : KeptFrame) → KeepsChain fs k → KeepsChain (map (next_where counts next) fs) (cond b (kept_with next k) k)
     each true k is = kept_same fs gs k (kept_with next k) (chains k.plain.frame) refl refl (same.origin k.plain.document) is
     each false k is = kept_same fs gs k k (chains k.plain.frame) refl refl refl is
 
 -- what is kept where some frames go
 pub kept-filtered : (stays : ℕ → Bool) (fs gs : List PlainFrame) → ((n : ℕ) → stays n ≡ true → chain_of n gs ≡ chain_of n fs)
-    → (xs : List Frame) → All (IsKept fs) (map kept_frame xs) → All (IsKept gs) (map kept_frame (filter (λ f. stays f.frame) xs))
-kept-filtered stays fs gs same [] all = All-nil (IsKept gs)
+    → (xs : List Frame) → All (KeepsChain fs) (map kept_frame xs) → All (KeepsChain gs) (map kept_frame (filter (λ f. stays f.frame) xs))
+kept-filtered stays fs gs same [] all = All-nil (KeepsChain gs)
 kept-filtered stays fs gs same (x ∷ xs) all =
-    by (stays x.frame) refl (kept-filtered stays fs gs same xs (All-tail (IsKept fs) (kept_frame x) (map kept_frame xs) all))
+    by (stays x.frame) refl (kept-filtered stays fs gs same xs (All-tail (KeepsChain fs) (kept_frame x) (map kept_frame xs) all))
   where
-    by : (b : Bool) → stays x.frame ≡ b → All (IsKept gs) (map kept_frame (filter (λ f. stays f.frame) xs))
-        → All (IsKept gs) (map kept_frame (cond b (x ∷ filter (λ f. stays f.frame) xs) (filter (λ f. stays f.frame) xs)))
+    by : (b : Bool) → stays x.frame ≡ b → All (KeepsChain gs) (map kept_frame (filter (λ f. stays f.frame) xs))
+        → All (KeepsChain gs) (map kept_frame (cond b (x ∷ filter (λ f. stays f.frame) xs) (filter (λ f. stays f.frame) xs)))
     by true is rest =
-        All-cons (IsKept gs) (kept_frame x) (map kept_frame (filter (λ f. stays f.frame) xs))
+        All-cons (KeepsChain gs) (kept_frame x) (map kept_frame (filter (λ f. stays f.frame) xs))
         (kept_same fs gs (kept_frame x) (kept_frame x) (ap sites (same x.frame is)) refl refl refl
-        (All-head (IsKept fs) (kept_frame x) (map kept_frame xs) all)) rest
+        (All-head (KeepsChain fs) (kept_frame x) (map kept_frame xs) all)) rest
     by false is rest = rest
 
 -- what is kept where a frame is added
 pub kept-more : (e : PlainFrame) (k : KeptFrame) (fs : List PlainFrame) (xs : List Frame) → has_frame e.frame (map plain_frame xs) ≡ false
-    → IsKept (fs ++ e ∷ []) k → All (IsKept fs) (map kept_frame xs) → All (IsKept (fs ++ e ∷ [])) (map kept_frame xs ++ k ∷ [])
-kept-more e k fs [] fresh own all = All-cons (IsKept (fs ++ e ∷ [])) k [] own (All-nil (IsKept (fs ++ e ∷ [])))
+    → KeepsChain (fs ++ e ∷ []) k → All (KeepsChain fs) (map kept_frame xs) → All (KeepsChain (fs ++ e ∷ [])) (map kept_frame xs ++ k ∷ [])
+kept-more e k fs [] fresh own all = All-cons (KeepsChain (fs ++ e ∷ [])) k [] own (All-nil (KeepsChain (fs ++ e ∷ [])))
 kept-more e k fs (x ∷ xs) fresh own all =
     let parts = or_none (x.frame == e.frame) (has_frame e.frame (map plain_frame xs)) fresh in
-    All-cons (IsKept (fs ++ e ∷ [])) (kept_frame x) (map kept_frame xs ++ k ∷ [])
+    All-cons (KeepsChain (fs ++ e ∷ [])) (kept_frame x) (map kept_frame xs ++ k ∷ [])
     (kept_same fs (fs ++ e ∷ []) (kept_frame x) (kept_frame x)
     (ap sites (chain-before x.frame e fs (flip_apart x.frame e.frame parts.0))) refl refl refl
-    (All-head (IsKept fs) (kept_frame x) (map kept_frame xs) all))
-    (kept-more e k fs xs parts.1 own (All-tail (IsKept fs) (kept_frame x) (map kept_frame xs) all))
+    (All-head (KeepsChain fs) (kept_frame x) (map kept_frame xs) all))
+    (kept-more e k fs xs parts.1 own (All-tail (KeepsChain fs) (kept_frame x) (map kept_frame xs) all))
 
 -- the first frame of a number has it, and what holds of every frame
 pub found : (P : Frame → Type 0) (n : ℕ) (xs : List Frame) → All P xs → IfSome (find (λ g. g.frame == n) xs) (λ f. (f.frame ≡ n) × P f)

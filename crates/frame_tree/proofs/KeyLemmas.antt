@@ -13,7 +13,7 @@ use Rattle.storage_key.specs.Plain.{plain_key}
 use Rattle.storage_key.proofs.ContextLemmas.{bit-below, bit-of-chain, first-of-chain, top-below}
 use Rattle.frame_tree.specs.Calls.{with_document, without_below}
 use Rattle.frame_tree.specs.Document.{PlainDocument}
-use Rattle.frame_tree.specs.Kept.{IsKept, IsKeptAt, KeptDocument, KeptFrame, kept_frame, kept_instead, kept_under, sites_instead}
+use Rattle.frame_tree.specs.Kept.{KeepsChain, KeepsChainAt, KeptDocument, KeptFrame, kept_frame, kept_instead, kept_under, sites_instead}
 use Rattle.frame_tree.specs.Keys.{is_first_at, key_of_document, key_of_frame, sites}
 use Rattle.frame_tree.specs.Plain.{plain_document, plain_frame}
 use Rattle.frame_tree.specs.Tree.{PlainFrame, IsTree, chain_of, document_of, has_frame, top_site, with_next}
@@ -62,7 +62,7 @@ sites_below fs f = map-append (λ g. g.document.site) fs (f ∷ [])
 -- what is made of a frame more
 pub kept-below : (site : PlainSite) (above : Bool) (e : PlainFrame) (k : KeptFrame) (fs : List PlainFrame) → IsTree fs → top_site fs ≡ Some site
     → has_frame e.parent fs ≡ true → above ≡ own_bit (sites (chain_of e.parent fs)) → k.plain ≡ e
-    → k.bit ≡ (kept_under site above e.document).bit → k.key ≡ (kept_under site above e.document).key → IsKept (fs ++ e ∷ []) k
+    → k.bit ≡ (kept_under site above e.document).bit → k.key ≡ (kept_under site above e.document).key → KeepsChain (fs ++ e ∷ []) k
 kept-below site above e k fs tree top there own plain bit key =
     let chain = sites (chain_of e.parent fs) in
     let is : top_of chain ≡ Some site = top-of-sites site e.parent fs tree top there in
@@ -76,7 +76,7 @@ kept-below site above e k fs tree top there own plain bit key =
 
 -- what is made of the top
 pub kept-top : (site : PlainSite) (k : KeptFrame) → k.plain.frame ≡ 0 → k.plain.parent ≡ 0 → k.plain.document.site ≡ Some site
-    → k.bit ≡ (kept_under site false k.plain.document).bit → k.key ≡ (kept_under site false k.plain.document).key → IsKept (k.plain ∷ []) k
+    → k.bit ≡ (kept_under site false k.plain.document).bit → k.key ≡ (kept_under site false k.plain.document).key → KeepsChain (k.plain ∷ []) k
 kept-top site k zero parent own bit key =
     let chain : List (Option PlainSite) = k.plain.document.site ∷ [] in
     let alone : sites (chain_of k.plain.frame (k.plain ∷ [])) ≡ chain =
@@ -119,7 +119,7 @@ sites-instead f fs document place low =
 -- what is made of a document in the place of another
 pub kept-at : (site : PlainSite) (above : Bool) (f : PlainFrame) (k : KeptDocument) (fs : List PlainFrame) → IsTree fs → top_site fs ≡ Some site
     → IsPlaced (reverse fs) f → (f.frame == 0) ≡ false → above ≡ own_bit (sites (chain_of f.parent fs))
-    → k ≡ kept_under site above k.plain → IsKeptAt f.frame fs k
+    → k ≡ kept_under site above k.plain → KeepsChainAt f.frame fs k
 kept-at site above f k fs tree top place low own made =
     let chain = sites (chain_of f.parent fs) in
     let is : top_of chain ≡ Some site = top-of-sites site f.parent fs tree top (sym (has-reversed f.parent fs) ∙ place.above) in
@@ -130,8 +130,8 @@ kept-at site above f k fs tree top place low own made =
     }
 
 -- where the frames below go, that stays so
-pub kept-at-left : (frame : ℕ) (k : KeptDocument) (fs : List PlainFrame) → IsTree fs → IsKeptAt frame fs k
-    → IsKeptAt frame (without_below frame fs) k
+pub kept-at-left : (frame : ℕ) (k : KeptDocument) (fs : List PlainFrame) → IsTree fs → KeepsChainAt frame fs k
+    → KeepsChainAt frame (without_below frame fs) k
 kept-at-left frame k fs tree is =
     let next = λ (d : PlainDocument). k.plain in
     let left : List PlainFrame = without_below frame fs in
@@ -147,20 +147,20 @@ kept-at-left frame k fs tree is =
 -- the others keep what they have, where that frame is on no other chain
 pub kept-put : (frame : ℕ) (made : KeptDocument) (fs : List PlainFrame) (ks : List KeptFrame)
     → All (λ k. (k.plain.frame == frame) ≡ false → on_back frame k.plain.frame (reverse fs) ≡ false) ks
-    → IsKeptAt frame fs made → All (IsKept fs) ks
-    → All (IsKept (with_document frame (λ _. made.plain) fs)) (map (λ k. if k.plain.frame == frame then kept_instead made k else k) ks)
-kept-put frame made fs [] clear own all = All-nil (IsKept (with_document frame (λ _. made.plain) fs))
+    → KeepsChainAt frame fs made → All (KeepsChain fs) ks
+    → All (KeepsChain (with_document frame (λ _. made.plain) fs)) (map (λ k. if k.plain.frame == frame then kept_instead made k else k) ks)
+kept-put frame made fs [] clear own all = All-nil (KeepsChain (with_document frame (λ _. made.plain) fs))
 kept-put frame made fs (k ∷ ks) clear own all =
-    All-cons (IsKept (with_document frame (λ _. made.plain) fs)) (if k.plain.frame == frame then kept_instead made k else k)
+    All-cons (KeepsChain (with_document frame (λ _. made.plain) fs)) (if k.plain.frame == frame then kept_instead made k else k)
     (map (λ k. if k.plain.frame == frame then kept_instead made k else k) ks)
-    (by (k.plain.frame == frame) refl (All-head (IsKept fs) k ks all)
+    (by (k.plain.frame == frame) refl (All-head (KeepsChain fs) k ks all)
     (All-head (λ k. (k.plain.frame == frame) ≡ false → on_back frame k.plain.frame (reverse fs) ≡ false) k ks clear))
     (kept-put frame made fs ks (All-tail (λ k. (k.plain.frame == frame) ≡ false → on_back frame k.plain.frame (reverse fs) ≡ false) k ks clear) own
-    (All-tail (IsKept fs) k ks all))
+    (All-tail (KeepsChain fs) k ks all))
   where
-    by : (b : Bool) → (k.plain.frame == frame) ≡ b → IsKept fs k
+    by : (b : Bool) → (k.plain.frame == frame) ≡ b → KeepsChain fs k
         → ((k.plain.frame == frame) ≡ false → on_back frame k.plain.frame (reverse fs) ≡ false)
-        → IsKept (with_document frame (λ _. made.plain) fs) (cond b (kept_instead made k) k)
+        → KeepsChain (with_document frame (λ _. made.plain) fs) (cond b (kept_instead made k) k)
     by true at is clear =
         let same : k.plain.frame ≡ frame = eqb-true k.plain.frame frame at in
         let chain : sites_instead frame fs made.plain ≡ sites (chain_of k.plain.frame (with_document frame (λ _. made.plain) fs)) =
@@ -184,12 +184,12 @@ all_of P h (x ∷ xs) all =
 
 -- what a frame that was found keeps
 kept_found : (n : ℕ) (fs : List PlainFrame) (xs : List Frame) (f : Frame) → Some f ≡ find (λ g. g.frame == n) xs
-    → All (IsKept fs) (map kept_frame xs) → (f.frame ≡ n) × IsKept fs (kept_frame f)
-kept_found n fs xs f is all = found-at (λ g. IsKept fs (kept_frame g)) n xs f is (all_of (IsKept fs) kept_frame xs all)
+    → All (KeepsChain fs) (map kept_frame xs) → (f.frame ≡ n) × KeepsChain fs (kept_frame f)
+kept_found n fs xs f is all = found-at (λ g. KeepsChain fs (kept_frame g)) n xs f is (all_of (KeepsChain fs) kept_frame xs all)
 
 -- its bit
 pub bit-found : (n : ℕ) (xs : List Frame) (f : Frame) → Some f ≡ find (λ g. g.frame == n) xs
-    → All (IsKept (map plain_frame xs)) (map kept_frame xs) → f.loaded.bit ≡ own_bit (sites (chain_of n (map plain_frame xs)))
+    → All (KeepsChain (map plain_frame xs)) (map kept_frame xs) → f.loaded.bit ≡ own_bit (sites (chain_of n (map plain_frame xs)))
 bit-found n xs f is all =
     let at = kept_found n (map plain_frame xs) xs f is all in
     at.1.bit ∙ ap (λ m. own_bit (sites (chain_of m (map plain_frame xs)))) at.0
@@ -206,7 +206,7 @@ document-found n xs o is =
 
 -- its key
 key-found : (n : ℕ) (xs : List Frame) (f : Frame) → Some f ≡ find (λ g. g.frame == n) xs
-    → All (IsKept (map plain_frame xs)) (map kept_frame xs) → (kept_frame f).key ≡ key_of_frame n (map plain_frame xs)
+    → All (KeepsChain (map plain_frame xs)) (map kept_frame xs) → (kept_frame f).key ≡ key_of_frame n (map plain_frame xs)
 key-found n xs f is all =
     let fs : List PlainFrame = map plain_frame xs in
     let at = kept_found n fs xs f is all in
@@ -218,7 +218,7 @@ key-absent n xs is = ap (option_and_then (key_of_document n (map plain_frame xs)
 
 -- the key of what was found, if anything was
 pub key-of-found : (n : ℕ) (xs : List Frame) (o : Option Frame) → o ≡ find (λ g. g.frame == n) xs
-    → All (IsKept (map plain_frame xs)) (map kept_frame xs)
+    → All (KeepsChain (map plain_frame xs)) (map kept_frame xs)
     → option_and_then (λ f. option_map plain_key f.loaded.key) o ≡ key_of_frame n (map plain_frame xs)
 key-of-found n xs None is all = key-absent n xs is
 key-of-found n xs (Some f) is all = key-found n xs f is all
@@ -242,7 +242,7 @@ there-found n xs f is = has-found n xs ∙ ap is_some (sym is)
 
 -- first party, from the bit and the tab's site
 pub first-found : (site url : PlainSite) (n : ℕ) (xs : List Frame) (f : Frame) → Some f ≡ find (λ g. g.frame == n) xs
-    → IsTree (map plain_frame xs) → top_site (map plain_frame xs) ≡ Some site → All (IsKept (map plain_frame xs)) (map kept_frame xs)
+    → IsTree (map plain_frame xs) → top_site (map plain_frame xs) ≡ Some site → All (KeepsChain (map plain_frame xs)) (map kept_frame xs)
     → (not f.loaded.bit && same_plain_site site url) ≡ is_first_at n (map plain_frame xs) url
 first-found site url n xs f is tree top all =
     let fs : List PlainFrame = map plain_frame xs in
@@ -257,7 +257,7 @@ first-absent url n xs is =
     ap (λ b. b && is_first_party (sites (chain_of n (map plain_frame xs))) url) (sym (has-found n xs ∙ ap is_some (sym is)))
 
 -- the bit of a frame that is there
-pub bit-there : (n : ℕ) (xs : List Frame) → has_frame n (map plain_frame xs) ≡ true → All (IsKept (map plain_frame xs)) (map kept_frame xs)
+pub bit-there : (n : ℕ) (xs : List Frame) → has_frame n (map plain_frame xs) ≡ true → All (KeepsChain (map plain_frame xs)) (map kept_frame xs)
     → unwrap_or (option_map (λ f. f.loaded.bit) (find (λ g. g.frame == n) xs)) true ≡ own_bit (sites (chain_of n (map plain_frame xs)))
 bit-there n xs there all = by (find (λ g. g.frame == n) xs) refl
   where
@@ -274,14 +274,14 @@ under-own site above k document is = is ∙ ap (kept_under site above) (sym (ap 
 -- what is made of a document in the place of that of a frame that was found
 pub kept-instead : (site : PlainSite) (frame : ℕ) (xs : List Frame) (f : Frame) (above : Bool) (k : KeptDocument) → frame ≢ 0
     → Some f ≡ find (λ g. g.frame == frame) xs → IsTree (map plain_frame xs) → top_site (map plain_frame xs) ≡ Some site
-    → All (IsKept (map plain_frame xs)) (map kept_frame xs)
+    → All (KeepsChain (map plain_frame xs)) (map kept_frame xs)
     → above ≡ unwrap_or (option_map (λ g. g.loaded.bit) (find (λ g. g.frame == f.parent) xs)) true
-    → k ≡ kept_under site above k.plain → IsKeptAt frame (map plain_frame xs) k
+    → k ≡ kept_under site above k.plain → KeepsChainAt frame (map plain_frame xs) k
 kept-instead site frame xs f above k low is tree top keys bit made =
     let fs : List PlainFrame = map plain_frame xs in
     let at = found-at (λ g. IsPlaced (reverse fs) (plain_frame g)) frame xs f is
     (all_of (IsPlaced (reverse fs)) plain_frame xs (placed-tree fs tree)) in
     let own : above ≡ own_bit (sites (chain_of f.parent fs)) =
     bit ∙ bit-there f.parent xs (sym (has-reversed f.parent fs) ∙ at.1.above) keys in
-    subst (λ n. IsKeptAt n fs k) at.0
+    subst (λ n. KeepsChainAt n fs k) at.0
     (kept-at site above (plain_frame f) k fs tree top at.1 (ne_eqb f.frame 0 (λ zero. low (sym at.0 ∙ zero))) own made)

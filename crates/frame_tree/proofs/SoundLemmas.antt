@@ -8,7 +8,7 @@ use Rattle.std.proofs.lemmas.List.Elements.{All-cons, All-nil}
 use Rattle.origin_site.specs.Site.{PlainSite}
 use Rattle.frame_tree.specs.Calls.{with_document}
 use Rattle.frame_tree.specs.Document.{PlainDocument}
-use Rattle.frame_tree.specs.Kept.{IsKept, IsKeptAt, IsSound, KeptDocument, KeptFrame, kept_frame, kept_instead}
+use Rattle.frame_tree.specs.Kept.{KeepsChain, KeepsChainAt, IsSound, KeptDocument, KeptFrame, kept_frame, kept_instead}
 use Rattle.frame_tree.specs.Plain.{plain_frame}
 use Rattle.frame_tree.specs.Tree.{PlainFrame, IsTree, has_frame, top_site, with_next}
 use Rattle.frame_tree.specs.declared.frames.Frame.{Frame}
@@ -46,15 +46,15 @@ module _ (counts : ℕ → Bool) (next : PlainDocument → PlainDocument) (same 
   sound-marked site sound = record {
     tree = subst IsTree (sym plain-marked)
         (tree-mark counts next (λ f top own there. ap is_some (same.site f.document) ∙ there) (map plain_frame xs) sound.tree);
-    keys = subst (λ l. All (IsKept l) (map kept_frame ys)) (sym plain-marked)
-        (subst (All (IsKept (map (next_where counts next) (map plain_frame xs)))) (sym is)
+    keys = subst (λ l. All (KeepsChain l) (map kept_frame ys)) (sym plain-marked)
+        (subst (All (KeepsChain (map (next_where counts next) (map plain_frame xs)))) (sym is)
         (kept-marked counts next same (map plain_frame xs) (map kept_frame xs) sound.keys));
     top = top-kept sound.tree ∙ sound.top;
   }
 
 -- a frame more
 pub sound-added : (site : PlainSite) (e : Frame) (xs ys : List Frame) → ys ≡ xs ++ e ∷ [] → has_frame e.frame (map plain_frame xs) ≡ false
-    → has_frame e.parent (map plain_frame xs) ≡ true → IsKept (map plain_frame xs ++ plain_frame e ∷ []) (kept_frame e)
+    → has_frame e.parent (map plain_frame xs) ≡ true → KeepsChain (map plain_frame xs ++ plain_frame e ∷ []) (kept_frame e)
     → SoundOf site xs → SoundOf site ys
 sound-added site e xs ys is fresh parent own sound =
     let fs : List PlainFrame = map plain_frame xs in
@@ -83,8 +83,8 @@ module _ (strict : Bool) (frame : ℕ) (low : frame ≢ 0) (stays : ℕ → Bool
   sound-left site sound =
       let left : List PlainFrame = filter (is_kept strict frame (reverse fs)) fs in record {
         tree = subst IsTree (sym plain-left) (tree-filter strict frame low fs sound.tree);
-        keys = subst (λ l. All (IsKept l) (map kept_frame ys)) (sym plain-left)
-            (subst (λ (zs : List Frame). All (IsKept left) (map kept_frame zs)) (sym is)
+        keys = subst (λ l. All (KeepsChain l) (map kept_frame ys)) (sym plain-left)
+            (subst (λ (zs : List Frame). All (KeepsChain left) (map kept_frame zs)) (sym is)
             (kept-filtered stays fs left (λ n own. chain-stays strict frame fs sound.tree n (sym (so n) ∙ own)) xs sound.keys));
         top = top-left sound.tree ∙ sound.top;
       }
@@ -143,13 +143,13 @@ module _ (frame : ℕ) (low : frame ≢ 0) (made : KeptDocument) (xs ys : List F
       (map plain_frame xs) tree
 
   pub sound-put : (site : PlainSite) → All (λ k. (k.plain.frame == frame) ≡ false → on_back frame k.plain.frame (reverse (map plain_frame xs)) ≡ false) (map kept_frame xs)
-      → IsKeptAt frame (map plain_frame xs) made → SoundOf site xs → SoundOf site ys
+      → KeepsChainAt frame (map plain_frame xs) made → SoundOf site xs → SoundOf site ys
   sound-put site clear own sound = record {
     tree = subst IsTree (sym plain-put)
         (tree-mark (λ n. n == frame) (λ _. made.plain) (λ f top is site. absurd (low (sym (eqb-true f.frame frame is) ∙ top)))
         (map plain_frame xs) sound.tree);
-    keys = subst (λ l. All (IsKept l) (map kept_frame ys)) (sym plain-put)
-        (subst (All (IsKept (with_document frame (λ _. made.plain) (map plain_frame xs)))) (sym is)
+    keys = subst (λ l. All (KeepsChain l) (map kept_frame ys)) (sym plain-put)
+        (subst (All (KeepsChain (with_document frame (λ _. made.plain) (map plain_frame xs)))) (sym is)
         (kept-put frame made (map plain_frame xs) (map kept_frame xs) clear own sound.keys));
     top = top-put sound.tree ∙ sound.top;
   }

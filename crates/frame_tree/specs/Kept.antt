@@ -57,7 +57,7 @@ kept_under top above document =
     }
 
 -- a frame keeps the bit and the key of its document's chain
-pub record IsKept (frames : List PlainFrame) (k : KeptFrame) : Type 0 where
+pub record KeepsChain (frames : List PlainFrame) (k : KeptFrame) : Type 0 where
   pub bit : k.bit ≡ own_bit (sites (chain_of k.plain.frame frames))
   pub key : k.key ≡ key_of_document k.plain.frame frames k.plain.document
 
@@ -65,7 +65,7 @@ pub record IsKept (frames : List PlainFrame) (k : KeptFrame) : Type 0 where
 pub record IsSound (site : PlainSite) (frames : List PlainFrame) (kept : List KeptFrame)
     : Type 0 where
   pub tree : IsTree frames
-  pub keys : All (IsKept frames) kept
+  pub keys : All (KeepsChain frames) kept
   pub top : top_site frames ≡ Some site
 
 -- the sites of a chain whose last document is another one
@@ -74,6 +74,6 @@ sites_instead frame frames document =
     sites (chain_of frame (with_document frame (λ _. document) frames))
 
 -- a document keeps the bit and the key that it has in the place of the present one of a frame
-pub record IsKeptAt (frame : ℕ) (frames : List PlainFrame) (made : KeptDocument) : Type 0 where
+pub record KeepsChainAt (frame : ℕ) (frames : List PlainFrame) (made : KeptDocument) : Type 0 where
   pub bit : made.bit ≡ own_bit (sites_instead frame frames made.plain)
   pub key : made.key ≡ storage_key (sites_instead frame frames made.plain) made.plain.origin

@@ -71,11 +71,12 @@ IsLine [] = Unit {0}
 IsLine (f ∷ []) = Unit {0}
 IsLine (f ∷ below ∷ rest) = (below.parent ≡ f.frame) × IsLine (below ∷ rest)
 
--- the number of the first frame of a list, and of the last
+-- the number of the first frame of a list
 abbrev pub first_number : List PlainFrame → Option ℕ
 first_number [] = None
 first_number (f ∷ rest) = Some f.frame
 
+-- the number of the last one
 abbrev pub last_number : List PlainFrame → Option ℕ
 last_number [] = None
 last_number (f ∷ []) = Some f.frame

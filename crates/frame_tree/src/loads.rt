@@ -3,7 +3,7 @@ ghost use Rattle.std.specs.Prelude.{◌≡◌, ◌≢◌, ◌++◌, ◌∷◌, [
 ghost use Rattle.agent_base.specs.Answers.{Answers};
 ghost use Rattle.origin_site.specs.Plain.{plain_address};
 ghost use Rattle.frame_tree.specs.Calls.{added, navigated, with_document, without_below};
-ghost use Rattle.frame_tree.specs.Kept.{IsKept, IsKeptAt, kept_document, kept_frame};
+ghost use Rattle.frame_tree.specs.Kept.{KeepsChain, KeepsChainAt, kept_document, kept_frame};
 ghost use Rattle.frame_tree.specs.Plain.{plain_document, plain_frame, plain_sandbox};
 ghost use Rattle.frame_tree.specs.Tree.{has_frame};
 
@@ -32,7 +32,7 @@ impl Tab {
             → result ≡ Err why }
         ensures fresh { IfOk result (λ fresh. has_frame fresh.frame self.now ≡ false) }
         ensures parent { IfOk result (λ fresh. has_frame fresh.parent self.now ≡ true) }
-        ensures kept { IfOk result (λ fresh. IsKept (self.now ++ plain_frame fresh ∷ [])
+        ensures kept { IfOk result (λ fresh. KeepsChain (self.now ++ plain_frame fresh ∷ [])
             (kept_frame fresh)) }
     {
         let Some(above) = frame_of(self.frames.as_slice(), parent) else {
@@ -67,7 +67,7 @@ impl Tab {
         ensures decided { (why : TreeFault) → navigated list.now.rules frame
             (plain_address address) keep_flag self.now ≡ Err why → result ≡ Err why }
         ensures there { IfOk result (λ made. has_frame frame self.now ≡ true) }
-        ensures kept { IfOk result (λ made. IsKeptAt frame self.now (kept_document made)) }
+        ensures kept { IfOk result (λ made. KeepsChainAt frame self.now (kept_document made)) }
     {
         let Some(before) = frame_of(self.frames.as_slice(), frame) else {
             return Err(TreeFault::NoFrame);

@@ -47,30 +47,45 @@ cookie_text n value =
 abbrev pub open_line : ℕ → PlainStep
 open_line tab = Acts (Open tab (address (codes "s") (tab - 1)) None false method.Get [])
 
+-- the line that loads a tab's next document
 abbrev pub go_line : ℕ → ℕ → PlainStep
 go_line tab a = Acts (Go tab (address (codes "s") a) false method.Get [])
 
+-- the line that puts a pair into an area of a tab's top document
 abbrev pub set_line : AreaKind → ℕ → ℕ → ℕ → PlainStep
 set_line area tab a b =
     in_frame tab 0 (Set area (numbered (codes "k") a) (numbered (codes "v") b))
 
+-- the line that reads a name of the local area of a tab's top document
 abbrev pub get_line : ℕ → ℕ → PlainStep
 get_line tab a = in_frame tab 0 (Get Local (numbered (codes "k") a))
 
+-- the line that puts a frame below a tab's top document
 abbrev pub frame_line : ℕ → ℕ → PlainStep
 frame_line tab a = in_frame tab 1 (Frame 0 (address (codes "w") a) None false [])
 
+-- the line by which a tab's top document fetches an address, whose answer sets a cookie
 abbrev pub fetch_line : ℕ → ℕ → ℕ → PlainStep
 fetch_line tab a b =
     in_frame tab 0 (Fetch (address (codes "w") a) method.Get (set_cookie b ∷ []))
 
+-- the line by which a tab's top document sets a cookie
 abbrev pub setcookie_line : ℕ → ℕ → ℕ → PlainStep
 setcookie_line tab a b = in_frame tab 0 (SetCookie (cookie_text a b))
 
+-- the line that lets so many seconds pass
 abbrev pub tick_line : ℕ → PlainStep
 tick_line s = Acts (Tick s)
 
 -- ---- the day
+
+-- how many tabs a day has, from 1 on
+abbrev pub day_tabs : ℕ
+day_tabs = 20
+
+-- how many of a day's lines are drawn
+abbrev pub drawn_count : ℕ
+drawn_count = 5000
 
 -- The line of a kind, which is 0 to 7, of a tab: the row's draws from left to right, below their
 -- limits, are the numbers in the line. And the state after them.
@@ -85,27 +100,27 @@ row kind tab =
     else (if kind == 6 then one_draw 10 tick_line
     else two_draws 10 100 (set_line Session tab)))))))
 
--- a line that is drawn from a state, and the state after it: its tab from 1 to 20, its kind, and
--- the draws of its row
+-- a line that is drawn from a state, and the state after it: its tab, its kind, and the draws of
+-- its row
 unfoldable pub drawn_line : ℕ → PlainStep × ℕ
-drawn_line x = row (draw 8 (next x)) (1 + draw 20 x) (next (next x))
+drawn_line x = row (draw 8 (next x)) (1 + draw day_tabs x) (next (next x))
 
 -- so many lines, drawn one behind the other from a state
 unfoldable pub drawn_lines : ℕ → ℕ → List PlainStep
 drawn_lines zero x = []
 drawn_lines (suc n) x = (drawn_line x).0 ∷ drawn_lines n (drawn_line x).1
 
--- the tabs 1 to 20 are opened, one line each
+-- the tabs are opened, one line each
 unfoldable pub open_lines : List PlainStep
-open_lines = map open_line (range_with_len 1 20)
+open_lines = map open_line (range_with_len 1 day_tabs)
 
 -- the lines of the day of a seed
 unfoldable pub day_lines : ℕ → List PlainStep
-day_lines seed = open_lines ++ drawn_lines 5000 (first_state seed)
+day_lines seed = open_lines ++ drawn_lines drawn_count (first_state seed)
 
--- the number of a day's lines
+-- how many lines a day has
 abbrev pub day_length : ℕ
-day_length = 5020
+day_length = day_tabs + drawn_count
 
 -- the numbers of a day's lines, from this one on
 unfoldable pub numbers_from : ℕ → List ℕ

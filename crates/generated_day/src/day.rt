@@ -48,7 +48,7 @@ fn add_drawn(alloc: Global, seed: u32, lines: &mut Vec<Line>) -> Result<(), NoMe
         ++ spec.numbers_from 21 ≡ spec.numbers_from 1 }
     ensures lines { OnOk result (map (λ line. step_of line.step) lines.new.items
         ≡ map (λ line. step_of line.step) lines.old.items
-        ++ spec.drawn_lines 5000 (first_state seed)) }
+        ++ spec.drawn_lines spec.drawn_count (first_state seed)) }
     ensures numbers { OnOk result
         (map (λ line. line.number) lines.new.items ≡ spec.numbers_from 1) }
 {

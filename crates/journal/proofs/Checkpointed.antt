@@ -4,7 +4,7 @@ use Rattle.std.specs.Prelude.{Some}
 use Rattle.disk_model.specs.Disk.{View, Goes, LeavesOnly, Written}
 use Rattle.journal.specs.Append.{IsAppending}
 use Rattle.journal.specs.Store.{Frame, IsStore, Head, FramesAt, slot_bytes, other_at}
-use Rattle.journal.specs.Journal.{JournalView, Stands, IsAtRest, snapshot_frame, IsBeforeOrSnapshot}
+use Rattle.journal.specs.Journal.{JournalView, StandsInFile, IsAtRest, snapshot_frame, IsBeforeOrSnapshot}
 use Rattle.journal.specs.CheckpointParts.{IsRegion, IsApart, IsBetween, IsBlock}
 use Rattle.journal.proofs.Moments.{weaker, and_then, goes_from}
 use Rattle.journal.proofs.Committed.{region_of}
@@ -40,7 +40,7 @@ module _ (j : JournalView) (v x : View) (body block : List ℕ) (to : ℕ) (apar
       → LeavesOnly v x (IsBeforeOrSnapshot digest frames f)
 
   abbrev MomentsAt : JournalView → Type 0
-  MomentsAt i = (c : List ℕ) (frames : List Frame) → v.contents ≡ Some c → Stands i c frames → LeavesOnly v x (IsBeforeOrSnapshot i.digest frames (snapshot_frame i body))
+  MomentsAt i = (c : List ℕ) (frames : List Frame) → v.contents ≡ Some c → StandsInFile i c frames → LeavesOnly v x (IsBeforeOrSnapshot i.digest frames (snapshot_frame i body))
 
   pub checkpoint_moments : MomentsOf → MomentsAt k
   checkpoint_moments moments = subst MomentsAt same (λ c frames is s. moments c j.digest j.begin j.end frames (snapshot_frame j body) is (region_of j c frames s) apart is_block)
@@ -50,27 +50,27 @@ module _ (j : JournalView) (v x : View) (body block : List ℕ) (to : ℕ) (apar
       → (d : List ℕ) × (x.contents ≡ Some d) × Head digest d (not j.live) ((j.number + 1) % 2 ^ 64) to × FramesAt d to (f ∷ [])
 
   module _ (sw : SwitchedOf) (end room : ℕ) (shut : Bool) (ends : end ≡ to + 18 + length body) where
-    stood : (c : List ℕ) (frames : List Frame) → v.contents ≡ Some c → Stands j c frames → (d : List ℕ) × (x.contents ≡ Some d) × Stands (record j { live = not j.live; number = (j.number + 1) % 2 ^ 64; begin = to; end = end; base = j.changes; shut = shut; room = room }) d (snapshot_frame j body ∷ [])
+    stood : (c : List ℕ) (frames : List Frame) → v.contents ≡ Some c → StandsInFile j c frames → (d : List ℕ) × (x.contents ≡ Some d) × StandsInFile (record j { live = not j.live; number = (j.number + 1) % 2 ^ 64; begin = to; end = end; base = j.changes; shut = shut; room = room }) d (snapshot_frame j body ∷ [])
     stood c frames is s =
         let d = sw c j.digest j.begin j.end frames (snapshot_frame j body) is (region_of j c frames s) apart is_block in
         (d.0, d.1, record { head = d.2; from = apart.0; fits = to_fits; frames_at = d.3; sized = (is_block.last, is_block.size, tt); end = omega (arith, ends); last = refl; base = refl })
 
     abbrev StandsAfter : JournalView → Type 0
-    StandsAfter i = (c : List ℕ) (frames : List Frame) → v.contents ≡ Some c → Stands i c frames
-        → (d : List ℕ) × (x.contents ≡ Some d) × Stands (record j { live = not j.live; number = (j.number + 1) % 2 ^ 64; begin = to; end = end; base = j.changes; shut = shut; room = room }) d (snapshot_frame i body ∷ [])
+    StandsAfter i = (c : List ℕ) (frames : List Frame) → v.contents ≡ Some c → StandsInFile i c frames
+        → (d : List ℕ) × (x.contents ≡ Some d) × StandsInFile (record j { live = not j.live; number = (j.number + 1) % 2 ^ 64; begin = to; end = end; base = j.changes; shut = shut; room = room }) d (snapshot_frame i body ∷ [])
 
     pub checkpoint_stands : StandsAfter k
     checkpoint_stands = subst StandsAfter same stood
 
     -- the disk that tells then told before
     pub checkpoint_rests : IsAtRest k v → ((d : List ℕ) → x.contents ≡ Some d → (c : List ℕ) × (v.contents ≡ Some c)) → (d : List ℕ) → x.contents ≡ Some d
-        → (frames : List Frame) × Stands (record j { live = not j.live; number = (j.number + 1) % 2 ^ 64; begin = to; end = end; base = j.changes; shut = shut; room = room }) d frames
+        → (frames : List Frame) × StandsInFile (record j { live = not j.live; number = (j.number + 1) % 2 ^ 64; begin = to; end = end; base = j.changes; shut = shut; room = room }) d frames
     checkpoint_rests rest before d told =
         let was = before d told in
         let s = (subst (λ (i : JournalView). IsAtRest i v) (sym same) rest).stands was.0 was.1 in
         let next = stood was.0 s.0 was.1 s.1 in
         let is_d : next.0 ≡ d = some_is next.0 d (sym next.1 ∙ told) in
-        (snapshot_frame j body ∷ [], subst (λ (l : List ℕ). Stands (record j { live = not j.live; number = (j.number + 1) % 2 ^ 64; begin = to; end = end; base = j.changes; shut = shut; room = room }) l (snapshot_frame j body ∷ [])) is_d next.2)
+        (snapshot_frame j body ∷ [], subst (λ (l : List ℕ). StandsInFile (record j { live = not j.live; number = (j.number + 1) % 2 ^ 64; begin = to; end = end; base = j.changes; shut = shut; room = room }) l (snapshot_frame j body ∷ [])) is_d next.2)
       where
         some_is : (a b : List ℕ) → Some a ≡ Some b → a ≡ b
         some_is a b e = cc

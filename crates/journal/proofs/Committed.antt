@@ -5,13 +5,13 @@ use Rattle.std.proofs.lemmas.List.{take_all}
 use Rattle.disk_model.specs.Disk.{View, Goes, LeavesOnly, Written}
 use Rattle.journal.specs.Append.{IsAppending}
 use Rattle.journal.specs.Store.{Frame, encoded, base_of}
-use Rattle.journal.specs.Journal.{JournalView, Stands, IsAtRest, next_frame, IsBeforeOrAfter}
+use Rattle.journal.specs.Journal.{JournalView, StandsInFile, IsAtRest, next_frame, IsBeforeOrAfter}
 use Rattle.journal.specs.CheckpointParts.{IsRegion}
 use Rattle.journal.proofs.Moments.{weaker, goes_from, goes_back}
 use Rattle.journal.proofs.Frames.{last_of-push}
 use Rattle.journal.proofs.Commit.{gate_place, image, longer}
 
-pub region_of : (j : JournalView) (c : List ℕ) (frames : List Frame) → Stands j c frames → IsRegion j.digest c j.live j.number j.begin j.end frames
+pub region_of : (j : JournalView) (c : List ℕ) (frames : List Frame) → StandsInFile j c frames → IsRegion j.digest c j.live j.number j.begin j.end frames
 region_of j c frames s = record { head = s.head; from = s.from; fits = s.fits; frames_at = s.frames_at; sized = s.sized; ends = s.end }
 
 pub place_of : (j : JournalView) (v : View) → IsAtRest j v → (c : List ℕ) → v.contents ≡ Some c → j.end + 1 ≤ length c
@@ -30,7 +30,7 @@ below n = omega arith
 
 module _ (j : JournalView) (v w : View) (body block : List ℕ) (changes : ℕ) (block_is : block ≡ encoded (next_frame j body changes) ++ 0 ∷ []) (small : length body < 2 ^ 64) (k : JournalView) (same : j ≡ k) where
   abbrev Moments : JournalView → Type 0
-  Moments i = (c : List ℕ) (frames : List Frame) → v.contents ≡ Some c → Stands i c frames → LeavesOnly v w (IsBeforeOrAfter i.digest frames (next_frame i body changes))
+  Moments i = (c : List ℕ) (frames : List Frame) → v.contents ≡ Some c → StandsInFile i c frames → LeavesOnly v w (IsBeforeOrAfter i.digest frames (next_frame i body changes))
 
   pub commit_moments : ((c : List ℕ) → v.contents ≡ Some c → LeavesOnly v w (IsAppending j.end block c)) → Moments k
   commit_moments moments = subst Moments same (λ c frames is s.
@@ -39,8 +39,8 @@ module _ (j : JournalView) (v w : View) (body block : List ℕ) (changes : ℕ) 
       (image j.digest c j.live j.number j.begin j.end frames (next_frame j body changes) (region_of j c frames s) (below (j.changes + changes)) small) at_block)
 
   module _ (end room : ℕ) (shut : Bool) (ends : end ≡ j.end + 18 + length body) where
-    stood : (c d : List ℕ) (frames : List Frame) → Stands j c frames → Written j.end (1 ∷ block) c d
-        → Stands (record j { end = end; changes = (j.changes + changes) % 2 ^ 64; shut = shut; room = room }) d (frames ++ next_frame j body changes ∷ [])
+    stood : (c d : List ℕ) (frames : List Frame) → StandsInFile j c frames → Written j.end (1 ∷ block) c d
+        → StandsInFile (record j { end = end; changes = (j.changes + changes) % 2 ^ 64; shut = shut; room = room }) d (frames ++ next_frame j body changes ∷ [])
     stood c d frames s written =
         let at_block = subst (λ (b : List ℕ). Written j.end (1 ∷ b) c d) block_is written in
         let r = longer j.digest c d j.live j.number j.begin j.end frames (next_frame j body changes) (region_of j c frames s) (below (j.changes + changes)) small at_block in
@@ -60,15 +60,15 @@ module _ (j : JournalView) (v w : View) (body block : List ℕ) (changes : ℕ) 
         base_stays (x ∷ frames) = refl
 
     abbrev StandsAfter : JournalView → Type 0
-    StandsAfter i = (c : List ℕ) (frames : List Frame) → v.contents ≡ Some c → Stands i c frames
-        → (d : List ℕ) × (w.contents ≡ Some d) × Stands (record j { end = end; changes = (j.changes + changes) % 2 ^ 64; shut = shut; room = room }) d (frames ++ next_frame i body changes ∷ [])
+    StandsAfter i = (c : List ℕ) (frames : List Frame) → v.contents ≡ Some c → StandsInFile i c frames
+        → (d : List ℕ) × (w.contents ≡ Some d) × StandsInFile (record j { end = end; changes = (j.changes + changes) % 2 ^ 64; shut = shut; room = room }) d (frames ++ next_frame i body changes ∷ [])
 
     pub commit_stands : Goes (Written j.end (1 ∷ block)) v.contents w.contents → StandsAfter k
     commit_stands goes = subst StandsAfter same (λ c frames is s.
         let next = goes_from (Written j.end (1 ∷ block)) v.contents w.contents c goes is in (next.0, next.1, stood c next.0 frames s next.2))
 
     pub commit_rests : Goes (Written j.end (1 ∷ block)) v.contents w.contents → IsAtRest k v → (d : List ℕ) → w.contents ≡ Some d
-        → (frames : List Frame) × Stands (record j { end = end; changes = (j.changes + changes) % 2 ^ 64; shut = shut; room = room }) d frames
+        → (frames : List Frame) × StandsInFile (record j { end = end; changes = (j.changes + changes) % 2 ^ 64; shut = shut; room = room }) d frames
     commit_rests goes rest d told =
         let was = goes_back (Written j.end (1 ∷ block)) v.contents w.contents d goes told in
         let s = (subst (λ (i : JournalView). IsAtRest i v) (sym same) rest).stands was.0 was.1 in

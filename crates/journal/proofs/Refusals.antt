@@ -2,10 +2,10 @@
 use Rattle.std.proofs.Common.{◌≡◌, inl, inr, ⊎_elim, ℕ, ◌<◌, Bool, true, false, List, [], ◌∷◌, length, arith, refl, sym, ◌∙◌, ap, subst}
 use Rattle.std.specs.Prelude.{◌⊎◌, Option, Some, Result, Ok, Err, IfOk, OnOk, MatchResult}
 use Rattle.journal.specs.Store.{IsOpen, Frame, FramesAt, IsStore, IsUnborn}
-use Rattle.journal.specs.Region.{Runs, IsFault, StandsFor}
+use Rattle.journal.specs.Region.{Runs, IsFault, StandsForState}
 use Rattle.journal.specs.HeadFault.{IsOtherList}
 use Rattle.journal.specs.Opening.{IsWithin, IsStoreFault, IsRefusal, IsExcused, IsOfFile, IsOpening, FileMeans, limit}
-use Rattle.journal.specs.Journal.{JournalView, Stands}
+use Rattle.journal.specs.Journal.{JournalView, StandsInFile}
 use Rattle.journal.specs.declared.open_fault.OpenFault.{OpenFault}
 use Rattle.journal.specs.declared.open_fault.OpenFault.TheVariants.{DeviceFault, NotAStore, OtherList, TooLarge, NoMemory}
 use Rattle.journal.proofs.Unique.{live_unique, live_of_head, store_unique}
@@ -17,7 +17,7 @@ begins_within : (file : List ℕ) (at : ℕ) (frames : List Frame) → FramesAt 
 begins_within file at [] here = here.0
 begins_within file at (f ∷ frames) here = here.0.0
 
-store_of : (j : JournalView) (file : List ℕ) (frames : List Frame) → Stands j file frames → IsStore j.digest file frames
+store_of : (j : JournalView) (file : List ℕ) (frames : List Frame) → StandsInFile j file frames → IsStore j.digest file frames
 store_of j file frames s = record { live = j.live; number = j.number; begin = j.begin; head = s.head; from = s.from; fits = s.fits; frames_at = s.frames_at; sized = s.sized }
 
 pub store_born : (digest file : List ℕ) (frames : List Frame) → IsStore digest file frames → IsOpen file 0 × (1 < length file)
@@ -42,7 +42,7 @@ module _ {S : Type 0} (takes : S → Bool → List ℕ → S → ℕ → Type 0)
       runs_unique frames false one.0 t u f.last m n one.5 (subst R same two.5)
 
   -- a store stands for one state and one number
-  stands_unique : (digest file : List ℕ) (s t : S) (m n : ℕ) → StandsFor takes empty digest file s m → StandsFor takes empty digest file t n → (s ≡ t) × (m ≡ n)
+  stands_unique : (digest file : List ℕ) (s t : S) (m n : ℕ) → StandsForState takes empty digest file s m → StandsForState takes empty digest file t n → (s ≡ t) × (m ≡ n)
   stands_unique digest file s t m n one two =
       let same = store_unique digest file one.0 two.0 one.1 two.1 in
       let R = λ (l : List Frame). Runs takes true empty 0 l s m in
@@ -132,14 +132,14 @@ module _ {S : Type 0} (takes : S → Bool → List ℕ → S → ℕ → Type 0)
 
   -- what an opening answers, by its plain clauses
   module _ (limited : Bool) (digest c : List ℕ) (old new : Option (List ℕ)) (is : old ≡ Some c) (state : S) (r : Result JournalView OpenFault)
-      (opened : IfOk r (λ j. (d : List ℕ) → new ≡ Some d → (frames : List Frame) × Stands j d frames × Runs takes true empty 0 frames state j.changes))
+      (opened : IfOk r (λ j. (d : List ℕ) → new ≡ Some d → (frames : List Frame) × StandsInFile j d frames × Runs takes true empty 0 frames state j.changes))
       (usable : IfOk r (λ j. (j.shut ≡ false) × (j.digest ≡ digest)))
       (kept : IsOpen c 0 → 1 < length c → new ≡ Some c)
       (refused : (why : OpenFault) → r ≡ Err why → IsRefusal takes refuses empty limited digest c why) where
-    opens_store : (s : S) (n : ℕ) → IsWithin limited c → StandsFor takes empty digest c s n → MatchResult r (λ j. (state ≡ s) × (j.changes ≡ n)) IsExcused
+    opens_store : (s : S) (n : ℕ) → IsWithin limited c → StandsForState takes empty digest c s n → MatchResult r (λ j. (state ≡ s) × (j.changes ≡ n)) IsExcused
     opens_store s n within stands = by r refl opened usable
       where
-        by : (x : Result JournalView OpenFault) → r ≡ x → IfOk x (λ j. (d : List ℕ) → new ≡ Some d → (frames : List Frame) × Stands j d frames × Runs takes true empty 0 frames state j.changes)
+        by : (x : Result JournalView OpenFault) → r ≡ x → IfOk x (λ j. (d : List ℕ) → new ≡ Some d → (frames : List Frame) × StandsInFile j d frames × Runs takes true empty 0 frames state j.changes)
             → IfOk x (λ j. (j.shut ≡ false) × (j.digest ≡ digest)) → MatchResult x (λ j. (state ≡ s) × (j.changes ≡ n)) IsExcused
         by (Ok j) e o u =
             let born = store_born digest c stands.0 stands.1 in
@@ -189,7 +189,7 @@ module _ {S : Type 0} (takes : S → Bool → List ℕ → S → ℕ → Type 0)
     pub opens_exactly : length digest ≡ 32 → OnOk r (IsWithin limited c) → (why : OpenFault) → IsOfFile why → IsRefusal takes refuses empty limited digest c why → MatchResult r (λ _. ⊥) (λ w. (w ≡ why) ⊎ IsExcused w)
     opens_exactly size within why of_file cause = by r refl opened usable within
       where
-        by : (x : Result JournalView OpenFault) → r ≡ x → IfOk x (λ j. (d : List ℕ) → new ≡ Some d → (frames : List Frame) × Stands j d frames × Runs takes true empty 0 frames state j.changes)
+        by : (x : Result JournalView OpenFault) → r ≡ x → IfOk x (λ j. (d : List ℕ) → new ≡ Some d → (frames : List Frame) × StandsInFile j d frames × Runs takes true empty 0 frames state j.changes)
             → IfOk x (λ j. (j.shut ≡ false) × (j.digest ≡ digest)) → OnOk x (IsWithin limited c) → MatchResult x (λ _. ⊥) (λ w. (w ≡ why) ⊎ IsExcused w)
         by (Ok j) e o u within =
             let born = born_refused why of_file cause within in

@@ -1,4 +1,5 @@
 -- A block behind a gate byte, as the images of an append have it.
+-- Source: none.
 use Rattle.std.specs.Prelude.{◌≡◌, ◌⊎◌, ℕ, ◌+◌, ◌<◌, ◌≤◌, List, length, slice_index, nat_le}
 use Rattle.std.specs.Prelude.{if◌then◌else◌}
 use Rattle.disk_model.specs.Disk.{Holds, Torn, Written}

@@ -1,4 +1,5 @@
 -- A checkpoint between its two parts.
+-- Source: none.
 use Rattle.std.specs.Prelude.{◌≡◌, ◌⊎◌, ℕ, ◌+◌, ◌%◌, ◌^◌, ◌<◌, ◌≤◌, Bool, not, List, [], ◌∷◌, ◌++◌}
 use Rattle.std.specs.Prelude.{length, Some, Result, OnOk}
 use Rattle.disk_model.specs.Disk.{View, IsSettled, LeavesOnly}

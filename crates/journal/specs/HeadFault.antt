@@ -1,17 +1,19 @@
 -- The first fault of the head of a file that is not unborn.
+-- Source: none.
 -- Our own choice: the rows and their order. Each row holds only where none before it does.
 use Rattle.std.specs.Prelude.{◌≡◌, ◌≢◌, ◌⊎◌, ℕ, ◌+◌, ◌^◌, ◌<◌, ◌≤◌, Bool, List, length, replicate}
 use Rattle.std.specs.Prelude.{if◌then◌else◌}
 use Rattle.disk_model.specs.Disk.{Holds}
 use Rattle.journal.specs.Store.{IsOpen, IsClosed, IsOlder, magic, version_bytes, slot_at, other_at}
-use Rattle.journal.specs.Store.{slot_bytes}
+use Rattle.journal.specs.Store.{slot_bytes, version_offset, digest_offset, first_slot}
+use Rattle.journal.specs.Store.{second_slot, zeros_offset, zeros_len, head_len}
 
 -- what stands before the slots is right
 pub record IsFront (digest file : List ℕ) : Type 0 where
-  pub long : 129 ≤ length file
+  pub long : head_len + 1 ≤ length file
   pub name : Holds file 1 magic
-  pub version : Holds file 8 version_bytes
-  pub digest_at : Holds file 12 digest
+  pub version : Holds file version_offset version_bytes
+  pub digest_at : Holds file digest_offset digest
 
 -- the slot is live: it is open, and the other one is closed or has the number before
 pub record IsLive (file : List ℕ) (live : Bool) (number begin : ℕ) : Type 0 where
@@ -21,34 +23,35 @@ pub record IsLive (file : List ℕ) (live : Bool) (number begin : ℕ) : Type 0 
 
 -- where the live slot's begin stands
 abbrev pub begin_at : Bool → ℕ
-begin_at live = if live then 70 else 53
+begin_at live = if live then second_slot + 9 else first_slot + 9
 
 -- no slot is open; both are, and neither number is the one after the other; the zeros are not
 -- zero; the live slot's begin lies in the head or past the end
 abbrev pub IsSlotFault : List ℕ → ℕ → Type 0
 IsSlotFault file offset =
-    (IsClosed file 44 × IsClosed file 61 × (offset ≡ 44))
-    ⊎ ((IsOpen file 44 × IsOpen file 61 × ((live : Bool) (number begin : ℕ)
-    → IsLive file live number begin → ⊥) × (offset ≡ 61))
+    (IsClosed file first_slot × IsClosed file second_slot × (offset ≡ first_slot))
+    ⊎ ((IsOpen file first_slot × IsOpen file second_slot × ((live : Bool) (number begin : ℕ)
+    → IsLive file live number begin → ⊥) × (offset ≡ second_slot))
     ⊎ (((live : Bool) × (number : ℕ) × (begin : ℕ) × IsLive file live number begin
-    × (Holds file 78 (replicate 50 0) → ⊥) × (offset ≡ 78))
+    × (Holds file zeros_offset (replicate zeros_len 0) → ⊥) × (offset ≡ zeros_offset))
     ⊎ ((live : Bool) × (number : ℕ) × (begin : ℕ) × IsLive file live number begin
-    × Holds file 78 (replicate 50 0) × (begin < 2 ^ 64)
-    × ((begin < 128) ⊎ (length file ≤ begin)) × (offset ≡ begin_at live))))
+    × Holds file zeros_offset (replicate zeros_len 0) × (begin < 2 ^ 64)
+    × ((begin < head_len) ⊎ (length file ≤ begin)) × (offset ≡ begin_at live))))
 
 -- the file is shorter than a head and a gate; its name; its version; its slots
 abbrev pub IsHeadFault : List ℕ → List ℕ → ℕ → Type 0
 IsHeadFault digest file offset =
-    ((length file < 129) × (offset ≡ 0))
-    ⊎ (((129 ≤ length file) × (Holds file 1 magic → ⊥) × (offset ≡ 1))
-    ⊎ (((129 ≤ length file) × Holds file 1 magic × (Holds file 8 version_bytes → ⊥) × (offset ≡ 8))
+    ((length file < head_len + 1) × (offset ≡ 0))
+    ⊎ (((head_len + 1 ≤ length file) × (Holds file 1 magic → ⊥) × (offset ≡ 1))
+    ⊎ (((head_len + 1 ≤ length file) × Holds file 1 magic
+    × (Holds file version_offset version_bytes → ⊥) × (offset ≡ version_offset))
     ⊎ (IsFront digest file × IsSlotFault file offset)))
 
 -- the file is another list's: this is looked at after the version and before the slots
 pub record IsOtherList (digest file kept : List ℕ) : Type 0 where
-  pub long : 129 ≤ length file
+  pub long : head_len + 1 ≤ length file
   pub name : Holds file 1 magic
-  pub version : Holds file 8 version_bytes
+  pub version : Holds file version_offset version_bytes
   pub kept_size : length kept ≡ 32
-  pub kept_at : Holds file 12 kept
+  pub kept_at : Holds file digest_offset kept
   pub other : kept ≢ digest

@@ -1,10 +1,11 @@
 -- A journal, as contracts see it, and what it and its disk owe each other between two calls.
--- Our own choice: the journal keeps no frames. `Stands` says of a file which frames it has.
+-- Source: none.
+-- Our own choice: the journal keeps no frames. `StandsInFile` says of a file which frames it has.
 use Rattle.std.specs.Prelude.{◌≡◌, ℕ, ◌+◌, ◌-◌, ◌%◌, ◌^◌, ◌<◌, ◌≤◌, nat_le, if◌then◌else◌, Bool}
 use Rattle.std.specs.Prelude.{true, false, List, [], ◌∷◌, ◌++◌, ◌⊎◌, Some}
 use Rattle.disk_model.specs.Disk.{View, IsSettled}
 use Rattle.journal.specs.Store.{Frame, IsStore, Head, FramesAt, AreSized, frames_len, last_of}
-use Rattle.journal.specs.Store.{base_of}
+use Rattle.journal.specs.Store.{base_of, head_len, front_len}
 
 -- what an open journal knows of its file, and the room it has for a frame
 pub record JournalView : Type 0 where
@@ -29,9 +30,9 @@ abbrev pub since_of : JournalView → ℕ
 since_of journal = (journal.changes + (2 ^ 64 - journal.base)) % 2 ^ 64
 
 -- the file is the journal's store, with these frames
-pub record Stands (journal : JournalView) (file : List ℕ) (frames : List Frame) : Type 0 where
+pub record StandsInFile (journal : JournalView) (file : List ℕ) (frames : List Frame) : Type 0 where
   pub head : Head journal.digest file journal.live journal.number journal.begin
-  pub from : 128 ≤ journal.begin
+  pub from : head_len ≤ journal.begin
   pub fits : journal.begin < 2 ^ 64
   pub frames_at : FramesAt file journal.begin frames
   pub sized : AreSized frames
@@ -43,20 +44,21 @@ pub record Stands (journal : JournalView) (file : List ℕ) (frames : List Frame
 pub record IsAtRest (journal : JournalView) (view : View) : Type 0 where
   pub settled : IsSettled view
   pub stands : (c : List ℕ) → view.contents ≡ Some c → (frames : List Frame)
-      × Stands journal c frames
+      × StandsInFile journal c frames
 
 -- a commit or a checkpoint with a body of so many bytes takes no memory
 pub record HasRoom (journal : JournalView) (view : View) (body : ℕ) : Type 0 where
-  pub block : body + 19 ≤ journal.room
-  pub end : journal.end + body + 20 ≤ view.room_end
-  pub head : 129 ≤ view.room_end
-  pub fits : journal.end + body + 148 < 2 ^ 64
+  pub block : body + (front_len + 1) ≤ journal.room
+  pub end : journal.end + body + (front_len + 2) ≤ view.room_end
+  pub head : head_len + 1 ≤ view.room_end
+  pub fits : journal.end + body + (head_len + front_len + 2) < 2 ^ 64
   pub writes : 4 ≤ view.room_writes
 
 -- where a checkpoint puts a snapshot with a body of so many bytes: behind the head, where its frame
 -- with both gates ends before the live region, and else behind that region's closed gate
 abbrev pub snapshot_at : JournalView → ℕ → ℕ
-snapshot_at journal body = if nat_le (128 + (body + 19)) journal.begin then 128 else journal.end + 1
+snapshot_at journal body =
+    if nat_le (head_len + (body + (front_len + 1))) journal.begin then head_len else journal.end + 1
 
 -- the frame that a commit writes
 abbrev pub next_frame : JournalView → List ℕ → ℕ → Frame

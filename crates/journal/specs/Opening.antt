@@ -1,4 +1,5 @@
 -- What an opening does to a file, and why it is refused.
+-- Source: none.
 -- Our own choice: a store over 1,073,741,824 bytes is refused where a limit is asked for; this is
 -- looked at first. Then comes whether the file is unborn, then the head, then the region.
 use Rattle.std.specs.Prelude.{◌≡◌, ◌⊎◌, ℕ, ◌+◌, ◌-◌, ◌^◌, ◌<◌, ◌≤◌, min, Bool, true, List, [], ◌∷◌, length}
@@ -7,7 +8,7 @@ use Rattle.std.specs.Prelude.{Result, IsErrOf, OnOk}
 use Rattle.agent_base.specs.Counts.{Rose}
 use Rattle.disk_model.specs.Disk.{View, IsPowered, HasFailed}
 use Rattle.journal.specs.Store.{IsOpen, IsStore, IsUnborn, Head}
-use Rattle.journal.specs.Region.{TakesOf, RefusesOf, IsFault, StandsFor}
+use Rattle.journal.specs.Region.{TakesOf, RefusesOf, IsFault, StandsForState}
 use Rattle.journal.specs.HeadFault.{IsHeadFault, IsOtherList}
 use Rattle.journal.specs.declared.open_fault.OpenFault.{OpenFault}
 use Rattle.journal.specs.declared.open_fault.OpenFault.TheVariants.{DeviceFault, NotAStore}
@@ -81,7 +82,7 @@ IsOpening digest old new = (new ≡ old) ⊎ (IsUnborn old × (IsUnborn new ⊎ 
 -- with 0 changes
 abbrev pub FileMeans : {S : Type 0} → TakesOf S → S → List ℕ → List ℕ → S → ℕ → Type 0
 FileMeans takes empty digest file s n =
-    StandsFor takes empty digest file s n ⊎ (IsUnborn file × (s ≡ empty) × (n ≡ 0))
+    StandsForState takes empty digest file s n ⊎ (IsUnborn file × (s ≡ empty) × (n ≡ 0))
 
 -- no call of the disk has failed
 pub record HasNoFault (old new : View) : Type 0 where

@@ -1,11 +1,13 @@
 -- What private functions of the reader answer.
+-- Source: none.
 use Rattle.std.specs.Prelude.{◌≡◌, ℕ, ◌+◌, ◌%◌, ◌^◌, ◌<◌, ◌≤◌, Bool, true, false, List, length}
 use Rattle.std.specs.Prelude.{replicate}
 use Rattle.disk_model.specs.Disk.{Holds}
-use Rattle.journal.specs.Store.{Frame, IsOpen, IsClosed, Head, encoded}
+use Rattle.journal.specs.Store.{Frame, IsOpen, IsClosed, Head, encoded, front_len, zeros_offset}
+use Rattle.journal.specs.Store.{zeros_len, head_len}
 use Rattle.journal.specs.Region.{TakesOf, IsCut, IsWrongKind, IsEmpty, IsFrameAt, IsRightKind}
 use Rattle.journal.specs.Region.{IsRightLast, Runs}
-use Rattle.journal.specs.Journal.{JournalView, Stands}
+use Rattle.journal.specs.Journal.{JournalView, StandsInFile}
 use Rattle.journal.specs.HeadFault.{IsHeadFault, IsSlotFault, IsLive, IsOtherList}
 use Rattle.journal.specs.declared.fields.Read.{Read}
 use Rattle.journal.specs.declared.fields.Read.TheVariants.{End, Cut, Kind, Empty, Whole}
@@ -20,8 +22,8 @@ IsRead file at fresh Cut = IsCut file at
 IsRead file at fresh Kind = IsWrongKind file at fresh
 IsRead file at fresh Empty = IsEmpty file at
 IsRead file at fresh (Whole snapshot last size) =
-    IsOpen file at × (at + 18 + size ≤ length file)
-    × ((body : List ℕ) → length body ≡ size → Holds file (at + 18) body
+    IsOpen file at × (at + front_len + size ≤ length file)
+    × ((body : List ℕ) → length body ≡ size → Holds file (at + front_len) body
     → Holds file (at + 1) (encoded (record { snapshot = snapshot; last = last; body = body }))
     × IsRightKind fresh snapshot body)
 
@@ -44,15 +46,15 @@ IsNext false a false b live = ⊥
 -- what `read_slots` finds
 abbrev pub IsSlotRead : List ℕ → HeadRead → Type 0
 IsSlotRead file (Live live number begin) =
-    IsLive file live number begin × Holds file 78 (replicate 50 0) × (128 ≤ begin)
-    × (begin < length file)
+    IsLive file live number begin × Holds file zeros_offset (replicate zeros_len 0)
+    × (head_len ≤ begin) × (begin < length file)
 IsSlotRead file (Other kept) = ⊥
 IsSlotRead file (Bad offset) = IsSlotFault file offset
 
 -- what `read_head` finds
 abbrev pub IsHeadRead : List ℕ → List ℕ → HeadRead → Type 0
-IsHeadRead digest file (Live live number begin) = Head digest file live number begin × (128 ≤ begin)
-    × (begin < length file)
+IsHeadRead digest file (Live live number begin) =
+    Head digest file live number begin × (head_len ≤ begin) × (begin < length file)
 IsHeadRead digest file (Other kept) = IsOtherList digest file kept
 IsHeadRead digest file (Bad offset) = IsHeadFault digest file offset
 
@@ -63,5 +65,5 @@ IsUsable digest journal = (journal.shut ≡ false) × (journal.digest ≡ digest
 -- the file is the journal's store, and its frames lead from the empty state to this one
 abbrev pub LeadsTo : {S : Type 0} → TakesOf S → (empty state : S) → JournalView → List ℕ → Type 0
 LeadsTo takes empty state journal file =
-    (frames : List Frame) × Stands journal file frames
+    (frames : List Frame) × StandsInFile journal file frames
     × Runs takes true empty 0 frames state journal.changes

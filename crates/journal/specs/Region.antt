@@ -1,4 +1,5 @@
 -- What the frames of a region stand for, and the first fault of a region.
+-- Source: none.
 -- Our own choice: a snapshot stands only at the beginning of a region. Changes have a body that is
 -- not empty, and their number is the one before them and their count, modulo 2^64. Faults come in
 -- the order of `IsFaultAt`. What a body means is given by two relations, of the caller.
@@ -42,8 +43,8 @@ HasChanges {S} takes s (f ∷ frames) total =
     × (total ≡ (if f.snapshot then 0 else n) + rest)
 
 -- the file is a store that stands for this state and this number of changes
-abbrev pub StandsFor : {S : Type 0} → TakesOf S → S → List ℕ → List ℕ → S → ℕ → Type 0
-StandsFor takes empty digest file s n = (frames : List Frame) × IsStore digest file frames
+abbrev pub StandsForState : {S : Type 0} → TakesOf S → S → List ℕ → List ℕ → S → ℕ → Type 0
+StandsForState takes empty digest file s n = (frames : List Frame) × IsStore digest file frames
     × Runs takes true empty 0 frames s n
 
 -- these frames stand behind open gates, whatever follows

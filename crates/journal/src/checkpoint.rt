@@ -4,7 +4,7 @@ ghost use Rattle.std.specs.Prelude.{not, Bool, List, ℕ, length, slice_index, S
 ghost use Rattle.std.specs.Prelude.{IfOk, OnOk, OnErr, nat_le, if◌then◌else◌};
 ghost use Rattle.disk_model.specs.Disk.{IsSettled, LeavesOnly, Stays, Device};
 ghost use Rattle.journal.specs.Store.{Frame, IsStore, encoded, slot_bytes, other_at};
-ghost use Rattle.journal.specs.Journal.{JournalView, Stands, IsAtRest, HasRoom, IsBeforeOrSnapshot};
+ghost use Rattle.journal.specs.Journal.{JournalView, StandsInFile, IsAtRest, HasRoom, IsBeforeOrSnapshot};
 ghost use Rattle.journal.specs.Journal.{snapshot_frame, snapshot_at, since_of};
 ghost use Rattle.journal.specs.CheckpointParts.{IsRegion, IsApart, IsBetween, Switches, TakesBlock};
 
@@ -129,9 +129,9 @@ impl Journal {
 
         // The snapshot stands alone.
         ensures acknowledged { OnOk result ((c : List ℕ) (frames : List Frame)
-            → (D.view disk.old).contents ≡ Some c → Stands self.old c frames
+            → (D.view disk.old).contents ≡ Some c → StandsInFile self.old c frames
             → (d : List ℕ) × ((D.view disk.new).contents ≡ Some d)
-            × Stands self.new d (snapshot_frame self.old body.now ∷ [])) }
+            × StandsInFile self.new d (snapshot_frame self.old body.now ∷ [])) }
         ensures settled { OnOk result (IsSettled (D.view disk.new)) }
         ensures at_rest { OnOk result (IsAtRest self.new (D.view disk.new)) }
         ensures done { OnOk result (self.new ≡ record self.old {
@@ -146,7 +146,7 @@ impl Journal {
         // A cut at any moment leaves the frames from before, or the snapshot alone.
         ensures any_moment { (c : List ℕ) (frames : List Frame)
             → (D.view disk.old).contents ≡ Some c
-            → Stands self.old c frames
+            → StandsInFile self.old c frames
             → LeavesOnly (D.view disk.old) (D.view disk.new)
             (IsBeforeOrSnapshot self.old.digest frames (snapshot_frame self.old body.now)) }
 

@@ -4,8 +4,8 @@ ghost use Rattle.std.specs.Prelude.{List, ℕ, Bool, length, Some, true, false, 
 ghost use Rattle.std.specs.Prelude.{vec_capacity};
 ghost use Rattle.disk_model.specs.Disk.{IsSettled, LeavesOnly, Stays, Device};
 ghost use Rattle.journal.specs.Store.{Frame, encoded};
-ghost use Rattle.journal.specs.Region.{Runs, StandsFor};
-ghost use Rattle.journal.specs.Journal.{JournalView, Stands, IsAtRest, HasRoom, IsBeforeOrAfter};
+ghost use Rattle.journal.specs.Region.{Runs, StandsForState};
+ghost use Rattle.journal.specs.Journal.{JournalView, StandsInFile, IsAtRest, HasRoom, IsBeforeOrAfter};
 ghost use Rattle.journal.specs.Journal.{next_frame, since_of};
 
 use crate::gated::append;
@@ -78,8 +78,8 @@ impl Journal {
         ensures room { OnOk result (HasRoom self.new (D.view disk.new) body) }
         ensures same { self.new ≡ record self.old { room = self.new.room } }
         ensures grown { self.old.room ≤ self.new.room }
-        ensures stands { (c : List ℕ) (frames : List Frame) → Stands self.old c frames
-            → Stands self.new c frames }
+        ensures stands { (c : List ℕ) (frames : List Frame) → StandsInFile self.old c frames
+            → StandsInFile self.new c frames }
         ensures at_rest { IsAtRest self.old (D.view disk.old)
             → IsAtRest self.new (D.view disk.new) }
         ensures kept { OnErr result ((before : ℕ) → HasRoom self.old (D.view disk.old) before
@@ -126,9 +126,9 @@ impl Journal {
 
         // The new frame stands behind the old ones.
         ensures acknowledged { OnOk result ((c : List ℕ) (frames : List Frame)
-            → (D.view disk.old).contents ≡ Some c → Stands self.old c frames
+            → (D.view disk.old).contents ≡ Some c → StandsInFile self.old c frames
             → (d : List ℕ) × ((D.view disk.new).contents ≡ Some d)
-            × Stands self.new d (frames ++ next_frame self.old body.now changes ∷ [])) }
+            × StandsInFile self.new d (frames ++ next_frame self.old body.now changes ∷ [])) }
         ensures settled { OnOk result (IsSettled (D.view disk.new)) }
         ensures at_rest { OnOk result (IsAtRest self.new (D.view disk.new)) }
         ensures done { OnOk result (self.new ≡ record self.old {
@@ -140,7 +140,7 @@ impl Journal {
         // A cut at any moment leaves the frames from before, or these and the new one.
         ensures any_moment { (c : List ℕ) (frames : List Frame)
             → (D.view disk.old).contents ≡ Some c
-            → Stands self.old c frames
+            → StandsInFile self.old c frames
             → LeavesOnly (D.view disk.old) (D.view disk.new)
             (IsBeforeOrAfter self.old.digest frames (next_frame self.old body.now changes)) }
 

@@ -5,7 +5,7 @@ ghost use Rattle.std.specs.Prelude.{◌≡◌, ◌⊎◌, ◌+◌, ◌-◌, ◌%
 ghost use Rattle.std.specs.Prelude.{Result, Some, false};
 ghost use Rattle.disk_model.specs.Disk.{Makes};
 ghost use Rattle.journal.specs.Store.{Frame, IsStore, base_of};
-ghost use Rattle.journal.specs.Region.{Runs, HasChanges, StandsFor};
+ghost use Rattle.journal.specs.Region.{Runs, HasChanges, StandsForState};
 ghost use Rattle.journal.specs.Opening.{AnswersByCuts, FileMeans, IsOpening, Opens};
 ghost use Rattle.journal.specs.Journal.{IsBeforeOrAfter, IsBeforeOrSnapshot};
 ghost use Rattle.journal.specs.declared.open_fault.OpenFault.{OpenFault};
@@ -42,8 +42,8 @@ pub fn commit_meaning<R: Replay>()
         → R.takes by s false body t changes
         → IsBeforeOrAfter digest frames
         (record { snapshot = false; last = (last + changes) % 2 ^ 64; body = body }) file
-        → StandsFor (R.takes by) R.empty digest file s last
-        ⊎ StandsFor (R.takes by) R.empty digest file t ((last + changes) % 2 ^ 64) }
+        → StandsForState (R.takes by) R.empty digest file s last
+        ⊎ StandsForState (R.takes by) R.empty digest file t ((last + changes) % 2 ^ 64) }
 {}
 
 /// A store from before or after a checkpoint stands for the same state and number of changes, where
@@ -54,7 +54,7 @@ pub fn checkpoint_meaning<R: Replay>()
         → Runs (R.takes by) true R.empty 0 frames s last → R.takes by R.empty true body s changes
         → IsBeforeOrSnapshot digest frames
         (record { snapshot = true; last = last; body = body }) file
-        → StandsFor (R.takes by) R.empty digest file s last }
+        → StandsForState (R.takes by) R.empty digest file s last }
 {}
 
 /// What `since` answers is the number of the changes in the frames that are no snapshot.

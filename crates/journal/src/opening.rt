@@ -7,7 +7,7 @@ ghost use Rattle.journal.specs.Store.{Frame, IsOpen, IsUnborn, IsStore, new_head
 ghost use Rattle.journal.specs.Region.{Runs};
 ghost use Rattle.journal.specs.Opening.{IsWithin, IsRefusal, IsStoreRefusal, IsOfFile, IsExcused};
 ghost use Rattle.journal.specs.Opening.{IsOpening, FileMeans, Opens, opening_calls};
-ghost use Rattle.journal.specs.Journal.{Stands};
+ghost use Rattle.journal.specs.Journal.{StandsInFile};
 ghost use Rattle.journal.specs.ReaderAnswers.{IsUsable, LeadsTo};
 ghost use Rattle.journal.specs.declared.open_fault.OpenFault.{OpenFault};
 
@@ -113,7 +113,7 @@ fn make<D: Disk, R: Replay>(
     requires room { 129 ≤ (D.view disk.old).room_end }
     requires writes { 2 ≤ (D.view disk.old).room_writes }
     ensures made { IfOk result (λ j. (d : List ℕ) → (D.view disk.new).contents ≡ Some d
-        → Stands j d []) }
+        → StandsInFile j d []) }
     ensures usable { IfOk result (IsUsable digest.now) }
     ensures changes { IfOk result (λ j. j.changes ≡ 0) }
     ensures empty { OnOk result (R.state into.new ≡ R.empty) }
@@ -222,7 +222,7 @@ impl Journal {
     ) -> Result<Journal, OpenFault>
         // The file is the journal's store, and its frames lead to the state of `into`.
         ensures opened { IfOk result (λ j. (d : List ℕ) → (D.view disk.new).contents ≡ Some d
-            → (frames : List Frame) × Stands j d frames
+            → (frames : List Frame) × StandsInFile j d frames
             × Runs (R.takes (R.rules into.old)) true R.empty 0 frames (R.state into.new)
             j.changes) }
         ensures usable { IfOk result (λ j. (j.shut ≡ false) × (j.digest ≡ digest.now)) }

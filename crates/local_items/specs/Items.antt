@@ -19,10 +19,11 @@ use Rattle.local_items.specs.declared.site_event.SiteEvent.TheVariants as event
 use Rattle.local_items.specs.declared.site_event.TopLoad.{TopLoad}
 use Rattle.local_items.specs.declared.site_event.TopLoad.TheVariants as load
 
--- the entries of an agent's sites, and their items
+-- the entries of an agent's sites
 abbrev pub AgentEntry : Type 0
 AgentEntry = Entry Domain Cookies TimedEvent
 
+-- the items of their local scripts
 abbrev pub AgentItem : Type 0
 AgentItem = ScriptItem Domain Cookies TimedEvent
 

@@ -1,6 +1,6 @@
 //! Whether two items are the same.
 ghost use Rattle.std.specs.Prelude.{◌≡◌, ◌↔◌, IsTrue, option_map, slice_get};
-ghost use Rattle.cookie_jar.specs.Views.{plain_cookie};
+ghost use Rattle.cookie_jar.specs.Plain.{plain_cookie};
 ghost use Rattle.local_items.specs.Items.{entry_of, event_of, held_of, item_of};
 ghost use Rattle.local_items.specs.Parts.{flags_of, texts_of, times_of};
 

@@ -7,7 +7,7 @@ use Rattle.live_state.specs.Tabs.{PlainTab}
 use Rattle.script_actions.specs.Action.{DocumentAction, Frame, Nav, Drop, Click, Fetch, Set, Get, Del, Clear, Len, Key}
 use Rattle.script_actions.specs.Action.{Events, Cookie, SetCookie, Has, Request, Persisted, Estimate, Persist}
 use Rattle.agent_model.specs.Partition.{Holdings, tab_named}
-use Rattle.agent_model.specs.Done.{SharedCells, answers, ok}
+use Rattle.agent_model.specs.Effects.{SharedCells, answers, ok}
 use Rattle.agent_model.specs.CookieUses.{fetch_use, frame_use, nav_use}
 use Rattle.agent_model.specs.Cookies.{read_cookies, request, set_cookie}
 use Rattle.agent_model.specs.Frames.{frames_added, frames_navigated, frames_removed, frames_clicked}

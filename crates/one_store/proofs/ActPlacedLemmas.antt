@@ -10,7 +10,7 @@ use Rattle.live_state.specs.FramesInPlace.{requested}
 use Rattle.live_state.specs.Tabs.{PlainTab}
 use Rattle.script_actions.specs.Action.{DocumentAction}
 use Rattle.agent_model.specs.Partition.{Holdings, tab_named}
-use Rattle.agent_model.specs.Done.{SharedCells}
+use Rattle.agent_model.specs.Effects.{SharedCells}
 use Rattle.agent_model.specs.Frames.{frames_added, frames_navigated, frames_removed, frames_clicked}
 use Rattle.agent_model.specs.Lines.{Places, site_at}
 use Rattle.agent_model.specs.SiteStep.{act_in}

@@ -9,7 +9,7 @@ use Rattle.storage_events.specs.Event.{PlainEvent}
 use Rattle.reply_lines.specs.Reply.{PlainBody, Plain, Text, Number}
 use Rattle.agent_model.specs.Partition.{Holdings, is_under, with_area}
 use Rattle.row_changes.specs.Change.{PlainChange}
-use Rattle.agent_model.specs.Done.{SharedCells, Effect, answers, changes_to, ok}
+use Rattle.agent_model.specs.Effects.{SharedCells, Effect, answers, changes_to, ok}
 use Rattle.agent_model.specs.Changes.{changes_of_write, durable_in}
 use Rattle.agent_model.specs.Documents.{Keyed, told}
 use Rattle.agent_model.specs.AreaActions.{pairs_of, change_event, write, store, set_by, set_item, remove_by, remove_item, clear_area, get_item, get_name, get_length}

@@ -13,7 +13,7 @@ use Rattle.reply_lines.specs.Reply.{Plain, Truth, Estimate, Cleared}
 use Rattle.live_state.specs.Tabs.{PlainTab}
 use Rattle.agent_model.specs.Partition.{Holdings, is_under}
 use Rattle.row_changes.specs.Change.{SetMode}
-use Rattle.agent_model.specs.Done.{SharedCells, answers, changes_to}
+use Rattle.agent_model.specs.Effects.{SharedCells, answers, changes_to}
 use Rattle.agent_model.specs.Changes.{clears}
 use Rattle.agent_model.specs.Documents.{Keyed}
 use Rattle.agent_model.specs.Buckets.{is_persistent, get_mode, get_usage, is_grant, made_persistent, persist_by, persist, is_evicted, areas_left, areas_taken, evict}

@@ -10,7 +10,7 @@ use Rattle.agent_model.specs.CookieCells.{Cookies}
 use Rattle.agent_model.specs.PartitionedCells.{PartitionedKey, partitioned_order}
 use Rattle.agent_model.specs.Partition.{Holdings, is_cell_under}
 use Rattle.row_changes.specs.Change.{PlainChange}
-use Rattle.agent_model.specs.Done.{SharedCells, Done, answers}
+use Rattle.agent_model.specs.Effects.{SharedCells, Done, answers}
 use Rattle.agent_model.specs.Documents.{Keyed}
 use Rattle.agent_model.specs.CookieUse.{CookieUse, key_of}
 use Rattle.agent_model.specs.CookieUses.{script_use}

@@ -19,7 +19,7 @@ use Rattle.frame_tree.specs.Keys.{key_of_document, key_of_frame}
 use Rattle.live_state.specs.Queues.{queue_told}
 use Rattle.agent_model.specs.Documents.{Keyed, by_document, with_document, by_key, with_key, hears_by, told_queue, told_tab, told}
 use Rattle.agent_model.specs.Partition.{Holdings, Tabs, is_under, tab_named}
-use Rattle.agent_model.specs.Done.{SharedCells, Effect}
+use Rattle.agent_model.specs.Effects.{SharedCells, Effect}
 use Rattle.one_store.specs.HeldAt.{held_at, done_at, IsKeyed}
 use Rattle.agent_model.proofs.KeptLemmas as kept
 use Rattle.one_store.proofs.HeldLemmas.{under_one}

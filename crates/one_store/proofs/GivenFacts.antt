@@ -11,7 +11,7 @@ use Rattle.row_changes.specs.Change.{PlainChange}
 use Rattle.script_actions.specs.declared.words.Method.TheVariants as method
 use Rattle.script_actions.specs.Action.{PlainAction, Tick, Open}
 use Rattle.agent_model.specs.Partition.{Holdings, no_holdings}
-use Rattle.agent_model.specs.Done.{SharedCells, Done, no_shared_cells}
+use Rattle.agent_model.specs.Effects.{SharedCells, Done, no_shared_cells}
 use Rattle.agent_model.specs.SiteEvent.{TimedEvent, Answer, Arrives, Opens}
 use Rattle.agent_model.specs.Sessions.{arrive}
 use Rattle.agent_model.specs.Lines.{AgentWorld, Places, User, no_places, placed, site_at}

@@ -8,8 +8,8 @@ use Rattle.access_grants.specs.declared.facts.Answer.{Answer}
 use Rattle.access_grants.specs.declared.facts.Facts.{Facts}
 use Rattle.access_grants.specs.declared.outcome.Outcome.{Outcome}
 use Rattle.access_grants.specs.declared.permission.Permission.{Permission}
-use Rattle.access_grants.specs.Grant.{PlainGrant, kept, state_by}
-use Rattle.access_grants.specs.Part.{grants_under}
+use Rattle.access_grants.specs.Grant.{PlainGrant, with_row, state_by}
+use Rattle.access_grants.specs.UnderSite.{grants_under}
 use Rattle.access_grants.specs.Request.{first_row, request_rows}
 use Rattle.access_grants.proofs.PartLemmas.{find_under, kept_at, kept_own}
 use Rattle.frame_tree.specs.Tree.{PlainFrame}
@@ -18,7 +18,7 @@ use Rattle.live_state.specs.Tabs.{PlainTab}
 use Rattle.script_actions.specs.declared.words.Prompt.{Prompt}
 use Rattle.reply_lines.specs.Reply.{PlainBody, Plain}
 use Rattle.agent_model.specs.Partition.{Holdings}
-use Rattle.agent_model.specs.Done.{SharedCells, Effect, changes_to}
+use Rattle.agent_model.specs.Effects.{SharedCells, Effect, changes_to}
 use Rattle.agent_model.specs.StorageAccess.{access_facts, answer_of, change_requested, decision_word, done_by, embedded_site, grants_requested, keeps_grant, outcome_of, request_access, row_of}
 use Rattle.one_store.specs.HeldAt.{held_at, done_at}
 use Rattle.one_store.proofs.DocumentLemmas.{with_document_seen, with_document_unseen}
@@ -40,7 +40,7 @@ requested_unseen : (permission : Option Permission) (other top site : PlainSite)
 requested_unseen None other top site grants apart = refl
 requested_unseen (Some permission) other top site grants apart =
     kept_at other (row_of permission top site) grants
-    ∙ ap (λ b. cond b (kept (row_of permission top site) (grants_under other grants)) (grants_under other grants)) apart
+    ∙ ap (λ b. cond b (with_row (row_of permission top site) (grants_under other grants)) (grants_under other grants)) apart
 
 module _ (rules : List Rule) (now : ℕ) (top : PlainSite) (cells : SharedCells) (held : Holdings) (at : Label) (tab : PlainTab) (answer : Prompt) where
   -- what is kept is held, and the decision told

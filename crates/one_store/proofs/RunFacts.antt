@@ -27,7 +27,7 @@ use Rattle.agent_model.specs.CookieUse.{CookieUse}
 use Rattle.agent_model.specs.CookieUses.{script_use, top_use}
 use Rattle.agent_model.specs.CookieStore.{BothCells, both_marked, cookie_texts, header_text, sent, store_texts}
 use Rattle.agent_model.specs.Partition.{Holdings, no_holdings, tab_named, area_of}
-use Rattle.agent_model.specs.Done.{SharedCells, Done, no_shared_cells, ok}
+use Rattle.agent_model.specs.Effects.{SharedCells, Done, no_shared_cells, ok}
 use Rattle.agent_model.specs.SiteEvent.{Answer}
 use Rattle.agent_model.specs.Documents.{told_tab}
 use Rattle.agent_model.specs.AreaActions.{set_by, write}

@@ -13,7 +13,7 @@ use Rattle.reply_lines.specs.Reply as reply
 use Rattle.live_state.specs.Tabs.{PlainTab, made_tab, queue_of}
 use Rattle.agent_model.specs.Queues.{with_taken, take_queue, take_events}
 use Rattle.agent_model.specs.Partition.{Holdings, with_tab, without_tab}
-use Rattle.agent_model.specs.Done.{SharedCells, Effect, answers}
+use Rattle.agent_model.specs.Effects.{SharedCells, Effect, answers}
 use Rattle.agent_model.specs.Frames.{on_frames}
 use Rattle.agent_model.specs.Sessions.{show}
 use Rattle.agent_model.proofs.KeptLemmas.{AgreesBut}

@@ -17,7 +17,7 @@ use Rattle.script_actions.specs.declared.words.Method.{Method}
 use Rattle.reply_lines.specs.Reply.{Plain}
 use Rattle.script_actions.specs.Action.{Close, Go, Act, DocumentAction, HeadField}
 use Rattle.agent_model.specs.Partition.{Holdings, Partition, tab_named}
-use Rattle.agent_model.specs.Done.{SharedCells, Done}
+use Rattle.agent_model.specs.Effects.{SharedCells, Done}
 use Rattle.agent_model.specs.SiteEvent.{Acts, Closes, TimedEvent, replied}
 use Rattle.script_actions.specs.ActionNames.{document_action_name}
 use Rattle.agent_model.specs.SiteStep.{act_in, act, site_step}

@@ -9,7 +9,7 @@ use Rattle.storage_key.proofs.OrderLemmas.{key_order_total, key_order_same}
 use Rattle.storage_key.specs.Context.{is_of}
 use Rattle.agent_model.specs.PartitionedCells.{partitioned_order, no_partitioned_cells}
 use Rattle.agent_model.specs.Partition.{session_order, no_holdings, empty_partition, is_cell_under, is_under}
-use Rattle.agent_model.specs.Done.{no_shared_cells}
+use Rattle.agent_model.specs.Effects.{no_shared_cells}
 use Rattle.agent_model.specs.Lines.{site_at, no_places}
 use Rattle.agent_model.specs.TheMachine.{beginning}
 use Rattle.one_store.specs.WholeWorld.{partition_at, whole_world, IsPlacedAt, IsPlaced}

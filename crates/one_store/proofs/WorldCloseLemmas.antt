@@ -12,7 +12,7 @@ use Rattle.live_state.specs.Tabs.{PlainTab}
 use Rattle.reply_lines.specs.Reply.{Now}
 use Rattle.script_actions.specs.Action.{Tick, Close, Evict}
 use Rattle.agent_model.specs.Partition.{Partition, Holdings, tab_named}
-use Rattle.agent_model.specs.Done.{SharedCells, no_shared_cells, ok}
+use Rattle.agent_model.specs.Effects.{SharedCells, no_shared_cells, ok}
 use Rattle.agent_model.specs.SiteEvent.{Closes, Evicts, replied}
 use Rattle.agent_model.specs.Buckets.{evict}
 use Rattle.agent_model.specs.Sessions.{close, has_session}

@@ -13,7 +13,7 @@ use Rattle.reply_lines.specs.Reply.{PlainBody}
 use Rattle.agent_model.specs.CookieCells.{Domain, domain_order, is_own}
 use Rattle.agent_model.specs.Partition.{Partition}
 use Rattle.row_changes.specs.Change.{PlainChange}
-use Rattle.agent_model.specs.Done.{SharedCells, no_shared_cells}
+use Rattle.agent_model.specs.Effects.{SharedCells, no_shared_cells}
 use Rattle.agent_model.specs.SiteEvent.{TimedEvent, Answer, SiteOutcome}
 use Rattle.agent_model.specs.Consults.{event_names}
 use Rattle.agent_model.specs.SiteStep.{site_step}

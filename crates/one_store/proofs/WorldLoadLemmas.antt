@@ -13,7 +13,7 @@ use Rattle.storage_key.specs.Context.{is_of}
 use Rattle.script_actions.specs.declared.words.Method.{Method}
 use Rattle.script_actions.specs.Action.{HeadField, PlainAction, Go}
 use Rattle.agent_model.specs.Partition.{Holdings, Partition}
-use Rattle.agent_model.specs.Done.{SharedCells, Done}
+use Rattle.agent_model.specs.Effects.{SharedCells, Done}
 use Rattle.agent_model.specs.SiteEvent.{TopLoad, Goes, Arrives, Leaves, TimedEvent, replied}
 use Rattle.agent_model.specs.Sessions.{arrive, show}
 use Rattle.agent_model.specs.LoadNames.{load_name}

@@ -10,7 +10,7 @@ use Rattle.script_actions.specs.declared.words.Method.{Method}
 use Rattle.reply_lines.specs.Reply.{Plain}
 use Rattle.script_actions.specs.Action.{HeadField, Open}
 use Rattle.agent_model.specs.Partition.{Holdings}
-use Rattle.agent_model.specs.Done.{SharedCells, Done}
+use Rattle.agent_model.specs.Effects.{SharedCells, Done}
 use Rattle.agent_model.specs.SiteEvent.{Opens, Copies}
 use Rattle.agent_model.specs.Sessions.{arrive, show, copy_sessions}
 use Rattle.agent_model.specs.SiteStep.{site_step}

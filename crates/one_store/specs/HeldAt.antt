@@ -7,11 +7,11 @@ use Rattle.std.specs.Prelude.{◌≡◌, ℕ, Bool, true, Some}
 use Rattle.std.specs.FinMap as finite
 use Rattle.origin_site.specs.Site.{PlainSite}
 use Rattle.storage_key.specs.Key.{PlainKey}
-use Rattle.access_grants.specs.Part.{grants_under}
+use Rattle.access_grants.specs.UnderSite.{grants_under}
 use Rattle.live_state.specs.Tabs.{PlainTab}
 use Rattle.frame_tree.specs.Keys.{key_of_frame}
 use Rattle.agent_model.specs.Partition.{Holdings, is_cell_under, is_under, tab_named}
-use Rattle.agent_model.specs.Done.{Done}
+use Rattle.agent_model.specs.Effects.{Done}
 
 -- what one site has of what is held for all: the tabs that are at it, the storage whose key has it,
 -- and the permissions under it, in their order. `here` is whether the tab of a number is at the

@@ -19,7 +19,7 @@ use Rattle.reply_lines.specs.Reply.{PlainBody, Plain, Now}
 use Rattle.script_actions.specs.Action.{PlainAction, Tick, Open, Close, Go, Evict, Act}
 use Rattle.script_actions.specs.Action.{DocumentAction, HeadField}
 use Rattle.agent_model.specs.Partition.{Holdings, no_holdings, tab_named}
-use Rattle.agent_model.specs.Done.{SharedCells, Done, no_shared_cells, answers, ok}
+use Rattle.agent_model.specs.Effects.{SharedCells, Done, no_shared_cells, answers, ok}
 use Rattle.agent_model.specs.Buckets.{evict}
 use Rattle.agent_model.specs.Sessions.{arrive, close, copy_sessions}
 use Rattle.agent_model.specs.SiteEvent.{Answer}

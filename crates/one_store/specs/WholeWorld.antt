@@ -8,7 +8,7 @@ use Rattle.storage_key.specs.Context.{is_of}
 use Rattle.frame_tree.specs.Tree.{IsTree, top_site}
 use Rattle.live_state.specs.Tabs.{PlainTab}
 use Rattle.agent_model.specs.Partition.{Holdings, Partition, tab_named}
-use Rattle.agent_model.specs.Done.{SharedCells}
+use Rattle.agent_model.specs.Effects.{SharedCells}
 use Rattle.agent_model.specs.Lines.{AgentWorld, Places, site_at}
 use Rattle.one_store.specs.HeldAt.{held_at}
 

@@ -6,7 +6,7 @@ use Rattle.std.proofs.lemmas.Bool.Decides.{nat_tests}
 use Rattle.disk_model.specs.Disk.{Goes, IsSettled, LeavesOnly, Makes, View}
 use Rattle.disk_model.specs.DiskLaws.{IsLawful}
 use Rattle.journal.specs.Opening.{FileMeans, IsExcused, IsOpening, opening_calls}
-use Rattle.journal.specs.Region.{StandsFor}
+use Rattle.journal.specs.Region.{StandsForState}
 use Rattle.journal.specs.Store.{IsOpen, IsStore, IsUnborn}
 use Rattle.journal.specs.declared.open_fault.OpenFault.{OpenFault}
 use Rattle.journal.specs.declared.open_fault.OpenFault.TheVariants.{DeviceFault}
@@ -44,7 +44,7 @@ module _ {S : Type 0} (takes : S → Bool → List ℕ → S → ℕ → Type 0)
       let told = laws.told tells in
       goes_from (λ _ d. v.may_leave d) v.contents now told.0 goes told.1
 
-  left_stands : (base : S) × (last : ℕ) × StandsFor takes empty digest left.0 base last
+  left_stands : (base : S) × (last : ℕ) × StandsForState takes empty digest left.0 base last
   left_stands = stores tells left.0 left.2
 
   module _ {T : Type 0} (state : S) (changes : T → ℕ) where
@@ -61,8 +61,8 @@ module _ {S : Type 0} (takes : S → Bool → List ℕ → S → ℕ → Type 0)
         let same = means here.0 stands.0 stands.1 here.1 (inl stands.2) in (
           here.0,
           here.2,
-          subst (λ (n : ℕ). StandsFor takes empty digest here.0 state n) (sym same.1)
-              (subst (λ (s : S). StandsFor takes empty digest here.0 s stands.1) (sym same.0)
+          subst (λ (n : ℕ). StandsForState takes empty digest here.0 state n) (sym same.1)
+              (subst (λ (s : S). StandsForState takes empty digest here.0 s stands.1) (sym same.0)
               stands.2),
         )
     reopened_found (Err why) means = tt

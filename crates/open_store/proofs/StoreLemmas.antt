@@ -3,8 +3,8 @@ use Rattle.std.proofs.Common.{◌≡◌, inl, inr, ⊎_elim, ℕ, ◌+◌, ◌%�
 use Rattle.std.specs.Prelude.{Err, Ok, OnErr, OnOk, Result, is_err}
 use Rattle.disk_model.specs.Disk.{Device, LeavesOnly, View}
 use Rattle.disk_model.specs.DiskLaws.{IsLawful}
-use Rattle.journal.specs.Journal.{IsAtRest, IsBeforeOrAfter, IsBeforeOrSnapshot, JournalView, Stands, next_frame, since_of, snapshot_frame}
-use Rattle.journal.specs.Region.{Runs, StandsFor}
+use Rattle.journal.specs.Journal.{IsAtRest, IsBeforeOrAfter, IsBeforeOrSnapshot, JournalView, StandsInFile, next_frame, since_of, snapshot_frame}
+use Rattle.journal.specs.Region.{Runs, StandsForState}
 use Rattle.journal.specs.Store.{Frame, IsStore}
 use Rattle.journal.proofs.Meanings.{commit_stands_for}
 use Rattle.journal.proofs.Moments.{started, weaker}
@@ -18,7 +18,7 @@ some_is a b e = cc
 twice : (n : ℕ) → n % 2 ^ 64 % 2 ^ 64 ≡ n % 2 ^ 64
 twice n = omega arith
 
-pub stands_store : (j : JournalView) (file : List ℕ) (frames : List Frame) → Stands j file frames
+pub stands_store : (j : JournalView) (file : List ℕ) (frames : List Frame) → StandsInFile j file frames
     → IsStore j.digest file frames
 stands_store j file frames s = record {
   live = j.live;
@@ -34,12 +34,12 @@ stands_store j file frames s = record {
 module _ {S : Type 0} (takes : S → Bool → List ℕ → S → ℕ → Type 0) (empty : S) where
   module _ (j : JournalView) (v : View) (base : S) (at : StandsAt takes empty j v base) where
     pub contents_stand : (c : List ℕ) → v.contents ≡ Some c
-        → StandsFor takes empty j.digest c base j.changes
+        → StandsForState takes empty j.digest c base j.changes
     contents_stand c told =
         let here = at.stands c told in (here.0, stands_store j c here.0 here.1, here.2)
 
     pub images_stand : (c : List ℕ) → v.may_leave c
-        → StandsFor takes empty j.digest c base j.changes
+        → StandsForState takes empty j.digest c base j.changes
     images_stand c left = contents_stand c (at.rests.settled c left)
 
   -- ---- an empty body
@@ -75,9 +75,9 @@ module _ {S : Type 0} (takes : S → Bool → List ℕ → S → ℕ → Type 0)
   module _ (j k : JournalView) (v w : View) (body : List ℕ) (changes : ℕ)
       (some : 0 < length body) where
     abbrev Acknowledged : Type 0
-    Acknowledged = (c : List ℕ) (frames : List Frame) → v.contents ≡ Some c → Stands j c frames
+    Acknowledged = (c : List ℕ) (frames : List Frame) → v.contents ≡ Some c → StandsInFile j c frames
         → (d : List ℕ) × (w.contents ≡ Some d)
-        × Stands k d (frames ++ next_frame j body changes ∷ [])
+        × StandsInFile k d (frames ++ next_frame j body changes ∷ [])
 
     committed_at : (base next : S) → StandsAt takes empty j v base
         → takes base false body next changes → IsAtRest k w → k.shut ≡ false
@@ -98,7 +98,7 @@ module _ {S : Type 0} (takes : S → Bool → List ℕ → S → ℕ → Type 0)
           runs_push takes true empty 0 stood.0 base j.changes f next changes stood.2 some
           taken refl in (
             frames,
-            subst (λ (e : List ℕ). Stands k e frames) same done.2,
+            subst (λ (e : List ℕ). StandsInFile k e frames) same done.2,
             subst (λ (n : ℕ). Runs takes true empty 0 frames next n) (sym count) runs,
           );
     }
@@ -127,7 +127,7 @@ module _ {S : Type 0} (takes : S → Bool → List ℕ → S → ℕ → Type 0)
 
     pub commit_moments : (base next : S) → StandsAt takes empty j v base
         → BodyLeads takes base body changes next → IsLawful v → v.tells ≡ true
-        → ((c : List ℕ) (frames : List Frame) → v.contents ≡ Some c → Stands j c frames
+        → ((c : List ℕ) (frames : List Frame) → v.contents ≡ Some c → StandsInFile j c frames
         → LeavesOnly v w (IsBeforeOrAfter j.digest frames (next_frame j body changes)))
         → LeavesOnly v w
         (IsEither takes empty j.digest base j.changes next ((j.changes + changes) % 2 ^ 64))
@@ -150,8 +150,8 @@ module _ {S : Type 0} (takes : S → Bool → List ℕ → S → ℕ → Type 0)
 
   module _ (j k : JournalView) (v w : View) (body : List ℕ) where
     abbrev Snapped : Type 0
-    Snapped = (c : List ℕ) (frames : List Frame) → v.contents ≡ Some c → Stands j c frames
-        → (d : List ℕ) × (w.contents ≡ Some d) × Stands k d (snapshot_frame j body ∷ [])
+    Snapped = (c : List ℕ) (frames : List Frame) → v.contents ≡ Some c → StandsInFile j c frames
+        → (d : List ℕ) × (w.contents ≡ Some d) × StandsInFile k d (snapshot_frame j body ∷ [])
 
     snapped_at : (base next : S) (counted : ℕ) → StandsAt takes empty j v base
         → takes empty true body next counted → IsAtRest k w → k.shut ≡ false
@@ -168,7 +168,7 @@ module _ {S : Type 0} (takes : S → Bool → List ℕ → S → ℕ → Type 0)
           let same : done.0 ≡ c = some_is done.0 c (sym done.1 ∙ here) in
           let frames = snapshot_frame j body ∷ [] in (
             frames,
-            subst (λ (e : List ℕ). Stands k e frames) same done.2,
+            subst (λ (e : List ℕ). StandsInFile k e frames) same done.2,
             subst (λ (n : ℕ). Runs takes true empty 0 frames next n) (sym count)
                 (snapshot_runs j body next counted taken),
           );
@@ -188,7 +188,7 @@ module _ {S : Type 0} (takes : S → Bool → List ℕ → S → ℕ → Type 0)
 
     pub checkpoint_moments : (base next : S) (counted : ℕ) → StandsAt takes empty j v base
         → takes empty true body next counted → IsLawful v → v.tells ≡ true
-        → ((c : List ℕ) (frames : List Frame) → v.contents ≡ Some c → Stands j c frames
+        → ((c : List ℕ) (frames : List Frame) → v.contents ≡ Some c → StandsInFile j c frames
         → LeavesOnly v w (IsBeforeOrSnapshot j.digest frames (snapshot_frame j body)))
         → LeavesOnly v w (IsEither takes empty j.digest base j.changes next j.changes)
     checkpoint_moments base next counted at taken laws tells moments =

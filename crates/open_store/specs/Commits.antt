@@ -7,7 +7,7 @@ use Rattle.agent_base.specs.Counts.{Rose}
 use Rattle.disk_model.specs.Disk.{HasFailed, View}
 use Rattle.journal.specs.Journal.{HasRoom, JournalView}
 use Rattle.journal.specs.Opening.{HasNoFault}
-use Rattle.journal.specs.Region.{StandsFor, TakesOf}
+use Rattle.journal.specs.Region.{StandsForState, TakesOf}
 
 -- the body of a batch leads from a state to another by so many changes, and by none to the same
 -- where it is empty
@@ -20,7 +20,8 @@ BodyLeads takes base body changes next =
 abbrev pub IsEither : {S : Type 0} → TakesOf S → S → (digest : List ℕ) → S → ℕ → S → ℕ → List ℕ
     → Type 0
 IsEither takes empty digest base last next later file =
-    StandsFor takes empty digest file base last ⊎ StandsFor takes empty digest file next later
+    StandsForState takes empty digest file base last
+    ⊎ StandsForState takes empty digest file next later
 
 -- the commit of a body of so many bytes takes no memory
 abbrev pub HasRoomFor : JournalView → View → ℕ → Type 0

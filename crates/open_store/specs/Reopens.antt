@@ -4,7 +4,7 @@ use Rattle.std.specs.Prelude.{◌≡◌, ◌⊎◌, ℕ, true, false, List, IsEr
 use Rattle.agent_base.specs.Counts.{Rose}
 use Rattle.disk_model.specs.Disk.{HasFailed, IsNextCut, View, WasOff}
 use Rattle.journal.specs.Opening.{IsOpening}
-use Rattle.journal.specs.Region.{StandsFor, TakesOf}
+use Rattle.journal.specs.Region.{StandsForState, TakesOf}
 use Rattle.journal.specs.declared.open_fault.OpenFault.{OpenFault}
 use Rattle.journal.specs.declared.open_fault.OpenFault.TheVariants.{DeviceFault}
 
@@ -12,12 +12,12 @@ use Rattle.journal.specs.declared.open_fault.OpenFault.TheVariants.{DeviceFault}
 abbrev pub LeavesStores : {S : Type 0} → TakesOf S → S → (digest : List ℕ) → View → Type 0
 LeavesStores {S} takes empty digest view =
     view.tells ≡ true → (file : List ℕ) → view.may_leave file
-    → (base : S) × (last : ℕ) × StandsFor takes empty digest file base last
+    → (base : S) × (last : ℕ) × StandsForState takes empty digest file base last
 
 -- a cut may leave a store that stands for this, after so many changes
 abbrev pub IsFound : {S : Type 0} → TakesOf S → S → (digest : List ℕ) → View → S → ℕ → Type 0
 IsFound takes empty digest view base last =
-    (file : List ℕ) × view.may_leave file × StandsFor takes empty digest file base last
+    (file : List ℕ) × view.may_leave file × StandsForState takes empty digest file base last
 
 -- what an opening leaves of a file that a cut might have left: that file, or of an unborn one what
 -- is made of it

@@ -6,6 +6,7 @@ use Rattle.std.specs.Prelude.{ℕ, Bool, not, ◌||◌, ◌==◌, ◌-◌, nat_l
 use Rattle.std.specs.Prelude.{codes, bytes_eq, is_some, unwrap_or, option_map, option_and_then}
 use Rattle.std.specs.Prelude.{None, Result, Ok, Err, if◌then◌else◌}
 use Rattle.std.specs.Option.{option_or}
+use Rattle.std.specs.Str.{byte}
 use Rattle.url.specs.Scheme.{default_port}
 use Rattle.url.specs.Host.{host_text, domain_of}
 use Rattle.url.specs.Parts.{Parts, serialize, nonempty_host}
@@ -45,7 +46,7 @@ port_of url = unwrap_or (option_or url.port (default_port url.scheme)) 0
 
 -- the text's last byte is a dot
 abbrev pub ends_with_dot : List ℕ → Bool
-ends_with_dot host = slice_index host (length host - 1) == 46
+ends_with_dot host = slice_index host (length host - 1) == byte "."
 
 -- the address that a web URL is, with its whole text
 abbrev pub address_parts : Parts → PlainAddress

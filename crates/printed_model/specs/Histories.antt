@@ -39,11 +39,12 @@ printed_replies rules opening history =
 abbrev pub history_text : List Rule → AgentOpening → History PlainAction → List ℕ
 history_text rules opening history = text_of (printed_replies rules opening history)
 
--- the lines that were answered `down`, in stretches and in a whole history
+-- the lines that were answered `down` in stretches
 abbrev pub closed_downs : List (Stretch PlainAction) → List PlainStep
 closed_downs [] = []
 closed_downs (s ∷ ss) = s.downs ++ closed_downs ss
 
+-- and in a whole history
 abbrev pub history_downs : History PlainAction → List PlainStep
 history_downs history = closed_downs history.closed ++ history.open_end.downs
 

@@ -14,10 +14,11 @@ use Rattle.agent_model.specs.TheMachine.{machine}
 use Rattle.durable_model.specs.Histories.{AgentOpening}
 use Rattle.durable_model.specs.Keeping.{AgentDurable, keeping}
 
--- where the last epoch of a history began, and the world that it began with
+-- where the last epoch of a history began
 abbrev pub end_opening : List Rule → AgentOpening → History PlainAction → AgentOpening
 end_opening rules opening history = opening_after (machine rules) keeping opening history.closed
 
+-- the world that it began with
 abbrev pub end_world : List Rule → AgentOpening → History PlainAction → AgentWorld
 end_world rules opening history =
     let at = end_opening rules opening history in

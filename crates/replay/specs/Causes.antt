@@ -30,11 +30,12 @@ allows_cuts (Some path) = false
 abbrev pub GrammarOf : Type 0 → Type 0
 GrammarOf Scripts = List ℕ → Result Scripts PlainFault
 
--- bytes, where they are told, have this fault first in a grammar, or none
+-- bytes, where they are told, have this fault first in a grammar
 abbrev pub ScriptFaulty : {Scripts : Type 0}
     → GrammarOf Scripts → Option (List ℕ) → PlainFault → Type 0
 ScriptFaulty grammar told why = IfSome told (λ bytes. grammar bytes ≡ Err why)
 
+-- bytes, where they are told, have no fault in a grammar
 abbrev pub ScriptFine : {Scripts : Type 0} → GrammarOf Scripts → Option (List ℕ) → Type 0
 ScriptFine grammar told = IfSome told (λ bytes. IsOk (grammar bytes))
 

@@ -1,5 +1,6 @@
 -- The line that a run writes to standard error, where its status is not 0.
--- Our own choice: the texts. The usage line names all commands of the program's full form.
+-- Source: none.
+-- Our own choice: the texts. The usage line names each command.
 use Rattle.std.specs.Prelude.{◌≡◌, ℕ, List, [], ◌∷◌, ◌++◌, codes, decimal}
 use Rattle.hex.specs.Hex.{encode_lower}
 use Rattle.journal.specs.declared.open_fault.OpenFault.{OpenFault}

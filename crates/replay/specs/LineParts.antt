@@ -1,4 +1,5 @@
 -- The pieces of a fault line. Only private functions see it.
+-- Source: none.
 use Rattle.std.specs.Prelude.{ℕ, List, flat_map, decimal}
 use Rattle.hex.specs.Hex.{encode_lower}
 use Rattle.replay.specs.declared.told.FaultLine.{FaultLine}

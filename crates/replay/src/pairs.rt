@@ -2,6 +2,7 @@
 ghost use Rattle.std.specs.Prelude.{◌≡◌, ◌≤◌, ◌<◌, ◌+◌, ◌^◌, IfErr, IfOk, None, OnErr, OnOk, Some, length};
 ghost use Rattle.agent_base.specs.Counts.{HasCause};
 ghost use Rattle.agent_base.specs.Streams.{Takes, TakesPrefix};
+ghost use Rattle.agent_core.specs.AgentView.{longest_batch};
 ghost use Rattle.agent_model.specs.Rest.{last_moment};
 ghost use Rattle.command_line.specs.Words as words;
 ghost use Rattle.origin_site.specs.Plain.{plain_site};
@@ -40,7 +41,7 @@ pub fn write_twin<H: Host, I: Source, O: Sink>(
     out: &mut O,
 ) -> Status
     requires start { options.start ≤ last_moment }
-    requires batch { (1 ≤ options.batch) × (options.batch ≤ 256) }
+    requires batch { (1 ≤ options.batch) × (options.batch ≤ longest_batch) }
     requires closed { H.store_out host.old ≡ None }
     ensures { let checkpoint = options.checkpoint in
         Obeys (Some (words.Twin site.now list.now options.batch checkpoint options.start)) result
@@ -75,7 +76,7 @@ fn compare<I: Source, O: Sink>(
     out: &mut O,
 ) -> Status
     requires start { options.start ≤ last_moment }
-    requires batch { (1 ≤ options.batch) × (options.batch ≤ 256) }
+    requires batch { (1 ≤ options.batch) × (options.batch ≤ longest_batch) }
     ensures text { WritesLine result (from_to (O.taken out.old) (O.taken out.new))
         (IsAnswer list.now (plain_site site.now) options.start options.batch
         (from_to (I.left script.old) (I.left script.new))) }

@@ -1,6 +1,7 @@
 //! The run of a script, over a new store in memory or over the store of a path.
 ghost use Rattle.std.specs.Prelude.{◌≡◌, ◌≤◌, ◌<◌, ◌+◌, ◌^◌, IfErr, IfOk, None, OnErr, OnOk, Some};
 ghost use Rattle.std.specs.Prelude.{length, option_map, true, false};
+ghost use Rattle.agent_core.specs.AgentView.{longest_batch};
 ghost use Rattle.agent_model.specs.Rest.{last_moment};
 ghost use Rattle.command_line.specs.Words.{Replay};
 ghost use Rattle.disk_model.specs.Schedule.{AreFrom};
@@ -40,7 +41,7 @@ pub fn replay<H: Host, I: Source, O: Sink>(
     out: &mut O,
 ) -> Status
     requires start { options.start ≤ last_moment }
-    requires batch { (1 ≤ options.batch) × (options.batch ≤ 256) }
+    requires batch { (1 ≤ options.batch) × (options.batch ≤ longest_batch) }
     requires closed { H.store_out host.old ≡ None }
     ensures { let path = option_map (λ path. path.now) store.entry in
         Obeys (Some (Replay list.now path options.batch options.checkpoint options.start)) result
@@ -73,7 +74,7 @@ fn run_in_new<I: Source, O: Sink>(
     out: &mut O,
 ) -> Status
     requires start { options.start ≤ last_moment }
-    requires batch { (1 ≤ options.batch) × (options.batch ≤ 256) }
+    requires batch { (1 ≤ options.batch) × (options.batch ≤ longest_batch) }
     ensures text { Written result (from_to (O.taken out.old) (O.taken out.new)) (λ ended.
         (read : ScriptRead true (from_to (I.left script.old) (I.left script.new)))
         × RanInMemory options.start options.batch options.checkpoint
@@ -104,7 +105,7 @@ fn run_stored<H: Host, I: Source, O: Sink>(
     out: &mut O,
 ) -> Status
     requires start { options.start ≤ last_moment }
-    requires batch { (1 ≤ options.batch) × (options.batch ≤ 256) }
+    requires batch { (1 ≤ options.batch) × (options.batch ≤ longest_batch) }
     requires closed { H.store_out host.old ≡ None }
     ensures text { Written result (from_to (O.taken out.old) (O.taken out.new)) (λ ended.
         (read : ScriptRead false (from_to (I.left script.old) (I.left script.new)))
@@ -143,7 +144,7 @@ fn run_over<H: Host, O: Sink>(
     out: &mut O,
 ) -> Status
     requires start { options.start ≤ last_moment }
-    requires batch { (1 ≤ options.batch) × (options.batch ≤ 256) }
+    requires batch { (1 ≤ options.batch) × (options.batch ≤ longest_batch) }
     requires fits { length lines.now + 2 < 2 ^ 64 }
     requires closed { H.store_out host.old ≡ None }
     ensures text { Written result (from_to (O.taken out.old) (O.taken out.new)) (λ ended.

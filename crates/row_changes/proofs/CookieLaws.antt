@@ -12,7 +12,7 @@ use Rattle.cookie_jar.specs.Key.{PlainKey as PlainCell}
 use Rattle.access_grants.specs.Grant.{PlainGrant}
 use Rattle.row_changes.specs.Fields.{made, byte_at, text_bytes, signed_bytes}
 use Rattle.row_changes.specs.Spelling.{cell_bytes, same_site_byte, cookie_bytes, answer_byte, grant_bytes}
-use Rattle.row_changes.specs.Spelled.{IsText, IsSite, IsNamed, IsKept, IsRow, suits}
+use Rattle.row_changes.specs.Spelled.{IsText, IsSite, IsNamed, HasSpelledFields, IsRow, suits}
 use Rattle.row_changes.specs.Reading.{texts_at, marks_at, cookie_of, cookie_at, placed_at, answer_of, grant_of, grant_at}
 use Rattle.row_changes.proofs.FieldLaws.{both_true, differs, Reads, respelled, both_reads, made_reads, passing_reads, byte_reads, text_reads, signed_reads, Any}
 use Rattle.row_changes.proofs.NameLaws.{site_reads}
@@ -64,7 +64,7 @@ cookie_with c expiry last = record c { expiry = expiry; last = last }
 abbrev cookie_again : PlainCookie → Option PlainCookie
 cookie_again c = Some (cookie_of (cookie_parts c))
 
-cookie_forth : (c : PlainCookie) → IsKept c → (AreTexts (cookie_texts c) × AreMarks (cookie_marks c)) × (cookie_again c ≡ Some c)
+cookie_forth : (c : PlainCookie) → HasSpelledFields c → (AreTexts (cookie_texts c) × AreMarks (cookie_marks c)) × (cookie_again c ≡ Some c)
 cookie_forth c h =
     let end_is : unwrap_or c.expiry (pos 0) ≡ h.end = ap (λ (e : Option ℤ). unwrap_or e (pos 0)) h.expiry in
     let fits : FitsSigned w64 (unwrap_or c.expiry (pos 0)) = subst (λ z. FitsSigned w64 z) (sym end_is) h.fits in
@@ -73,10 +73,10 @@ cookie_forth c h =
       ap Some (ap (λ (e : Option ℤ). cookie_with c e (pos 0)) expiry_is ∙ ap (λ (l : ℤ). cookie_with c c.expiry l) (sym h.last)),
     )
 
-cookie_only : (p : Texts × Marks) (c : PlainCookie) → AreTexts p.0 × AreMarks p.1 → Some (cookie_of p) ≡ Some c → IsKept c × (cookie_parts c ≡ p)
+cookie_only : (p : Texts × Marks) (c : PlainCookie) → AreTexts p.0 × AreMarks p.1 → Some (cookie_of p) ≡ Some c → HasSpelledFields c × (cookie_parts c ≡ p)
 cookie_only p c h e =
     let same : cookie_of p ≡ c = same_Some (cookie_of p) c e in
-    let kept : IsKept (cookie_of p) = record {
+    let kept : HasSpelledFields (cookie_of p) = record {
       name = h.0.0.0.0;
       value = h.0.0.0.1;
       domain = h.0.0.1;
@@ -87,16 +87,16 @@ cookie_only p c h e =
       fits = h.1.1;
       last = refl;
     } in
-    (subst IsKept same kept, ap cookie_parts (sym same))
+    (subst HasSpelledFields same kept, ap cookie_parts (sym same))
 
 cookie_respelled : (c : PlainCookie) → texts_bytes (cookie_texts c) ++ marks_bytes (cookie_marks c) ≡ cookie_bytes c
 cookie_respelled c = refl
 
-cookie_reads : Reads cookie_at cookie_bytes IsKept
+cookie_reads : Reads cookie_at cookie_bytes HasSpelledFields
 unfolding cookie_at
 cookie_reads =
     respelled cookie_bytes cookie_respelled
-    (made_reads (λ p. Some (cookie_of p)) cookie_parts IsKept cookie_forth cookie_only (both_reads texts_reads marks_reads))
+    (made_reads (λ p. Some (cookie_of p)) cookie_parts HasSpelledFields cookie_forth cookie_only (both_reads texts_reads marks_reads))
 
 -- ---- places
 
@@ -104,7 +104,7 @@ abbrev pub placed_bytes : (PlainCell × ℕ) × PlainCookie → List ℕ
 placed_bytes p = cell_bytes p.0.0 ++ p.0.1 ∷ cookie_bytes p.1
 
 abbrev pub ArePlaced : List Rule → (PlainCell × ℕ) × PlainCookie → Type 0
-ArePlaced rules p = ((IsNamed rules p.0.0 × (p.0.1 < 256)) × IsKept p.1) × (suits rules p.0.0 p.1 ≡ true)
+ArePlaced rules p = ((IsNamed rules p.0.0 × (p.0.1 < 256)) × HasSpelledFields p.1) × (suits rules p.0.0 p.1 ≡ true)
 
 pub placed_reads : (rules : List Rule) → Reads (placed_at rules) placed_bytes (ArePlaced rules)
 unfolding placed_at

@@ -2,7 +2,7 @@
 use Rattle.std.specs.Prelude.{string_bytes}
 use Rattle.storage_key.specs.Plain.{plain_key}
 use Rattle.cookie_jar.specs.Key.{plain_key as plain_cell}
-use Rattle.cookie_jar.specs.Views.{plain_cookie}
+use Rattle.cookie_jar.specs.Plain.{plain_cookie}
 use Rattle.access_grants.specs.Plain.{plain_grant}
 use Rattle.row_changes.specs.declared.change.Change.{Change as RowChange}
 use Rattle.row_changes.specs.declared.change.Change.TheVariants as change

@@ -12,6 +12,7 @@ use Rattle.suffix_list.specs.Suffix.{Rule}
 use Rattle.origin_site.specs.Origin.{origin_text}
 use Rattle.origin_site.specs.Site.{PlainSite, same_plain_site, site_of_origin, site_text}
 use Rattle.storage_key.specs.Key.{PlainKey}
+use Rattle.setcookie_parse.specs.SetCookie.{pair_limit}
 use Rattle.stored_cookie.specs.StoredCookie.{PlainCookie}
 use Rattle.cookie_jar.specs.Cookie.{pair_bytes}
 use Rattle.cookie_jar.specs.Key.{PlainKey as PlainCell, OwnCell, PartitionCell}
@@ -59,10 +60,6 @@ abbrev pub begins_with_slash : List ℕ → Bool
 begins_with_slash [] = false
 begins_with_slash (first ∷ rest) = first == byte "/"
 
--- the most bytes of a cookie's name and value together
-abbrev pub pair_limit : ℕ
-pair_limit = 4096
-
 -- what a cookie is by itself: its name and value have 1 to 4,096 bytes together, its path begins
 -- with `/`, and in a partition it is Secure
 abbrev pub is_sound : Bool → PlainCookie → Bool
@@ -76,7 +73,7 @@ suits rules cell c =
     is_sound (is_partition cell) c && is_host_of rules (domain_of_cell cell) c.domain
 
 -- the fields of a cookie have a spelling: it has an expiry, and its last use is 0
-pub record IsKept (c : PlainCookie) : Type 0 where
+pub record HasSpelledFields (c : PlainCookie) : Type 0 where
   pub name : IsText c.name
   pub value : IsText c.value
   pub domain : IsText c.domain
@@ -90,7 +87,7 @@ pub record IsKept (c : PlainCookie) : Type 0 where
 -- a cookie at a place of a cell has a spelling
 abbrev pub IsPlaced : List Rule → PlainCell → ℕ → PlainCookie → Type 0
 IsPlaced rules cell place c =
-    IsNamed rules cell × (place < 2 ^ 8) × IsKept c × (suits rules cell c ≡ true)
+    IsNamed rules cell × (place < 2 ^ 8) × HasSpelledFields c × (suits rules cell c ≡ true)
 
 -- a permission has a spelling: both its sites are https
 abbrev pub IsRow : List Rule → PlainGrant → Type 0

@@ -2,7 +2,7 @@
 ghost use Rattle.std.specs.Prelude.{◌≡◌, IfOk, string_bytes};
 ghost use Rattle.std.specs.Rc.{rc_value};
 ghost use Rattle.cookie_jar.specs.Key.{plain_key as plain_cell};
-ghost use Rattle.cookie_jar.specs.Views.{plain_cookie};
+ghost use Rattle.cookie_jar.specs.Plain.{plain_cookie};
 ghost use Rattle.row_changes.specs.Reading as spec;
 ghost use Rattle.row_changes.specs.Spelled as spelled;
 ghost use Rattle.row_changes.specs.Stops.{Gives};

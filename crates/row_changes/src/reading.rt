@@ -2,7 +2,7 @@
 ghost use Rattle.std.specs.Prelude.{◌≡◌, IfOk, if◌then◌else◌, option_map, string_bytes};
 ghost use Rattle.access_grants.specs.Plain.{plain_grant};
 ghost use Rattle.cookie_jar.specs.Key.{plain_key as plain_cell};
-ghost use Rattle.cookie_jar.specs.Views.{plain_cookie};
+ghost use Rattle.cookie_jar.specs.Plain.{plain_cookie};
 ghost use Rattle.row_changes.specs.Change.{CookieInsert, CookieReplace};
 ghost use Rattle.row_changes.specs.Fields as fields;
 ghost use Rattle.row_changes.specs.Plain.{plain_change};

@@ -3,7 +3,7 @@ ghost use Rattle.std.specs.Prelude.{◌≡◌, ◌<◌, ◌++◌, ◌∷◌, [],
 ghost use Rattle.std.specs.List.{All};
 ghost use Rattle.access_grants.specs.Plain.{plain_grant};
 ghost use Rattle.cookie_jar.specs.Key.{plain_key as plain_cell};
-ghost use Rattle.cookie_jar.specs.Views.{plain_cookie};
+ghost use Rattle.cookie_jar.specs.Plain.{plain_cookie};
 ghost use Rattle.origin_site.specs.Plain.{plain_site};
 ghost use Rattle.origin_site.specs.Site.{site_text};
 ghost use Rattle.storage_key.specs.Plain.{plain_key};

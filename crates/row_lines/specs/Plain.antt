@@ -2,7 +2,7 @@
 -- Source: none; it says how contracts see a type of this crate.
 use Rattle.storage_key.specs.Plain.{plain_key}
 use Rattle.cookie_jar.specs.Key.{plain_key as plain_cell}
-use Rattle.cookie_jar.specs.Views.{plain_cookie}
+use Rattle.cookie_jar.specs.Plain.{plain_cookie}
 use Rattle.access_grants.specs.Plain.{plain_grant}
 use Rattle.row_lines.specs.Row.{PlainRow}
 use Rattle.row_lines.specs.Row as plain

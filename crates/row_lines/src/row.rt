@@ -1,7 +1,7 @@
 //! Rows of a store.
 ghost use Rattle.std.specs.Prelude.{◌≡◌, option_map};
 ghost use Rattle.cookie_jar.specs.Key.{plain_key as plain_cell};
-ghost use Rattle.cookie_jar.specs.Views.{plain_cookie};
+ghost use Rattle.cookie_jar.specs.Plain.{plain_cookie};
 ghost use Rattle.row_changes.specs.Plain.{plain_change};
 ghost use Rattle.row_lines.specs.Plain.{plain_row};
 ghost use Rattle.row_lines.specs.Row.{cookie_row, row_of};

@@ -7,7 +7,7 @@ ghost use Rattle.origin_site.specs.Plain.{plain_origin, plain_site};
 ghost use Rattle.origin_site.specs.Site.{site_text};
 ghost use Rattle.storage_key.specs.Plain.{plain_key};
 ghost use Rattle.cookie_jar.specs.Key.{plain_key as plain_cell};
-ghost use Rattle.cookie_jar.specs.Views.{plain_cookie};
+ghost use Rattle.cookie_jar.specs.Plain.{plain_cookie};
 ghost use Rattle.access_grants.specs.Plain.{plain_grant};
 ghost use Rattle.row_lines.specs.Row as spec;
 ghost use Rattle.row_lines.specs.Plain.{plain_row};

@@ -11,7 +11,7 @@ use Rattle.cookie_jar.specs.Key.{PlainKey as PlainCell, OwnCell, PartitionCell}
 use Rattle.cookie_jar.specs.Persistent.{RowInsert, row_fits}
 use Rattle.cookie_jar.proofs.CellLemmas.{fits_less}
 use Rattle.cookie_jar.proofs.ValidLaws.{same_self}
-use Rattle.access_grants.specs.Grant.{HasDistinctPairs, PlainGrant, has_row, is_of, kept, same_pair}
+use Rattle.access_grants.specs.Grant.{HasDistinctPairs, PlainGrant, has_row, is_of, with_row, same_pair}
 use Rattle.access_grants.proofs.GrantLemmas.{pair_of, same_pair-equiv}
 use Rattle.row_changes.specs.Change.{CookieInsert, Grant}
 use Rattle.agent_model.specs.CookieCells.{Cookies, domain_order}
@@ -150,7 +150,7 @@ with_grants rows e = record e { under = record (e.under) { grants = rows } }
 
 -- a permission of a new pair comes last
 kept_last : (row : PlainGrant) (front rest : List PlainGrant) → HasDistinctPairs (front ++ row ∷ rest)
-    → kept row front ≡ front ++ row ∷ []
+    → with_row row front ≡ front ++ row ∷ []
 kept_last row front rest apart =
     let new : has_row row front ≡ false = absent_before same_pair same_pair-equiv pair_of front row rest apart in
     ap (λ b. cond b (map (λ other. cond (is_of row.top row.site other) row other) front) (front ++ row ∷ [])) new
@@ -159,7 +159,7 @@ pub grants_lead : (front rest : List PlainGrant) (e : Saved) → e.under.grants 
     → Leads e (map (λ row. Grant row) rest) (with_grants (front ++ rest) e)
 grants_lead front [] e is apart = stays e _ (ap (λ rows. with_grants rows e) (is ∙ sym (append-nil front)))
 grants_lead front (row ∷ rows) e is apart =
-    let made : kept row e.under.grants ≡ front ++ row ∷ [] = ap (kept row) is ∙ kept_last row front rows apart in
+    let made : with_row row e.under.grants ≡ front ++ row ∷ [] = ap (with_row row) is ∙ kept_last row front rows apart in
     let whole : (front ++ row ∷ []) ++ rows ≡ front ++ row ∷ rows = append_assoc front (row ∷ []) rows in
     let next : Saved = edited (Grant row) e in
     first e (Grant row) (map (λ other. Grant other) rows) _ refl

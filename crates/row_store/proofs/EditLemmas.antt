@@ -6,7 +6,7 @@ use Rattle.local_area.specs.Area.{Pair, area_get, area_remove, has_name}
 use Rattle.cookie_jar.specs.Cookie.{PlainCookie}
 use Rattle.cookie_jar.specs.Key.{PlainKey as PlainCell, OwnCell, PartitionCell}
 use Rattle.cookie_jar.specs.Persistent.{CookieRow, RowInsert, RowRemove, RowReplace, row_edit, row_fits}
-use Rattle.access_grants.specs.Grant.{PlainGrant, PlainGrants, kept}
+use Rattle.access_grants.specs.Grant.{PlainGrant, PlainGrants, with_row}
 use Rattle.row_changes.specs.Change.{PlainChange, AreaRemove, CookieInsert, CookieRemove, CookieReplace, Grant, SetMode}
 use Rattle.storage_events.specs.declared.event.AreaKind.TheVariants.{Local}
 use Rattle.agent_model.specs.CookieCells.{Cookies}
@@ -189,7 +189,7 @@ module _ (areas : storage.Entries) (grants : PlainGrants) where
 
 -- a permission that is kept
 pub grants_saved : (areas : storage.Entries) (cells : cookies.Entries) (old new : PlainGrants)
-    (row : PlainGrant) → new.rows ≡ kept row old.rows
+    (row : PlainGrant) → new.rows ≡ with_row row old.rows
     → saved_in areas cells new ≡ edited (Grant row) (saved_in areas cells old)
 grants_saved areas cells old new row is = λ i. record {
   under = record {

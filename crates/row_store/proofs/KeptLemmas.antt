@@ -19,7 +19,7 @@ use Rattle.unwinding.proofs.FiniteCellsLemmas.{get_set, same_cells}
 use Rattle.cookie_jar.specs.Cookie.{PlainCookie}
 use Rattle.cookie_jar.specs.Key.{PlainKey as PlainCell, OwnCell, PartitionCell}
 use Rattle.cookie_jar.specs.Lifetime.{is_persistent}
-use Rattle.cookie_jar.specs.Persistent.{kept, kept_cookie}
+use Rattle.cookie_jar.specs.Persistent.{persistent_part, kept_cookie}
 use Rattle.row_changes.specs.Change.{CookieInsert, PlainChange}
 use Rattle.agent_model.specs.CookieCells.{CookieCells, Cookies, Domain, domain_order, no_cookies}
 use Rattle.agent_model.specs.PartitionedCells.{PartitionedCells, PartitionedKey, no_partitioned_cells, partitioned_order}
@@ -135,7 +135,7 @@ module _ {K : Type 0} (R : K → K → Ordering) (o : IsTotalOrder R) (same : Is
 
   -- something is kept at a key of these entries
   abbrev keeps : List (K × Full PlainCookie) → K → Bool
-  keeps es k = has_some (kept (list_of (find R k es)))
+  keeps es k = has_some (persistent_part (list_of (find R k es)))
 
   -- an entry says nothing of greater keys
   keeps_alike : (e : K × Full PlainCookie) (es : List (K × Full PlainCookie)) (ks : List K)
@@ -144,33 +144,33 @@ module _ {K : Type 0} (R : K → K → Ordering) (o : IsTotalOrder R) (same : Is
   keeps_alike e es [] below = refl
   keeps_alike e es (k ∷ ks) below =
       let apart : eq_by_cmp R k e.0 ≡ false = (eq_by_cmp_equiv o).symm k e.0 ∙ ap is_eq below.0 in
-      let one : keeps (e ∷ es) k ≡ keeps es k = ap (λ b. has_some (kept (list_of (cond b (Some e.1) (find R k es))))) apart in
+      let one : keeps (e ∷ es) k ≡ keeps es k = ap (λ b. has_some (persistent_part (list_of (cond b (Some e.1) (find R k es))))) apart in
       let later : filter (keeps (e ∷ es)) ks ≡ filter (keeps es) ks = keeps_alike e es ks below.1 in
       λ i. cond (one i) (k ∷ later i) (later i)
 
   module _ (made : List (K × Full PlainCookie) → Cells) (none : made [] ≡ finite.empty)
       (more : (e : K × Full PlainCookie) (es : List (K × Full PlainCookie))
-      → made (e ∷ es) ≡ set_cell R e.0 (kept (e.1.first ∷ e.1.rest)) (made es)) where
+      → made (e ∷ es) ≡ set_cell R e.0 (persistent_part (e.1.first ∷ e.1.rest)) (made es)) where
     get_first : (q : K) → get_cell R (made []) q ≡ []
     unfolding get_cell
     get_first q = ap (λ m. list_of (finite.get m q)) none ∙ ap list_of (get-empty R q)
 
-    made_found : (es : List (K × Full PlainCookie)) (q : K) → get_cell R (made es) q ≡ kept (list_of (find R q es))
+    made_found : (es : List (K × Full PlainCookie)) (q : K) → get_cell R (made es) q ≡ persistent_part (list_of (find R q es))
     made_found [] q = get_first q
     made_found (e ∷ es) q =
         ap (λ m. get_cell R m q) (more e es)
-        ∙ get_set R o same q e.0 (kept (e.1.first ∷ e.1.rest)) (made es)
+        ∙ get_set R o same q e.0 (persistent_part (e.1.first ∷ e.1.rest)) (made es)
         ∙ at (eq_by_cmp R q e.0) (made_found es q)
       where
-        at : (b : Bool) → get_cell R (made es) q ≡ kept (list_of (find R q es))
-            → cond b (kept (e.1.first ∷ e.1.rest)) (get_cell R (made es) q) ≡ kept (list_of (cond b (Some e.1) (find R q es)))
+        at : (b : Bool) → get_cell R (made es) q ≡ persistent_part (list_of (find R q es))
+            → cond b (persistent_part (e.1.first ∷ e.1.rest)) (get_cell R (made es) q) ≡ persistent_part (list_of (cond b (Some e.1) (find R q es)))
         at true later = refl
         at false later = later
 
     -- a cell has what is kept of it
-    pub get_made : (m : Cells) (q : K) → get_cell R (made (entries m)) q ≡ kept (get_cell R m q)
+    pub get_made : (m : Cells) (q : K) → get_cell R (made (entries m)) q ≡ persistent_part (get_cell R m q)
     unfolding get_cell
-    get_made m q = made_found (entries m) q ∙ ap (λ found. kept (list_of found)) (sym (get-entries m q))
+    get_made m q = made_found (entries m) q ∙ ap (λ found. persistent_part (list_of found)) (sym (get-entries m q))
 
     made_keys : (es : List (K × Full PlainCookie)) → T (is_sorted R es)
         → finite.keys (made es) ≡ filter (keeps es) (map (λ e. e.0) es)
@@ -181,13 +181,13 @@ module _ {K : Type 0} (R : K → K → Ordering) (o : IsTotalOrder R) (same : Is
         ks = map (λ f. f.0) es
 
         these : Cookies
-        these = kept (e.1.first ∷ e.1.rest)
+        these = persistent_part (e.1.first ∷ e.1.rest)
 
         below : AllByRecursion (λ q. R e.0 q ≡ Less) ks
         below = below_each e.0 es (subst T (sym (lt_parts (below_all R e.0 es) (is_sorted R es) sorted).0) tt)
 
         own : keeps (e ∷ es) e.0 ≡ has_some these
-        own = ap (λ b. has_some (kept (list_of (cond b (Some e.1) (find R e.0 es))))) ((eq_by_cmp_equiv o).refl e.0)
+        own = ap (λ b. has_some (persistent_part (list_of (cond b (Some e.1) (find R e.0 es))))) ((eq_by_cmp_equiv o).refl e.0)
 
         first : (cs : Cookies) → these ≡ cs → more_key e.0 cs (filter (keeps (e ∷ es)) ks) ≡ filter (keeps (e ∷ es)) (e.0 ∷ ks)
         first [] is = sym (left_out (keeps (e ∷ es)) e.0 ks (own ∙ ap has_some is))
@@ -202,11 +202,11 @@ module _ {K : Type 0} (R : K → K → Ordering) (o : IsTotalOrder R) (same : Is
             ∙ first these refl
 
     -- the keys of cells of which something is kept, in their order
-    pub keys_made : (m : Cells) → finite.keys (made (entries m)) ≡ filter (λ k. has_some (kept (get_cell R m k))) (finite.keys m)
+    pub keys_made : (m : Cells) → finite.keys (made (entries m)) ≡ filter (λ k. has_some (persistent_part (get_cell R m k))) (finite.keys m)
     unfolding get_cell
     keys_made m =
         made_keys (entries m) (entries_sorted m)
-        ∙ (λ i. filter (λ k. has_some (kept (list_of (sym (get-entries m k) i)))) (finite.keys m))
+        ∙ (λ i. filter (λ k. has_some (persistent_part (list_of (sym (get-entries m k) i)))) (finite.keys m))
 
 -- ---- cells of both kinds
 
@@ -219,21 +219,21 @@ unfolding no_partitioned_cells
 none_parted = refl
 
 pub get_kept_own : (m : CookieCells) (domain : Domain)
-    → get_cell domain_order (kept_own_cells m) domain ≡ kept (get_cell domain_order m domain)
+    → get_cell domain_order (kept_own_cells m) domain ≡ persistent_part (get_cell domain_order m domain)
 get_kept_own m domain = get_made domain_order domain_order_total domain_order_same kept_own_entries none_own
     (λ e es. refl) m domain
 
 -- what is kept of a cell
-pub cookies_kept : (cell : PlainCell) (d : Saved) → cookies_at cell (kept_of d) ≡ kept (cookies_at cell d)
+pub cookies_kept : (cell : PlainCell) (d : Saved) → cookies_at cell (kept_of d) ≡ persistent_part (cookies_at cell d)
 cookies_kept (OwnCell domain) d = get_kept_own d.cells domain
 cookies_kept (PartitionCell top bit domain) d = get_kept d.under.cookies (record { top = top; bit = bit; domain = domain })
 
 own_keys : (m : CookieCells) → finite.keys (kept_own_cells m)
-    ≡ filter (λ domain. has_some (kept (get_cell domain_order m domain))) (finite.keys m)
+    ≡ filter (λ domain. has_some (persistent_part (get_cell domain_order m domain))) (finite.keys m)
 own_keys m = keys_made domain_order domain_order_total domain_order_same kept_own_entries none_own (λ e es. refl) m
 
 parted_keys : (m : PartitionedCells) → finite.keys (kept_cells m)
-    ≡ filter (λ key. has_some (kept (get_cell partitioned_order m key))) (finite.keys m)
+    ≡ filter (λ key. has_some (persistent_part (get_cell partitioned_order m key))) (finite.keys m)
 parted_keys m = keys_made partitioned_order partitioned_order_total partitioned_order_same kept_entries
     none_parted (λ e es. refl) m
 
@@ -374,14 +374,14 @@ module _ (d : Saved) where
   cell_kept cell = ap (cookie_rows cell 0) (cookies_kept cell d) ∙ rows_kept cell 0 (filter is_persistent (cookies_at cell d))
 
   -- a cell of which nothing is kept has no row change
-  none_kept : (cell : PlainCell) → has_some (kept (cookies_at cell d)) ≡ false → cell_rows (kept_of d) cell ≡ []
-  none_kept cell none = ap (cookie_rows cell 0) (cookies_kept cell d ∙ none_there (kept (cookies_at cell d)) none)
+  none_kept : (cell : PlainCell) → has_some (persistent_part (cookies_at cell d)) ≡ false → cell_rows (kept_of d) cell ≡ []
+  none_kept cell none = ap (cookie_rows cell 0) (cookies_kept cell d ∙ none_there (persistent_part (cookies_at cell d)) none)
 
   abbrev own_has : Domain → Bool
-  own_has domain = has_some (kept (get_cell domain_order d.cells domain))
+  own_has domain = has_some (persistent_part (get_cell domain_order d.cells domain))
 
   abbrev parted_has : PartitionedKey → Bool
-  parted_has key = has_some (kept (get_cell partitioned_order d.under.cookies key))
+  parted_has key = has_some (persistent_part (get_cell partitioned_order d.under.cookies key))
 
   -- the row changes of cells, of which those that keep nothing may be left out
   pub cells_kept : flat_map (cell_rows (kept_of d)) (stored_cells (kept_of d))

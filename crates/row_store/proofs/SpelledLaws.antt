@@ -14,7 +14,7 @@ use Rattle.local_area.specs.Area.{Pair, area_get, area_put, has_name}
 use Rattle.cookie_jar.specs.Key.{PlainKey as PlainCell, OwnCell, PartitionCell}
 use Rattle.cookie_jar.specs.Persistent.{CookieRow, RowInsert, RowReplace, RowRemove, row_edit}
 use Rattle.cookie_jar.proofs.CellLemmas.{count_small}
-use Rattle.access_grants.specs.Grant.{PlainGrant, has_row, is_of, kept}
+use Rattle.access_grants.specs.Grant.{PlainGrant, has_row, is_of, with_row}
 use Rattle.row_changes.specs.Change.{PlainChange, AreaPut, AreaRemove, AreaClear, SetMode, CookieInsert, CookieReplace, CookieRemove, Grant}
 use Rattle.row_changes.specs.Spelled.{IsPlaced, IsSpelled}
 use Rattle.agent_model.specs.CookieCells.{Cookies}
@@ -102,7 +102,7 @@ module _ (rules : List Rule) where
   either_row row other true new is = new
   either_row row other false new is = is
 
-  kept_spelled : (row : PlainGrant) (rows : List PlainGrant) → IsRowOf row → All IsRowOf rows → All IsRowOf (kept row rows)
+  kept_spelled : (row : PlainGrant) (rows : List PlainGrant) → IsRowOf row → All IsRowOf rows → All IsRowOf (with_row row rows)
   kept_spelled row rows new all = at (has_row row rows)
     where
       at : (b : Bool) → All IsRowOf (cond b (map (λ other. cond (is_of row.top row.site other) row other)

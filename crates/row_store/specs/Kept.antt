@@ -6,18 +6,19 @@ use Rattle.std.specs.Prelude.{List, [], ◌∷◌}
 use Rattle.std.specs.FinMap as finite
 use Rattle.unwinding.specs.FiniteCells.{Full, set_cell}
 use Rattle.cookie_jar.specs.Cookie.{PlainCookie}
-use Rattle.cookie_jar.specs.Persistent.{kept, kept_cookie}
+use Rattle.cookie_jar.specs.Persistent.{persistent_part, kept_cookie}
 use Rattle.row_changes.specs.Change.{PlainChange, CookieInsert}
 use Rattle.agent_model.specs.CookieCells.{CookieCells, Domain, domain_order, no_cookies}
 use Rattle.durable_model.specs.Keeping.{kept_cells}
 use Rattle.durable_model.specs.Saved.{Saved}
 
--- unpartitioned cells with what outlives a restart of their cookies
+-- unpartitioned cells of these entries, with what outlives a restart of their cookies
 abbrev pub kept_own_entries : List (Domain × Full PlainCookie) → CookieCells
 kept_own_entries [] = no_cookies
 kept_own_entries (e ∷ es) =
-    set_cell domain_order e.0 (kept (e.1.first ∷ e.1.rest)) (kept_own_entries es)
+    set_cell domain_order e.0 (persistent_part (e.1.first ∷ e.1.rest)) (kept_own_entries es)
 
+-- the same of all entries of cells
 abbrev pub kept_own_cells : CookieCells → CookieCells
 kept_own_cells cells = kept_own_entries (finite.entries cells)
 

@@ -9,7 +9,7 @@ use Rattle.storage_key.specs.Key.{PlainKey}
 use Rattle.local_area.specs.Area.{HasDistinctNames, area_weight, quota}
 use Rattle.cookie_jar.specs.Cookie.{keeps_limits}
 use Rattle.cookie_jar.specs.Key.{PlainKey as PlainCell}
-use Rattle.cookie_jar.specs.Persistent.{kept}
+use Rattle.cookie_jar.specs.Persistent.{persistent_part}
 use Rattle.access_grants.specs.Grant.{HasDistinctPairs}
 use Rattle.row_changes.specs.Change.{PlainChange, AreaPut, SetMode, CookieInsert, Grant}
 use Rattle.row_changes.specs.Spelled.{IsSpelled}
@@ -84,7 +84,7 @@ SnapshotsAreSpelled = (rules : List Rule) (d : Saved) → IsStorable d → IsSpe
 -- what outlives a restart of a state has of each cell what outlives one of its cookies
 abbrev pub KeepsEachCell : Type 0
 KeepsEachCell = (d : Saved) (cell : PlainCell)
-    → cookies_at cell (kept_of d) ≡ kept (cookies_at cell d)
+    → cookies_at cell (kept_of d) ≡ persistent_part (cookies_at cell d)
 
 -- all outlives a restart of a state whose cells are as they outlive one
 abbrev pub KeepsKept : Type 0

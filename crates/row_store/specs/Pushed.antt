@@ -25,17 +25,19 @@ use Rattle.row_store.specs.declared.which.Which.TheVariants as which
 abbrev pub no_grants : PlainGrants
 no_grants = record { rows = []; spare = 0 }
 
--- a durable state of a storage alone, and one of cookies alone
+-- a durable state of a storage alone
 abbrev pub areas_alone : storage.Entries → Saved
 areas_alone areas = saved_in areas [] no_grants
 
+-- a durable state of cookies alone
 abbrev pub cells_alone : cookies.Entries → Saved
 cells_alone cells = saved_in (record { local = []; session = [] }) cells no_grants
 
--- what is stored at a key, and at keys
+-- what is stored at a key
 abbrev pub key_rows_in : storage.Entries → PlainKey → List PlainChange
 key_rows_in areas key = key_rows (areas_alone areas) key
 
+-- what is stored at these keys
 abbrev pub rows_of_keys : storage.Entries → List PlainKey → List PlainChange
 rows_of_keys areas keys = flat_map (key_rows_in areas) keys
 
@@ -58,11 +60,12 @@ abbrev pub is_chosen : Which → PlainCookie → Bool
 is_chosen which.All = λ c. true
 is_chosen which.Persistent = λ c. is_persistent c
 
--- these cookies of a cell, and those of cells, each at its place among them
+-- these cookies of a cell, each at its place among them
 abbrev pub cell_rows_in : Which → cookies.Entries → PlainCell → List PlainChange
 cell_rows_in these cells cell =
     cookie_rows cell 0 (filter (is_chosen these) (cookies_at cell (cells_alone cells)))
 
+-- these cookies of cells
 abbrev pub rows_of_cells : Which → cookies.Entries → List PlainCell → List PlainChange
 rows_of_cells these cells listed = flat_map (cell_rows_in these cells) listed
 

@@ -25,18 +25,21 @@ pub record IsWritten (before : List ℕ) (rows : List PlainChange) (after : List
 
 -- ---- none, and some behind others
 
+-- nothing behind a list
 pub listed_none : (s : List Change) → IsListed s [] s
 listed_none s = sym (append-nil (map plain_change s))
 
+-- some row changes behind a list, and more behind them
 pub listed_then : (s t u : List Change) (xs ys : List PlainChange) → IsListed s xs t
     → IsListed t ys u → IsListed s (xs ++ ys) u
 listed_then s t u xs ys first second =
     second ∙ ap (λ l. l ++ ys) first ∙ append_assoc (map plain_change s) xs ys
 
--- the same of row changes that outlive a restart
+-- no row change that outlives a restart behind a list
 pub kept_none : (s : List Change) → IsListed s (map kept_change []) s
 kept_none s = listed_none s
 
+-- some that outlive a restart, and more behind them
 pub kept_then : (s t u : List Change) (xs ys : List PlainChange)
     → IsListed s (map kept_change xs) t → IsListed t (map kept_change ys) u
     → IsListed s (map kept_change (xs ++ ys)) u
@@ -44,6 +47,7 @@ kept_then s t u xs ys first second =
     listed_then s t u (map kept_change xs) (map kept_change ys) first second
     ∙ ap (λ l. map plain_change s ++ l) (sym (map-append kept_change xs ys))
 
+-- nothing behind bytes
 pub written_none : (s : List ℕ) → IsWritten s [] s
 written_none s = record { bytes = sym (append-nil s); texts = All-nil HasTexts }
 
@@ -57,6 +61,7 @@ written_one (Ok value) s t row bytes texts = record {
 }
 written_one (Err why) s t row bytes texts = tt
 
+-- some row changes behind bytes, and more behind them
 pub written_then : (s t u : List ℕ) (xs ys : List PlainChange) → IsWritten s xs t → IsWritten t ys u
     → IsWritten s (xs ++ ys) u
 written_then s t u xs ys first second = record {

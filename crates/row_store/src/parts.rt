@@ -1,7 +1,7 @@
 //! The parts of a durable state, and row changes of them.
 ghost use Rattle.std.specs.Prelude.{◌≡◌, ◌<◌, IfOk, IsOk, None, OnErr, OnOk, length, nat_lt, string_bytes, true};
 ghost use Rattle.cookie_jar.specs.Key.{plain_key as plain_cell};
-ghost use Rattle.cookie_jar.specs.Views.{plain_cookie};
+ghost use Rattle.cookie_jar.specs.Plain.{plain_cookie};
 ghost use Rattle.storage_key.specs.Plain.{plain_key};
 ghost use Rattle.access_grants.specs.Plain.{plain_grant};
 ghost use Rattle.row_changes.specs.Change as plain;

@@ -1,6 +1,6 @@
 //! Which cookies of a cell row changes are made of.
 ghost use Rattle.std.specs.Prelude.{◌≡◌};
-ghost use Rattle.cookie_jar.specs.Views.{plain_cookie};
+ghost use Rattle.cookie_jar.specs.Plain.{plain_cookie};
 ghost use Rattle.row_store.specs.Pushed.{is_chosen};
 
 use cookie_jar::Cookie;

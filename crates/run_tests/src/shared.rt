@@ -1,5 +1,6 @@
 //! Lists, lines, cuts, outputs and runs of the tests.
 ghost use Rattle.std.specs.Prelude.{◌≤◌, IfOk};
+ghost use Rattle.agent_core.specs.AgentView.{longest_batch};
 ghost use Rattle.agent_model.specs.Rest.{last_moment};
 ghost use Rattle.disk_model.specs.Schedule.{AreFrom};
 
@@ -20,7 +21,7 @@ pub const RESTART: &str = "{\"do\":\"restart\"}";
 /// year 2001 on.
 pub fn options(batch: u16, checkpoint: u32) -> Options
     ensures start { result.start ≤ last_moment }
-    ensures batch { (1 ≤ result.batch) × (result.batch ≤ 256) }
+    ensures batch { (1 ≤ result.batch) × (result.batch ≤ longest_batch) }
 {
     Options {
         start: 1_000_000_000,

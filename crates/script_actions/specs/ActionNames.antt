@@ -1,4 +1,5 @@
 -- The names of lines, as replies have them.
+-- Source: the script format of docs/FORMATS.md.
 -- Our own choice: the name is that of the line's member `do`.
 use Rattle.std.specs.Prelude.{ℕ, List, codes}
 use Rattle.script_actions.specs.Action.{DocumentAction, Frame, Nav, Drop, Click, Fetch, Set, Get, Del}

@@ -6,7 +6,7 @@ use Rattle.std.specs.Prelude.{ℕ, Bool, false, not, ◌+◌, ◌||◌, ◌==◌
 use Rattle.std.specs.Prelude.{length, codes, bytes_eq, option_to_list, Option, Some, None}
 use Rattle.std.specs.Prelude.{Result, Ok, Err, if◌then◌else◌}
 use Rattle.std.specs.List.{list_all, slice_split}
-use Rattle.std.specs.Str.{is_utf8}
+use Rattle.std.specs.Str.{byte, is_utf8}
 use Rattle.serde_json.specs.Data.{Data}
 use Rattle.serde_json.specs.Read.{read}
 use Rattle.script_actions.specs.Action.{PlainLine, PlainStep}
@@ -28,7 +28,7 @@ line_limit = LINE_LIMIT
 
 -- a line of spaces, tabs and CR alone, which is skipped
 abbrev pub is_blank : List ℕ → Bool
-is_blank line = list_all (λ b. b == 32 || b == 9 || b == 13) line
+is_blank line = list_all (λ b. b == byte " " || b == 0x09 || b == 0x0D) line
 
 -- the value of a line, or that it is no JSON
 abbrev pub json_of : ℕ → Option Data → Result Data PlainFault

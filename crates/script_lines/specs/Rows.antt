@@ -26,9 +26,11 @@ tab_number = whole 1 65535
 abbrev pub frame_number : Kind
 frame_number = whole 0 255
 
+-- the tab
 abbrev pub tab : Field
 tab = required (codes "tab") tab_number
 
+-- the frame, which is the top document where it is not given
 abbrev pub frame : Field
 frame = defaulted (codes "frame") frame_number 0
 
@@ -36,18 +38,23 @@ frame = defaulted (codes "frame") frame_number 0
 abbrev pub inner_frame : Field
 inner_frame = required (codes "frame") (whole 1 255)
 
+-- the address
 abbrev pub url : Field
 url = required (codes "url") address_text
 
+-- the method of a request
 abbrev pub method_field : Field
 method_field = defaulted (codes "method") method_name method.Get
 
+-- the header fields of a response
 abbrev pub head : Field
 head = defaulted (codes "head") head_list []
 
+-- the area, which is the local one where it is not given
 abbrev pub area : Field
 area = defaulted (codes "area") area_name Local
 
+-- the name of a pair
 abbrev pub key : Field
 key = required (codes "key") any_text
 

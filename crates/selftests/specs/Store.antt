@@ -6,7 +6,7 @@ use Rattle.std.specs.Prelude.{◌≡◌, ℕ, List, [], length}
 use Rattle.sha2.specs.Sha256.{sha256}
 use Rattle.unwinding.specs.Admissible.{History}
 use Rattle.suffix_list.specs.ListText.{RuleList}
-use Rattle.journal.specs.Region.{StandsFor}
+use Rattle.journal.specs.Region.{StandsForState}
 use Rattle.script_actions.specs.Action.{PlainAction, PlainStep}
 use Rattle.durable_model.specs.Keeping.{durable_of}
 use Rattle.durable_model.specs.Saved.{Saved, nothing_saved}
@@ -40,7 +40,7 @@ pub record IsStoreOf (steps : List PlainStep) (file : List ℕ) : Type 0 where
   pub ran : RanAll steps history
   pub state : Saved
   pub last : ℕ
-  pub stands : StandsFor (bodies.Takes []) nothing_saved (sha256 []) file state last
+  pub stands : StandsForState (bodies.Takes []) nothing_saved (sha256 []) file state last
   pub left : IsLeft [] day_batch (begins_at day_start) history (durable_of state)
   pub tidy : IsTidyFile day_checkpoint (sha256 []) file
 

@@ -9,7 +9,7 @@ use Rattle.setcookie_parse.specs.declared.parts.Parts.{Parts}
 use Rattle.setcookie_parse.specs.declared.token.Clock.{Clock}
 use Rattle.setcookie_parse.specs.CookieDate.{is_delimiter, tokens_of, time_of, day_of, month_of, year_of, first_of, moment_of}
 use Rattle.setcookie_parse.proofs.MonthsLemmas.{one_kind}
-use Rattle.setcookie_parse.specs.Found.{is_taken, with_token, with_piece, left_by, completed}
+use Rattle.setcookie_parse.specs.DateParts.{is_taken, with_token, with_piece, left_by, completed}
 
 -- a token that is not taken changes nothing of its part
 passed_value : {A : Type 0} (found said rest : Option A) → is_taken found said ≡ false

@@ -9,8 +9,8 @@ use Rattle.std.proofs.lemmas.List.Splits.{slice_split_first, slice_split_none}
 use Rattle.std.proofs.lemmas.List.Sums.{fails_before_first}
 use Rattle.setcookie_parse.specs.declared.cookie.DropCause.TheVariants.{Control}
 use Rattle.setcookie_parse.specs.SetCookie.{kind_of, attribute_value, last_of, has, expires_of, max_age_of, domain_of, path_of, is_secure, is_http_only, is_partitioned, same_site_of, is_semicolon, is_control, Parsed, Dropped, answer_of, set_cookie_text}
-use Rattle.setcookie_parse.specs.Seen.{Seen, seen_in, seen_with}
-use Rattle.setcookie_parse.specs.Plain.{seen_over, answer_to}
+use Rattle.setcookie_parse.specs.AttributesSoFar.{AttributesSoFar, seen_in, seen_with}
+use Rattle.setcookie_parse.specs.Reference.{seen_over, answer_to}
 use Rattle.setcookie_parse.proofs.SeenLemmas.{same_seen, without_earlier, flag_alone}
 
 -- the first of several items, and the others as a slice pattern has them
@@ -22,7 +22,7 @@ map_parts f (x ∷ xs) d some =
     ap (λ rest. f x ∷ map f rest) (sym whole)
 
 -- one more piece at the front
-pub seen_front : (later earlier : Seen) (all rest : List (List ℕ)) (piece : List ℕ) → all ≡ piece ∷ rest
+pub seen_front : (later earlier : AttributesSoFar) (all rest : List (List ℕ)) (piece : List ℕ) → all ≡ piece ∷ rest
     → later ≡ seen_in rest → earlier ≡ seen_with (seen_in []) (kind_of piece) (attribute_value piece)
     → seen_over later earlier ≡ seen_in all
 seen_front later earlier all rest piece parts behind here =

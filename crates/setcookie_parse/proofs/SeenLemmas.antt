@@ -3,7 +3,7 @@ use Rattle.std.proofs.Common.{◌≡◌, ℕ, Bool, true, false, ◌||◌, List,
 use Rattle.std.specs.List.{slice_split}
 use Rattle.std.specs.Option.{option_or}
 use Rattle.setcookie_parse.specs.SetCookie.{kind_of, attribute_value, is_semicolon, last_of, has, expires_of, max_age_of, domain_of, path_of, is_secure, is_http_only, is_partitioned, same_site_of}
-use Rattle.setcookie_parse.specs.Seen.{Seen, seen_in, seen_after, seen_with}
+use Rattle.setcookie_parse.specs.AttributesSoFar.{AttributesSoFar, seen_in, seen_after, seen_with}
 
 later_goes_first : {A : Type 0} (later said earlier : Option A)
     → option_or later (option_or said earlier) ≡ option_or (option_or later said) earlier
@@ -25,7 +25,7 @@ flag_alone true = refl
 flag_alone false = refl
 
 -- values that agree in each kind
-pub same_seen : (a b : Seen) → a.expires ≡ b.expires → a.max_age ≡ b.max_age → a.domain ≡ b.domain → a.path ≡ b.path
+pub same_seen : (a b : AttributesSoFar) → a.expires ≡ b.expires → a.max_age ≡ b.max_age → a.domain ≡ b.domain → a.path ≡ b.path
     → a.secure ≡ b.secure → a.http_only ≡ b.http_only → a.partitioned ≡ b.partitioned → a.same_site ≡ b.same_site → a ≡ b
 same_seen a b expires age domain path secure http partitioned site =
     λ i. record {
@@ -40,7 +40,7 @@ same_seen a b expires age domain path secure http partitioned site =
     }
 
 -- one more piece
-pub seen_more : (seen : Seen) (piece : List ℕ) (pieces : List (List ℕ))
+pub seen_more : (seen : AttributesSoFar) (piece : List ℕ) (pieces : List (List ℕ))
     → seen_after (seen_with seen (kind_of piece) (attribute_value piece)) pieces ≡ seen_after seen (piece ∷ pieces)
 seen_more seen piece pieces =
     let kind = kind_of piece in
@@ -65,7 +65,7 @@ seen_first pieces =
     (without_earlier (last_of same_site_of pieces))
 
 -- the step of a walk over the pieces of a text
-pub seen_step : (seen next : Seen) (text piece rest : List ℕ) → next ≡ seen_with seen (kind_of piece) (attribute_value piece)
+pub seen_step : (seen next : AttributesSoFar) (text piece rest : List ℕ) → next ≡ seen_with seen (kind_of piece) (attribute_value piece)
     → slice_split is_semicolon text ≡ piece ∷ slice_split is_semicolon rest
     → seen_after next (slice_split is_semicolon rest) ≡ seen_after seen (slice_split is_semicolon text)
 seen_step seen next text piece rest taken split =
@@ -74,7 +74,7 @@ seen_step seen next text piece rest taken split =
     ∙ ap (seen_after seen) (sym split)
 
 -- its end
-pub seen_end : (seen next : Seen) (text piece : List ℕ) → next ≡ seen_with seen (kind_of piece) (attribute_value piece)
+pub seen_end : (seen next : AttributesSoFar) (text piece : List ℕ) → next ≡ seen_with seen (kind_of piece) (attribute_value piece)
     → slice_split is_semicolon text ≡ piece ∷ []
     → next ≡ seen_after seen (slice_split is_semicolon text)
 seen_end seen next text piece taken split = taken ∙ seen_more seen piece [] ∙ ap (seen_after seen) (sym split)

@@ -1,7 +1,7 @@
 pub mod SetCookie
 pub mod CookieDate
-pub mod Views
--- What private functions compute, and the slow programs of the tests. No public clause rests on it.
-pub mod Found
-pub mod Seen
 pub mod Plain
+-- What private functions compute, and the slow programs of the tests. No public clause rests on it.
+pub mod DateParts
+pub mod AttributesSoFar
+pub mod Reference

@@ -210,11 +210,15 @@ cookie_of pair pieces now =
       expiry = expiry_of now (last_of max_age_of pieces) (last_of expires_of pieces);
     }
 
+-- the most octets of a name and its value together
+abbrev pub pair_limit : ℕ
+pair_limit = 4096
+
 -- the answer to a pair and the pieces behind it
 abbrev pub answer_of : List ℕ → List (List ℕ) → ℤ → Parsed
 answer_of pair pieces now =
     let octets = length (name_of pair) + length (value_of pair) in
-    if nat_lt 4096 octets then Dropped TooLong
+    if nat_lt pair_limit octets then Dropped TooLong
     else (if octets == 0 then Dropped Empty else Kept (cookie_of pair pieces now))
 
 -- the answer to a text at a moment. A control anywhere drops it. Else the pair stands before the

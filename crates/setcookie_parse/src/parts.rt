@@ -2,7 +2,7 @@
 ghost use Rattle.std.specs.Prelude.{◌≡◌, ◌∷◌, ◌<◌, ◌≤◌, length, option_copied, IfSome};
 ghost use Rattle.std.specs.List.{slice_split, position_or_len};
 ghost use Rattle.setcookie_parse.specs.CookieDate.{is_delimiter, moment_of, cookie_date};
-ghost use Rattle.setcookie_parse.specs.Found.{with_token, with_piece, pieces_after};
+ghost use Rattle.setcookie_parse.specs.DateParts.{with_token, with_piece, pieces_after};
 
 use crate::token::{Clock, day_of, month_of, time_of, year_of};
 

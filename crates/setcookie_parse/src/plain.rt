@@ -5,14 +5,14 @@ ghost use Rattle.std.specs.List.{slice_split};
 ghost use Rattle.setcookie_parse.specs.CookieDate.{first_of, time_of, day_of, month_of, year_of};
 ghost use Rattle.setcookie_parse.specs.CookieDate.{tokens_of, cookie_date};
 ghost use Rattle.setcookie_parse.specs.SetCookie.{is_semicolon, set_cookie_text};
-ghost use Rattle.setcookie_parse.specs.Seen.{seen_view, seen_in};
-ghost use Rattle.setcookie_parse.specs.Views.{parsed_view};
-ghost use Rattle.setcookie_parse.specs.Plain.{without_time, without_day, seen_over, answer_to};
+ghost use Rattle.setcookie_parse.specs.AttributesSoFar.{plain_seen, seen_in};
+ghost use Rattle.setcookie_parse.specs.Plain.{plain_parsed};
+ghost use Rattle.setcookie_parse.specs.Reference.{without_time, without_day, seen_over, answer_to};
 
 use crate::cookie::{DropCause, Parsed};
 use crate::date::moment_of;
 use crate::parts::is_delimiter;
-use crate::seen::{NOTHING, Seen, with_piece};
+use crate::seen::{AttributesSoFar, NOTHING, with_piece};
 use crate::text::{answer_of, has_control};
 use crate::token::{Clock, day_of, month_of, time_of, year_of};
 use std::alloc::{AllocError, Global};
@@ -94,7 +94,7 @@ fn tokens_of<'a>(alloc: Global, text: &'a str) -> Result<Vec<&'a [u8]>, AllocErr
 pub fn parse<'a>(alloc: Global, text: &'a str, now: i64) -> Result<Parsed<'a>, AllocError>
     requires begun { pos 0 ≤ℤ now }
     requires lasting { now ≤ℤ pos 253402300799 }
-    ensures { IfOk result (λ answer. parsed_view answer ≡ set_cookie_text text.now now) }
+    ensures { IfOk result (λ answer. plain_parsed answer ≡ set_cookie_text text.now now) }
 {
     let pieces = pieces_of(alloc, text)?;
     if has_control(text) {
@@ -106,7 +106,7 @@ pub fn parse<'a>(alloc: Global, text: &'a str, now: i64) -> Result<Parsed<'a>, A
 fn answer_to<'a>(pieces: &[&'a str], now: i64) -> Parsed<'a>
     requires begun { pos 0 ≤ℤ now }
     requires lasting { now ≤ℤ pos 253402300799 }
-    ensures { parsed_view result ≡ answer_to (map (λ piece. piece.now) pieces.now) now }
+    ensures { plain_parsed result ≡ answer_to (map (λ piece. piece.now) pieces.now) now }
 {
     match pieces {
         [] => Parsed::Dropped(DropCause::Empty),
@@ -122,8 +122,8 @@ fn pieces_of<'a>(alloc: Global, text: &'a str) -> Result<Vec<&'a str>, AllocErro
 }
 
 /// What the pieces say, from the last one back.
-fn seen_from<'a>(pieces: &[&'a str]) -> Seen<'a>
-    ensures { seen_view result ≡ seen_in (map (λ piece. piece.now) pieces.now) }
+fn seen_from<'a>(pieces: &[&'a str]) -> AttributesSoFar<'a>
+    ensures { plain_seen result ≡ seen_in (map (λ piece. piece.now) pieces.now) }
 {
     match pieces {
         [] => NOTHING,
@@ -132,10 +132,10 @@ fn seen_from<'a>(pieces: &[&'a str]) -> Seen<'a>
 }
 
 /// What one says, and what the other says where it is silent.
-fn or_else<'a>(later: Seen<'a>, earlier: Seen<'a>) -> Seen<'a>
-    ensures { seen_view result ≡ seen_over (seen_view later.entry) (seen_view earlier.entry) }
+fn or_else<'a>(later: AttributesSoFar<'a>, earlier: AttributesSoFar<'a>) -> AttributesSoFar<'a>
+    ensures { plain_seen result ≡ seen_over (plain_seen later.entry) (plain_seen earlier.entry) }
 {
-    Seen {
+    AttributesSoFar {
         expires: later.expires.or(earlier.expires),
         max_age: later.max_age.or(earlier.max_age),
         domain: later.domain.or(earlier.domain),

@@ -6,9 +6,9 @@ ghost use Rattle.std.specs.Str.{byte};
 ghost use Rattle.std.specs.Option.{option_and_then};
 ghost use Rattle.setcookie_parse.specs.SetCookie.{is_semicolon, kind_of, attribute_value};
 ghost use Rattle.setcookie_parse.specs.SetCookie.{without_dot, domain_in, path_in, expiry_of};
-ghost use Rattle.setcookie_parse.specs.Found.{pieces_after};
-ghost use Rattle.setcookie_parse.specs.Seen.{seen_view, seen_in, seen_with, cookie_from};
-ghost use Rattle.setcookie_parse.specs.Views.{cookie_view};
+ghost use Rattle.setcookie_parse.specs.DateParts.{pieces_after};
+ghost use Rattle.setcookie_parse.specs.AttributesSoFar.{plain_seen, seen_in, seen_with, cookie_from};
+ghost use Rattle.setcookie_parse.specs.Plain.{plain_text};
 
 use crate::attribute::{AGE_LIMIT, Kind, attribute_of, max_age, same_site};
 use crate::cookie::{CookieText, SameSite};
@@ -16,7 +16,7 @@ use crate::date::cookie_date;
 
 /// What the attributes so far have said.
 #[derive(Clone, Copy)]
-pub struct Seen<'a> {
+pub struct AttributesSoFar<'a> {
     pub expires: Option<i64>,
     pub max_age: Option<u32>,
     pub domain: Option<&'a str>,
@@ -28,7 +28,7 @@ pub struct Seen<'a> {
 }
 
 /// What no attributes say.
-pub const NOTHING: Seen<'static> = Seen {
+pub const NOTHING: AttributesSoFar<'static> = AttributesSoFar {
     expires: None,
     max_age: None,
     domain: None,
@@ -40,8 +40,8 @@ pub const NOTHING: Seen<'static> = Seen {
 };
 
 /// What the pieces of a text say, each of which is an attribute.
-pub fn seen_in<'a>(text: &'a str) -> Seen<'a>
-    ensures { seen_view result ≡ seen_in (slice_split is_semicolon text.now) }
+pub fn seen_in<'a>(text: &'a str) -> AttributesSoFar<'a>
+    ensures { plain_seen result ≡ seen_in (slice_split is_semicolon text.now) }
 {
     let mut seen = NOTHING;
     let mut rest = text;
@@ -69,9 +69,9 @@ pub fn next_piece(text: &str) -> (&str, Option<&str>)
 }
 
 /// The values with one more piece.
-pub fn with_piece<'a>(seen: Seen<'a>, piece: &'a str) -> Seen<'a>
-    ensures { seen_view result
-        ≡ seen_with (seen_view seen.entry) (kind_of piece.now) (attribute_value piece.now) }
+pub fn with_piece<'a>(seen: AttributesSoFar<'a>, piece: &'a str) -> AttributesSoFar<'a>
+    ensures { plain_seen result
+        ≡ seen_with (plain_seen seen.entry) (kind_of piece.now) (attribute_value piece.now) }
 {
     match attribute_of(piece) {
         Some((kind, value)) => with_attribute(seen, kind, value),
@@ -79,39 +79,39 @@ pub fn with_piece<'a>(seen: Seen<'a>, piece: &'a str) -> Seen<'a>
     }
 }
 
-fn with_attribute<'a>(seen: Seen<'a>, kind: Kind, value: &'a str) -> Seen<'a>
-    ensures { seen_view result ≡ seen_with (seen_view seen.entry) (Some kind) value.now }
+fn with_attribute<'a>(seen: AttributesSoFar<'a>, kind: Kind, value: &'a str) -> AttributesSoFar<'a>
+    ensures { plain_seen result ≡ seen_with (plain_seen seen.entry) (Some kind) value.now }
 {
     match kind {
-        Kind::Expires => Seen {
+        Kind::Expires => AttributesSoFar {
             expires: cookie_date(value).or(seen.expires),
             ..seen
         },
-        Kind::MaxAge => Seen {
+        Kind::MaxAge => AttributesSoFar {
             max_age: max_age(value.as_bytes()).or(seen.max_age),
             ..seen
         },
-        Kind::Domain => Seen {
+        Kind::Domain => AttributesSoFar {
             domain: Some(value),
             ..seen
         },
-        Kind::Path => Seen {
+        Kind::Path => AttributesSoFar {
             path: Some(value),
             ..seen
         },
-        Kind::Secure => Seen {
+        Kind::Secure => AttributesSoFar {
             secure: true,
             ..seen
         },
-        Kind::HttpOnly => Seen {
+        Kind::HttpOnly => AttributesSoFar {
             http_only: true,
             ..seen
         },
-        Kind::Partitioned => Seen {
+        Kind::Partitioned => AttributesSoFar {
             partitioned: true,
             ..seen
         },
-        Kind::SameSite => Seen {
+        Kind::SameSite => AttributesSoFar {
             same_site: Some(same_site(value)),
             ..seen
         },
@@ -119,10 +119,15 @@ fn with_attribute<'a>(seen: Seen<'a>, kind: Kind, value: &'a str) -> Seen<'a>
 }
 
 /// The cookie of a name, a value and what the attributes have said.
-pub fn cookie_from<'a>(name: &'a str, value: &'a str, seen: Seen<'a>, now: i64) -> CookieText<'a>
+pub fn cookie_from<'a>(
+    name: &'a str,
+    value: &'a str,
+    seen: AttributesSoFar<'a>,
+    now: i64,
+) -> CookieText<'a>
     requires begun { pos 0 ≤ℤ now }
     requires lasting { now ≤ℤ pos 253402300799 }
-    ensures { cookie_view result ≡ cookie_from name.now value.now (seen_view seen.entry) now }
+    ensures { plain_text result ≡ cookie_from name.now value.now (plain_seen seen.entry) now }
 {
     CookieText {
         name,

@@ -2,13 +2,13 @@ ghost use Rattle.std.specs.Prelude.{◌≡◌, pos, ◌≤ℤ◌, option_copied}
 ghost use Rattle.std.specs.List.{list_any};
 ghost use Rattle.setcookie_parse.specs.SetCookie.{is_control, is_semicolon, set_cookie_text};
 ghost use Rattle.setcookie_parse.specs.SetCookie.{AreSlices};
-ghost use Rattle.setcookie_parse.specs.Found.{pieces_after};
-ghost use Rattle.setcookie_parse.specs.Seen.{seen_view, seen_in, answer_from};
-ghost use Rattle.setcookie_parse.specs.Views.{parsed_view};
+ghost use Rattle.setcookie_parse.specs.DateParts.{pieces_after};
+ghost use Rattle.setcookie_parse.specs.AttributesSoFar.{plain_seen, seen_in, answer_from};
+ghost use Rattle.setcookie_parse.specs.Plain.{plain_parsed};
 
 use crate::attribute::split_pair;
 use crate::cookie::{DropCause, Parsed};
-use crate::seen::{NOTHING, Seen, cookie_from, next_piece, seen_in};
+use crate::seen::{AttributesSoFar, NOTHING, cookie_from, next_piece, seen_in};
 
 /// The longest name and value together in octets.
 const PAIR_LIMIT: usize = 4096;
@@ -20,8 +20,8 @@ const PAIR_LIMIT: usize = 4096;
 pub fn parse<'a>(text: &'a str, now: i64) -> Parsed<'a>
     requires begun { pos 0 ≤ℤ now }
     requires lasting { now ≤ℤ pos 253402300799 }
-    ensures meaning { parsed_view result ≡ set_cookie_text text.now now }
-    ensures slices { AreSlices text.now (parsed_view result) }
+    ensures meaning { plain_parsed result ≡ set_cookie_text text.now now }
+    ensures slices { AreSlices text.now (plain_parsed result) }
 {
     if has_control(text) {
         return Parsed::Dropped(DropCause::Control);
@@ -38,10 +38,10 @@ pub fn has_control(text: &str) -> bool
 }
 
 /// The answer to a pair and what the attributes say.
-pub fn answer_of<'a>(pair: &'a str, seen: Seen<'a>, now: i64) -> Parsed<'a>
+pub fn answer_of<'a>(pair: &'a str, seen: AttributesSoFar<'a>, now: i64) -> Parsed<'a>
     requires begun { pos 0 ≤ℤ now }
     requires lasting { now ≤ℤ pos 253402300799 }
-    ensures { parsed_view result ≡ answer_from pair.now (seen_view seen.entry) now }
+    ensures { plain_parsed result ≡ answer_from pair.now (plain_seen seen.entry) now }
 {
     let (name, value) = split_pair(pair);
     let octets = name.len() + value.len();
@@ -54,8 +54,8 @@ pub fn answer_of<'a>(pair: &'a str, seen: Seen<'a>, now: i64) -> Parsed<'a>
     }
 }
 
-fn attributes<'a>(rest: Option<&'a str>) -> Seen<'a>
-    ensures { seen_view result ≡ seen_in (pieces_after is_semicolon (option_copied rest.entry)) }
+fn attributes<'a>(rest: Option<&'a str>) -> AttributesSoFar<'a>
+    ensures { plain_seen result ≡ seen_in (pieces_after is_semicolon (option_copied rest.entry)) }
 {
     match rest {
         Some(text) => seen_in(text),

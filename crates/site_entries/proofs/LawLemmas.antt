@@ -12,7 +12,7 @@ use Rattle.row_changes.specs.Change.{PlainChange}
 use Rattle.origin_site.specs.Site.{PlainSite, same_plain_site}
 use Rattle.agent_model.specs.Consults.{event_names}
 use Rattle.agent_model.specs.CookieCells.{Domain, domain_order, equal_cookies}
-use Rattle.agent_model.specs.Done.{SharedCells}
+use Rattle.agent_model.specs.Effects.{SharedCells}
 use Rattle.agent_model.specs.Lines.{AgentWorld, SiteOccurrence, main_event}
 use Rattle.agent_model.specs.TheMachine.{IsSound, machine}
 use Rattle.agent_model.proofs.Isolated.{facts}

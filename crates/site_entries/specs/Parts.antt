@@ -18,7 +18,7 @@ use Rattle.local_items.specs.declared.entry.Entry.{Entry}
 use Rattle.local_items.specs.declared.entry.HeldJar.{HeldJar}
 use Rattle.line_events.specs.Events.{cells_of}
 use Rattle.line_events.specs.declared.main_events.MainEvent.{MainEvent}
-use Rattle.site_entries.specs.Present.{PlainPresent, StandsFor}
+use Rattle.site_entries.specs.Present.{PlainPresent, StandsForWorld}
 use Rattle.site_entries.specs.Seen.{IsTouched}
 
 -- ---- the main event
@@ -55,7 +55,7 @@ entries_in entry = map entry_of (option_to_list entry)
 abbrev pub IsMainEntry : PlainPresent → PlainAction → PlainSite → (touched : Bool) → Option Entry
     → Type 0
 IsMainEntry present action site touched entry =
-    (world : AgentWorld) (others : List Domain) → StandsFor present world
+    (world : AgentWorld) (others : List Domain) → StandsForWorld present world
     → IsTouched site others touched
     → let m = machine present.rules in
     entries_in entry

@@ -28,7 +28,7 @@ plain_present present =
     }
 
 -- the clock, the open tabs and the unpartitioned cookies are those of this world
-pub record StandsFor (present : PlainPresent) (world : AgentWorld) : Type 0 where
+pub record StandsForWorld (present : PlainPresent) (world : AgentWorld) : Type 0 where
   pub moment : world.rest.now ≡ present.now
   pub tabs_shown : ShowsTabs present.tabs world
   pub cells : world.cells ≡ shared_in present.cookies

@@ -15,7 +15,7 @@ use Rattle.agent_model.specs.Lines.{AgentWorld, SiteOccurrence, main_event}
 use Rattle.agent_model.specs.TheMachine.{machine}
 use Rattle.local_items.specs.Items.{entry_of}
 use Rattle.line_events.specs.Events.{HasAreas}
-use Rattle.site_entries.specs.Present.{PlainPresent, StandsFor}
+use Rattle.site_entries.specs.Present.{PlainPresent, StandsForWorld}
 use Rattle.site_entries.specs.declared.seen_line.SeenLine.{SeenLine}
 
 -- whether events of other sites have left the cookies of the site's domain different
@@ -56,5 +56,5 @@ IsGivenAt rules site touched world action seen =
 abbrev pub IsGiven : PlainPresent → PlainAction → PlainSite → (touched areas : Bool) → SeenLine
     → Type 0
 IsGiven present action site touched areas seen =
-    (world : AgentWorld) → StandsFor present world → HasAreas action site world areas
+    (world : AgentWorld) → StandsForWorld present world → HasAreas action site world areas
     → IsGivenAt present.rules site touched world action seen

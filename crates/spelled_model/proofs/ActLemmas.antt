@@ -14,7 +14,7 @@ use Rattle.script_actions.specs.Action as script
 use Rattle.script_actions.specs.Action.{DocumentAction, Frame, Nav, Drop, Click, Fetch, SetCookie, Set, Get, Del, Clear, Len, Key, Has, Request, Persisted, Estimate, Persist}
 use Rattle.reply_lines.specs.Reply.{Plain, Truth}
 use Rattle.agent_model.specs.Partition.{Holdings}
-use Rattle.agent_model.specs.Done.{Effect, SharedCells, answers, ok}
+use Rattle.agent_model.specs.Effects.{Effect, SharedCells, answers, ok}
 use Rattle.agent_model.specs.Documents.{Keyed, by_document, by_key, with_document, with_key}
 use Rattle.agent_model.specs.AreaActions.{clear_area, get_item, get_length, get_name, remove_item, set_item}
 use Rattle.agent_model.specs.Buckets.{get_mode, get_usage, persist}

@@ -29,7 +29,7 @@ use Rattle.row_changes.specs.Change.{PlainChange, AreaPut, AreaRemove, AreaClear
 use Rattle.row_changes.specs.Spelled.{IsKey}
 use Rattle.agent_model.specs.PartitionedCells.{PartitionedKey, partitioned_order}
 use Rattle.agent_model.specs.Partition.{Areas, Holdings, with_area}
-use Rattle.agent_model.specs.Done.{SharedCells, answers, ok}
+use Rattle.agent_model.specs.Effects.{SharedCells, answers, ok}
 use Rattle.agent_model.specs.Changes.{by_text, changes_of_write, durable_in, in_text_order, key_text_order}
 use Rattle.agent_model.specs.Documents.{Keyed, told_tab}
 use Rattle.agent_model.specs.AreaActions.{change_event, clear_area, pairs_of, remove_by, remove_item, set_by, set_item, write}

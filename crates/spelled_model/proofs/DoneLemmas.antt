@@ -16,7 +16,7 @@ use Rattle.reply_lines.specs.Reply.{PlainBody, Load, SetOne}
 use Rattle.agent_model.specs.CookieCells.{Domain, domain_order}
 use Rattle.agent_model.specs.PartitionedCells.{PartitionedKey, partitioned_order}
 use Rattle.agent_model.specs.Partition.{Holdings}
-use Rattle.agent_model.specs.Done.{Done, Effect, SharedCells, answers}
+use Rattle.agent_model.specs.Effects.{Done, Effect, SharedCells, answers}
 use Rattle.agent_model.specs.CookieStore.{BothCells, both_marked, cookie_texts, header_text, own_places, partition_places, sent, store_text, store_texts}
 use Rattle.agent_model.specs.CookieUse.{CookieUse, cookie_domain, key_of, uses_own}
 use Rattle.agent_model.specs.Cookies.{both_found, leaves, request, set_cookie_by}

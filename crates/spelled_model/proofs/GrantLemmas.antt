@@ -29,7 +29,7 @@ use Rattle.live_state.specs.Tabs.{PlainTab}
 use Rattle.reply_lines.specs.Reply.{PlainBody, Plain}
 use Rattle.row_changes.specs.Change as change
 use Rattle.agent_model.specs.Partition.{Holdings}
-use Rattle.agent_model.specs.Done.{SharedCells}
+use Rattle.agent_model.specs.Effects.{SharedCells}
 use Rattle.agent_model.specs.StorageAccess.{access_facts, change_requested, decision_word, done_by, embedded_site, keeps_grant, outcome_of, row_of}
 use Rattle.spelled_model.specs.Frames.{AreReadFrames, IsReadDocument}
 use Rattle.spelled_model.proofs.DoneLemmas.{AreReadShared, IsReadDone, IsReadHeld, answered, frames_done}

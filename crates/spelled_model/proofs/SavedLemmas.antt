@@ -20,7 +20,7 @@ use Rattle.cookie_jar.specs.Key.{PlainKey as PlainCell, OwnCell, PartitionCell}
 use Rattle.cookie_jar.specs.Persistent.{RowInsert, RowReplace, RowRemove, row_fits}
 use Rattle.cookie_jar.proofs.CellLemmas.{count_small}
 use Rattle.row_changes.specs.Change.{PlainChange, AreaPut, AreaRemove, AreaClear, SetMode, CookieInsert, CookieReplace, CookieRemove, Grant}
-use Rattle.row_changes.specs.Spelled.{IsKey, IsKept, IsSpelled}
+use Rattle.row_changes.specs.Spelled.{IsKey, HasSpelledFields, IsSpelled}
 use Rattle.agent_model.specs.CookieCells.{Cookies, domain_order}
 use Rattle.agent_model.specs.PartitionedCells.{PartitionedKey, partitioned_order}
 use Rattle.agent_model.specs.Partition.{is_cell_under, is_under, no_holdings}
@@ -165,8 +165,8 @@ module _ (rules : List Rule) (d : Saved) (read : IsReadSaved rules d) where
       by : (cell : PlainCell) → IsReadCell (cookies_at cell (edited (SetMode key) d))
       by (OwnCell domain) = read.cells (OwnCell domain)
       by (PartitionCell top bit domain) = read.cells (PartitionCell top bit domain)
-  edited_read (CookieInsert cell place c) is valid = let kept : IsKept c = is.2 in insert_read cell place c kept.creation valid
-  edited_read (CookieReplace cell place c) is valid = let kept : IsKept c = is.2 in replace_read cell place c kept.creation
+  edited_read (CookieInsert cell place c) is valid = let kept : HasSpelledFields c = is.2 in insert_read cell place c kept.creation valid
+  edited_read (CookieReplace cell place c) is valid = let kept : HasSpelledFields c = is.2 in replace_read cell place c kept.creation
   edited_read (CookieRemove cell place) is valid = remove_read cell place
   edited_read (Grant row) is valid = record { keys = read.keys; cells = by }
     where

@@ -15,7 +15,7 @@ use Rattle.cookie_jar.specs.Persistent.{CookieRow, RowInsert, RowReplace, RowRem
 use Rattle.row_changes.specs.Appended.{HasCellTexts, HasCookieTexts, HasTexts}
 use Rattle.row_changes.specs.Change.{PlainChange}
 use Rattle.row_changes.specs.Names.{is_own_domain}
-use Rattle.row_changes.specs.Spelled.{IsKept, IsNamed, IsPlaced, IsSpelled, suits}
+use Rattle.row_changes.specs.Spelled.{HasSpelledFields, IsNamed, IsPlaced, IsSpelled, suits}
 use Rattle.agent_model.specs.CookieStore.{in_cell}
 use Rattle.spelled_model.proofs.CellLemmas.{IsLow, IsTimed}
 use Rattle.spelled_model.proofs.NameLemmas.{IsNamedSite}
@@ -35,10 +35,10 @@ cell_spelled rules (PartitionCell top bit domain) named texts = ((texts.0, named
 
 module _ (rules : List Rule) (cell : PlainCell) (named : IsNamedCell rules cell) (fresh : PlainCookie) (timed : IsTimed fresh)
     (ends : (end : ℤ) → fresh.expiry ≡ Some end → FitsSigned w64 end) (fits : suits rules cell fresh ≡ true) where
-  kept_spelled : is_persistent fresh ≡ true → HasCookieTexts (kept_cookie fresh) → IsKept (kept_cookie fresh)
+  kept_spelled : is_persistent fresh ≡ true → HasCookieTexts (kept_cookie fresh) → HasSpelledFields (kept_cookie fresh)
   kept_spelled lasts texts = by fresh.expiry refl lasts
     where
-      by : (expiry : Option ℤ) → fresh.expiry ≡ expiry → is_some expiry ≡ true → IsKept (kept_cookie fresh)
+      by : (expiry : Option ℤ) → fresh.expiry ≡ expiry → is_some expiry ≡ true → HasSpelledFields (kept_cookie fresh)
       by None is lasts = absurd (both_ways false refl lasts)
       by (Some end) is lasts =
           record { name = texts.0; value = texts.1; domain = texts.2; path = texts.3; creation = timed; end = end; expiry = is; fits = ends end is; last = refl }

@@ -9,7 +9,7 @@ use Rattle.frame_tree.specs.Calls.{opened}
 use Rattle.live_state.specs.Tabs.{PlainTab, made_tab}
 use Rattle.script_actions.specs.Action.{DocumentAction}
 use Rattle.agent_model.specs.Partition.{Holdings, Partition, tab_named, without_tab}
-use Rattle.agent_model.specs.Done.{SharedCells}
+use Rattle.agent_model.specs.Effects.{SharedCells}
 use Rattle.agent_model.specs.CookieUses.{top_use}
 use Rattle.agent_model.specs.Rest.{last_moment}
 use Rattle.agent_model.specs.Sessions.{close, copy_sessions, show}

@@ -19,7 +19,8 @@ use Rattle.agent_model.specs.TheMachine.{machine}
 use Rattle.durable_model.specs.Histories.{AgentReply}
 use Rattle.durable_model.specs.Keeping.{AgentDurable, keeping}
 use Rattle.agent_core.specs.AgentView.{AgentView, is_due, is_up, may_of, owes}
-use Rattle.agent_core.specs.Means.{AgentMay, Fits, FlushMeans, LineMeans, OutcomeDevice, RestartDevice, RestartMeans, after_commit, after_line}
+use Rattle.agent_core.specs.Calls.{OutcomeDevice, RestartDevice}
+use Rattle.agent_core.specs.Means.{AgentMay, Fits, FlushMeans, LineMeans, RestartMeans, after_commit, after_line}
 use Rattle.agent_core.specs.Seen.{AgentSeen, IsSeen}
 use Rattle.agent_core.specs.declared.agent.Power.{Power}
 use Rattle.agent_core.specs.declared.agent.Power.TheVariants.{Up, Down as PowerDown, Spoilt}

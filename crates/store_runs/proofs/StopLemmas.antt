@@ -3,7 +3,7 @@ use Rattle.std.proofs.Common.{◌≡◌, ◌≢◌, ◌⊎◌, inl, inr, ⊎_eli
 use Rattle.agent_base.proofs.Pieces.{takes_none}
 use Rattle.unwinding.specs.Admissible.{History}
 use Rattle.disk_model.specs.Disk.{View}
-use Rattle.journal.specs.Region.{StandsFor}
+use Rattle.journal.specs.Region.{StandsForState}
 use Rattle.suffix_list.specs.ListText.{RuleList}
 use Rattle.suffix_list.specs.Suffix.{Rule}
 use Rattle.script_actions.specs.Action.{PlainAction, PlainStep}
@@ -85,8 +85,8 @@ left_files v view b list batch x history told seen is_rules is_digest leaves fil
     let store = seen.stores told file image in (
       store.0,
       store.1,
-      subst (λ digest. StandsFor (bodies.Takes list.rules) nothing_saved digest file store.0 store.1) is_digest
-          (subst (λ rules. StandsFor (bodies.Takes rules) nothing_saved v.journal.digest file store.0 store.1) is_rules store.2),
+      subst (λ digest. StandsForState (bodies.Takes list.rules) nothing_saved digest file store.0 store.1) is_digest
+          (subst (λ rules. StandsForState (bodies.Takes rules) nothing_saved v.journal.digest file store.0 store.1) is_rules store.2),
       leaves (durable_of store.0) (since_opening store.1 v.opened) (file, image, store.0, store.1, store.2, refl, refl),
     )
 

@@ -5,7 +5,7 @@ use Rattle.std.specs.Prelude.{◌≡◌, ◌≢◌, ◌⊎◌, ℕ, false, List,
 use Rattle.unwinding.specs.Admissible.{History}
 use Rattle.agent_base.specs.Streams.{Takes, TakesPrefix}
 use Rattle.disk_model.specs.Disk.{View}
-use Rattle.journal.specs.Region.{StandsFor}
+use Rattle.journal.specs.Region.{StandsForState}
 use Rattle.suffix_list.specs.ListText.{RuleList}
 use Rattle.suffix_list.specs.Suffix.{Rule}
 use Rattle.script_actions.specs.Action.{PlainAction, PlainStep}
@@ -33,7 +33,7 @@ abbrev pub LeavesHistory : RuleList → ℕ → AgentOpening → (images : List 
 LeavesHistory list batch opening images history =
     (file : List ℕ) → images file
     → (d : Saved) × (last : ℕ)
-    × StandsFor (bodies.Takes list.rules) nothing_saved list.digest file d last
+    × StandsForState (bodies.Takes list.rules) nothing_saved list.digest file d last
     × IsLeft list.rules batch opening history (durable_of d)
 
 -- all lines ran: there is a history of exactly these lines, the sink took its text, and it leaves

@@ -3,6 +3,7 @@ ghost use Rattle.std.specs.Prelude.{◌≡◌, ◌≤◌, ◌<◌, ◌+◌, ◌�
 ghost use Rattle.std.specs.Prelude.{true};
 ghost use Rattle.agent_base.specs.Counts.{Rose};
 ghost use Rattle.agent_base.specs.Streams.{Takes};
+ghost use Rattle.agent_core.specs.AgentView.{longest_batch};
 ghost use Rattle.agent_model.specs.Rest.{last_moment};
 ghost use Rattle.disk_model.specs.Schedule.{AreFrom};
 ghost use Rattle.durable_model.specs.Saved.{nothing_saved};
@@ -42,7 +43,7 @@ pub fn run_on<D: Disk + Drop, O: Sink>(
     out: &mut O,
 ) -> Finished<D>
     requires start { options.start ≤ last_moment }
-    requires batch { (1 ≤ options.batch) × (options.batch ≤ 256) }
+    requires batch { (1 ≤ options.batch) × (options.batch ≤ longest_batch) }
     requires fits { length lines.now + 2 < 2 ^ 64 }
     ensures written { (D.view disk).tells ≡ true
         → WritesOn result.ending list.now options.start options.batch options.checkpoint
@@ -92,7 +93,7 @@ pub fn run_in_memory<O: Sink>(
     out: &mut O,
 ) -> Ending
     requires start { options.start ≤ last_moment }
-    requires batch { (1 ≤ options.batch) × (options.batch ≤ 256) }
+    requires batch { (1 ≤ options.batch) × (options.batch ≤ longest_batch) }
     requires cuts { AreFrom 1 cuts.items }
     requires fits { length lines.now + 2 < 2 ^ 64 }
     ensures written { WritesInMemory result list.now.rules options.start options.batch

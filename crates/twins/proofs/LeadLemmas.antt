@@ -27,18 +27,19 @@ use Rattle.script_courses.proofs.LoopLemmas.{script_begins}
 use Rattle.script_courses.proofs.TwinLemmas.{answers_by_items}
 use Rattle.agent_core.specs.AgentView.{may_of}
 use Rattle.agent_core.specs.Flushing.{KeepsOptions}
-use Rattle.agent_core.specs.Means.{Fits, FlushMeans, LineMeans, OutcomeDevice, RestartDevice, RestartMeans, after_commit, after_line}
+use Rattle.agent_core.specs.Calls.{OutcomeDevice, RestartDevice}
+use Rattle.agent_core.specs.Means.{Fits, FlushMeans, LineMeans, RestartMeans, after_commit, after_line}
 use Rattle.agent_core.specs.Seen.{AgentSeen, IsSeen}
 use Rattle.agent_core.specs.declared.agent.Power.TheVariants.{Up}
 use Rattle.agent_core.specs.declared.outcome.Outcome.{Outcome}
 use Rattle.agent_core.specs.declared.outcome.Outcome.TheVariants.{Replies, Held, Down}
 use Rattle.store_runs.specs.Calls.{IsQuiet}
-use Rattle.twins.specs.Found.{collected_of}
-use Rattle.twins.specs.Lines.{EndsAs, HasRun, IsBefore, Leads, MemAgent, Stands, TakesLine}
+use Rattle.twins.specs.Collectors.{collected_of}
+use Rattle.twins.specs.Collecting.{EndsAs, HasRun, IsBefore, Leads, MemAgent, StandsOnCourse, TakesLine}
 use Rattle.twins.specs.Scripts.{Compares, Gives, end_in, entries_in}
 use Rattle.twins.specs.declared.before.Before.{Before}
 use Rattle.twins.specs.declared.collector.Collector.{Collector}
-use Rattle.twins.specs.declared.scripts.Script.{Script}
+use Rattle.twins.specs.declared.scripts.LocalScript.{LocalScript}
 use Rattle.twins.proofs.LineLemmas.{has_held, has_replied}
 use Rattle.twins.proofs.RunLemmas.{given_count, held_up, reopened_up, replied_up, stands_end, stands_fit, stands_held, stands_reopened, stands_replied}
 
@@ -166,7 +167,7 @@ leads_reopened site old new before after kept moment goes means device clock res
 
 -- ---- the end
 
-pub leads_end : (site : PlainSite) (old new : MemAgent) (found after : Collector) (script : Script)
+pub leads_end : (site : PlainSite) (old new : MemAgent) (found after : Collector) (script : LocalScript)
     (given : Vec Reply Global) (moment n : ℕ)
     → ((a : AgentSeen) → IsSeen old (view_of old.disk) a
     → (b : AgentSeen) × IsSeen new (view_of new.disk) b
@@ -191,7 +192,7 @@ pub leads_begin : (at : TwinSetting) (agent : MemAgent) (base : Saved) → base 
     → IsSeen agent (view_of agent.disk) (reopened (machine at.rules) keeping (begins_at at.start).rest (durable_of base))
     → AtBase (reopened (machine at.rules) keeping (begins_at at.start).rest (durable_of base)).base
     (may_of agent (view_of agent.disk))
-    → (view_of agent.disk).off ≡ false → (view_of agent.disk).cuts ≡ Some [] → Stands at agent [] nothing_collected
+    → (view_of agent.disk).off ≡ false → (view_of agent.disk).cuts ≡ Some [] → StandsOnCourse at agent [] nothing_collected
 unfolding reopened
 leads_begin at agent base nothing is_rules is_batch some seen left on none =
     let a = reopened (machine at.rules) keeping (begins_at at.start).rest (durable_of base) in
@@ -208,7 +209,7 @@ leads_begin at agent base nothing is_rules is_batch some seen left on none =
 
 -- ---- two scripts
 
-pub leads_answer : (at : TwinSetting) (first second : List PlainStep) (one other : Script) (answer : Twin)
+pub leads_answer : (at : TwinSetting) (first second : List PlainStep) (one other : LocalScript) (answer : Twin)
     → Gives at first one → Gives at second other → Compares one other answer → IsTwin at first second answer
 leads_answer at first second one other (Equal lines) mine theirs compares =
     let by = answers_by_items at first second (entries_in one) (entries_in other) (end_in one) (end_in other) mine.0 theirs.0 in

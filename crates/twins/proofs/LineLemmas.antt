@@ -23,8 +23,8 @@ use Rattle.site_entries.specs.Seen.{IsGivenIn}
 use Rattle.site_entries.proofs.LawLemmas.{changes, touches}
 use Rattle.agent_core.specs.Means.{after_commit, after_line}
 use Rattle.agent_core.specs.Seen.{AgentSeen}
-use Rattle.twins.specs.Found.{TakesIn}
-use Rattle.twins.specs.Lines.{HasRun, IsBefore, TakesLine}
+use Rattle.twins.specs.Collectors.{TakesIn}
+use Rattle.twins.specs.Collecting.{HasRun, IsBefore, TakesLine}
 use Rattle.twins.specs.declared.before.Before.{Before}
 use Rattle.twins.specs.declared.collector.Collector.{Collector}
 

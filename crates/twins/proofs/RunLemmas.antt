@@ -32,11 +32,11 @@ use Rattle.agent_core.specs.Flushing.{KeepsOptions}
 use Rattle.agent_core.specs.Means.{Fits, after_commit, after_line}
 use Rattle.agent_core.specs.Seen.{AgentSeen, IsSeen}
 use Rattle.store_runs.specs.Calls.{IsQuiet}
-use Rattle.twins.specs.Found.{collected_of}
-use Rattle.twins.specs.Lines.{Collects, IsStill, MemAgent, Stands, TakesLine}
+use Rattle.twins.specs.Collectors.{collected_of}
+use Rattle.twins.specs.Collecting.{Collects, IsStill, MemAgent, StandsOnCourse, TakesLine}
 use Rattle.twins.specs.Scripts.{Gives, entries_in}
 use Rattle.twins.specs.declared.collector.Collector.{Collector}
-use Rattle.twins.specs.declared.scripts.Script.{Script}
+use Rattle.twins.specs.declared.scripts.LocalScript.{LocalScript}
 use Rattle.twins.proofs.CountLemmas.{acknowledged_append}
 
 pub held_up : (rules : List Rule) (a : AgentSeen) (line : PlainAction) → (after_line rules a line).up ≡ true
@@ -75,7 +75,7 @@ given_count rules site given told is = filter_map site given
     ∙ ap (λ rs. length (filter (λ one. is_of site one.site) rs)) is ∙ count_given rules site told
 
 module _ (at : TwinSetting) (old : MemAgent) (steps : List PlainStep) (before : Collector) (waiting : ℕ)
-    (s : Stands at old steps (collected_of before waiting)) (fits : length steps + 1 < 2 ^ 64) where
+    (s : StandsOnCourse at old steps (collected_of before waiting)) (fits : length steps + 1 < 2 ^ 64) where
   abbrev c : Collected
   c = collected_of before waiting
 
@@ -182,7 +182,7 @@ module _ (at : TwinSetting) (old : MemAgent) (steps : List PlainStep) (before : 
         (restarts waiting ∙ ap (λ t. with_restart t c) (clock ∙ sym s.seen.clock))
 
   -- the end
-  pub stands_end : (moment n : ℕ) (after : Collector) (script : Script) → moment ≡ old.now
+  pub stands_end : (moment n : ℕ) (after : Collector) (script : LocalScript) → moment ≡ old.now
       → n ≡ length (of_site (machine at.rules) at.site s.a.held)
       → (before.replies + n < 2 ^ 64 → before.changes + before.waiting < 2 ^ 64
       → collected_of after 0 ≡ with_commit (collected_of before n))

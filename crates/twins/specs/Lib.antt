@@ -2,6 +2,6 @@
 pub mod Plain
 pub mod Settings
 -- What private functions make. No public clause rests on it.
-pub mod Found
-pub mod Lines
+pub mod Collectors
+pub mod Collecting
 pub mod Scripts

@@ -7,28 +7,29 @@ use Rattle.local_items.specs.Items.{AgentItem, item_of}
 use Rattle.local_items.specs.declared.item.Item.TheVariants as item
 use Rattle.script_courses.specs.Twins.{Equal, HasItems, LocalDiffer, Twin, TwinSetting}
 use Rattle.script_courses.specs.Twins.{acknowledged_in}
-use Rattle.twins.specs.declared.scripts.Script.{Script}
+use Rattle.twins.specs.declared.scripts.LocalScript.{LocalScript}
 
--- the entries, and the end
-abbrev pub entries_in : Script → List AgentItem
+-- the entries
+abbrev pub entries_in : LocalScript → List AgentItem
 entries_in script = map item_of script.entries.items
 
-abbrev pub end_in : Script → AgentItem
+-- the end
+abbrev pub end_in : LocalScript → AgentItem
 end_in script = item_of (item.Restarts script.end)
 
 -- all items
-abbrev pub items_of : Script → List AgentItem
+abbrev pub items_of : LocalScript → List AgentItem
 items_of script = entries_in script ++ end_in script ∷ []
 
 -- some lines give the site this local script, and its counts keep in range
-abbrev pub Gives : TwinSetting → List PlainStep → Script → Type 0
+abbrev pub Gives : TwinSetting → List PlainStep → LocalScript → Type 0
 Gives at steps script =
     HasItems at steps (entries_in script) (end_in script)
     × (acknowledged_in (items_of script) < 2 ^ 64)
 
 -- how two local scripts compare: their entries first differ at this one, or only their ends do; or
 -- they are equal, and so many replies were acknowledged
-abbrev pub Compares : (one other : Script) → Twin → Type 0
+abbrev pub Compares : (one other : LocalScript) → Twin → Type 0
 Compares one other (LocalDiffer entry) =
     DifferAt (entries_in one) (entries_in other) entry
     ⊎ ((entries_in one ≡ entries_in other) × (end_in one ≢ end_in other)

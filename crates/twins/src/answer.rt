@@ -5,7 +5,7 @@ ghost use Rattle.twins.specs.Plain.{plain_twin};
 ghost use Rattle.twins.specs.Scripts.{Compares, items_of};
 
 use crate::counts::acknowledged;
-use crate::scripts::Script;
+use crate::scripts::LocalScript;
 use local_items::first_difference;
 
 /// The answer to two scripts.
@@ -19,7 +19,7 @@ pub enum Twin {
 }
 
 /// The answer to two local scripts.
-pub fn compare(one: &Script, other: &Script) -> Twin
+pub fn compare(one: &LocalScript, other: &LocalScript) -> Twin
     requires few { acknowledged_in (items_of one.now) < 2 ^ 64 }
     ensures compares { Compares one.now other.now (plain_twin result) }
 {

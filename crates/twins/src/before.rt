@@ -7,7 +7,7 @@ ghost use Rattle.script_actions.specs.Plain.{action_of};
 ghost use Rattle.agent_model.specs.Lines.{AgentWorld};
 ghost use Rattle.site_entries.specs.Laws.{are_same};
 ghost use Rattle.agent_core.specs.Seen.{AgentSeen, IsSeen};
-ghost use Rattle.twins.specs.Lines.{HasRun, IsBefore, IsKept, TakesLine};
+ghost use Rattle.twins.specs.Collecting.{HasRun, IsBefore, IsCopied, TakesLine};
 
 use crate::collector::Collector;
 use agent_base::NoMemory;
@@ -60,7 +60,7 @@ fn kept_cookies(
 ) -> Result<Option<Jar>, NoMemory>
     ensures kept { let v = agent.entry.now in (a : AgentSeen)
         → IsSeen v (view_of v.disk) a → a.up ≡ true
-        → IfOk result (IsKept (plain_site site.now) a.world asks) }
+        → IfOk result (IsCopied (plain_site site.now) a.world asks) }
 {
     if !asks {
         return Ok(None);
@@ -100,7 +100,7 @@ fn is_changed(
 ) -> Result<bool, NoMemory>
     ensures changed { let v = agent.entry.now in (b : AgentSeen) (world : AgentWorld) (asks : Bool)
         → IsSeen v (view_of v.disk) b → b.up ≡ true
-        → IsKept (plain_site site.now) world asks kept.now
+        → IsCopied (plain_site site.now) world asks kept.now
         → let different = asks && not (are_same (plain_site site.now) world b.world) in
         IfOk result (λ now. now ≡ (changed || different)) }
 {

@@ -4,7 +4,7 @@ ghost use Rattle.unwinding.specs.LocalScript.{happenings};
 ghost use Rattle.local_items.specs.Items.{entry_of, item_of};
 ghost use Rattle.script_courses.specs.Collected.{closing, nothing_collected};
 ghost use Rattle.script_courses.specs.Collected.{with_commit, with_restart};
-ghost use Rattle.twins.specs.Found.{TakesIn, collected_of};
+ghost use Rattle.twins.specs.Collectors.{TakesIn, collected_of};
 
 use agent_base::NoMemory;
 use local_items::{Entry, Item, Restart};

@@ -7,15 +7,16 @@ ghost use Rattle.origin_site.specs.Site.{PlainSite};
 ghost use Rattle.script_actions.specs.Plain.{action_of, step_of};
 ghost use Rattle.agent_model.specs.Rest.{last_moment};
 ghost use Rattle.script_courses.specs.Collected.{nothing_collected};
+ghost use Rattle.agent_core.specs.AgentView.{longest_batch};
 ghost use Rattle.store_runs.specs.Steps.{steps_of};
-ghost use Rattle.twins.specs.Lines.{EndsAs, IsStill, Leads, Stands};
+ghost use Rattle.twins.specs.Collecting.{EndsAs, IsStill, Leads, StandsOnCourse};
 ghost use Rattle.twins.specs.Scripts.{Gives};
 ghost use Rattle.twins.specs.Settings.{setting};
 
 use crate::before::{look, take_in};
 use crate::collector::Collector;
 use crate::counts::replies_of;
-use crate::scripts::Script;
+use crate::scripts::LocalScript;
 use agent_base::NoMemory;
 use agent_core::{Agent, Options, Outcome};
 use disk_model::MemDisk;
@@ -32,9 +33,9 @@ pub fn collect(
     site: &Site,
     lines: &[Line],
     options: Options,
-) -> Result<Script, NoMemory>
+) -> Result<LocalScript, NoMemory>
     requires start { options.start ≤ last_moment }
-    requires batch { (1 ≤ options.batch) × (options.batch ≤ 256) }
+    requires batch { (1 ≤ options.batch) × (options.batch ≤ longest_batch) }
     requires fits { length lines.now + 2 < 2 ^ 64 }
     ensures given { let at = setting list.now (plain_site site.now) options in
         IfOk result (Gives at (steps_of lines.now)) }
@@ -54,9 +55,9 @@ fn open<'l>(
     options: Options,
 ) -> Result<Agent<'l, MemDisk>, NoMemory>
     requires start { options.start ≤ last_moment }
-    requires batch { (1 ≤ options.batch) × (options.batch ≤ 256) }
+    requires batch { (1 ≤ options.batch) × (options.batch ≤ longest_batch) }
     ensures opened { IfOk result (λ agent. (site : PlainSite)
-        → Stands (setting list.now site options) agent [] nothing_collected) }
+        → StandsOnCourse (setting list.now site options) agent [] nothing_collected) }
 {
     let disk = MemDisk::new(alloc, Vec::new(alloc), Vec::new(alloc), Vec::new(alloc));
     match Agent::open(alloc, disk, list, options) {
@@ -124,7 +125,11 @@ fn reopen(agent: &mut Agent<'_, MemDisk>, found: &mut Collector) -> Result<(), N
 }
 
 // The end: what waits is committed, and the last epoch is closed.
-fn close(agent: &mut Agent<'_, MemDisk>, site: &Site, found: Collector) -> Result<Script, NoMemory>
+fn close(
+    agent: &mut Agent<'_, MemDisk>,
+    site: &Site,
+    found: Collector,
+) -> Result<LocalScript, NoMemory>
     requires still { IsStill agent.old }
     ensures ends { IfOk result (EndsAs (plain_site site.now) agent.old found) }
 {
@@ -133,7 +138,7 @@ fn close(agent: &mut Agent<'_, MemDisk>, site: &Site, found: Collector) -> Resul
     match agent.flush() {
         Outcome::Replies(given) => {
             found.commit(replies_of(site, &given));
-            Ok(Script {
+            Ok(LocalScript {
                 end: found.closing(moment),
                 entries: found.items,
             })

@@ -4,7 +4,7 @@ use local_items::{Item, Restart};
 
 /// A local script: its entries, and its end, which closes the last epoch.
 #[derive(Debug, Drop)]
-pub struct Script {
+pub struct LocalScript {
     pub entries: Vec<Item>,
     pub end: Restart,
 }

@@ -3,6 +3,7 @@ ghost use Rattle.std.specs.Prelude.{◌≤◌, ◌<◌, ◌+◌, ◌^◌, IfOk, 
 ghost use Rattle.origin_site.specs.Plain.{plain_site};
 ghost use Rattle.agent_model.specs.Rest.{last_moment};
 ghost use Rattle.script_courses.specs.Twins.{IsTwin};
+ghost use Rattle.agent_core.specs.AgentView.{longest_batch};
 ghost use Rattle.store_runs.specs.Steps.{steps_of};
 ghost use Rattle.twins.specs.Plain.{plain_twin};
 ghost use Rattle.twins.specs.Settings.{setting};
@@ -28,7 +29,7 @@ pub fn twin(
     options: Options,
 ) -> Result<Twin, NoMemory>
     requires start { options.start ≤ last_moment }
-    requires batch { (1 ≤ options.batch) × (options.batch ≤ 256) }
+    requires batch { (1 ≤ options.batch) × (options.batch ≤ longest_batch) }
     requires first { length first.now + 2 < 2 ^ 64 }
     requires second { length second.now + 2 < 2 ^ 64 }
     ensures answer { let at = setting list.now (plain_site site.now) options in

@@ -1,4 +1,5 @@
 -- The histories that a run may have, where lines are committed in batches.
+-- Source: none.
 -- Our own choice: a commit that met a fault may have reached the store whole. So an epoch whose
 -- interrupted line ends a batch may keep the changes of all lines that were tried.
 -- The last epoch is ended by no restart. Lines that wait for their batch at its end are lost,

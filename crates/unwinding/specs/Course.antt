@@ -1,4 +1,5 @@
 -- What an agent stands for, and where a run stands in its script: what a loop over the lines keeps.
+-- Source: none.
 -- Our own choice: the course, and not the history, is what a run carries. How many lines are
 -- acknowledged is a length, and how many changes are kept comes from the restart.
 use Rattle.std.specs.Prelude.{◌≡◌, ℕ, Bool, List, [], ◌∷◌, ◌++◌, length}

@@ -1,4 +1,5 @@
 -- What each line makes of an agent, and that an agent stands where the course of its run does.
+-- Source: none.
 use Rattle.std.specs.Prelude.{◌≡◌, ◌⊎◌, ℕ, ◌+◌, ◌*◌, ◌%◌, ◌<◌, Bool, true, false, List, [], ◌∷◌}
 use Rattle.std.specs.Prelude.{◌++◌, Some, length}
 use Rattle.unwinding.specs.Machine.{Machine, WorldOf}

@@ -1,4 +1,5 @@
 -- What of the world outlives a restart, and what the row changes of lines make of it.
+-- Source: none.
 -- Our own choice: the row changes of one line are one durable change, kept or lost as a whole. A
 -- line without row changes has none.
 use Rattle.std.specs.Prelude.{◌≡◌, Bool, true, false, List, [], ◌∷◌, ◌++◌, Option, Some, None}

@@ -1,4 +1,5 @@
 -- A run as a list of epochs, each ended by a restart, and the replies to one site over them.
+-- Source: none.
 -- Our own choice: the line that met a device fault, the interrupted line, counts as tried, since
 -- its changes may have reached the store. It does not move the clock, and is not replied to.
 use Rattle.std.specs.Prelude.{ℕ, List, [], ◌∷◌, ◌++◌, Option, Some, None, take}

@@ -2,6 +2,7 @@
 -- of each site, which is its own cell.
 -- A site can save a text, write or read the note, give a text into the other site's drawer, take
 -- what is in its own, and ring, which the other site hears. No line has the event `Hear`.
+-- Source: none.
 use Rattle.std.specs.Prelude.{ℕ, Bool, true, false, ◌&&◌, List, [], ◌∷◌, Option, Some}
 use Rattle.std.specs.Prelude.{None}
 use Rattle.std.specs.Prelude.{nat_eq, if◌then◌else◌}

@@ -1,4 +1,5 @@
 -- The law of the example, without premises.
+-- Source: none.
 use Rattle.std.specs.Prelude.{◌≡◌, ℕ, List}
 use Rattle.unwinding.specs.declared.example.Site.{Site}
 use Rattle.unwinding.specs.Durable.{Durable}

@@ -1,4 +1,5 @@
 -- The example as a machine, what is kept of it, and its setting.
+-- Source: none.
 use Rattle.std.specs.Prelude.{◌≡◌, ℕ, ◌+◌, false, []}
 use Rattle.std.specs.Prelude.{None}
 use Rattle.std.specs.Prelude.{if◌then◌else◌}

@@ -1,6 +1,7 @@
 -- What a machine owes, so that the replies to a site are those of its own machine.
 -- What is asked of worlds is asked of sound ones alone, by a predicate that the machine chooses:
 -- those that a run can reach, or more. What is asked of durable states is asked of valid ones.
+-- Source: none.
 use Rattle.std.specs.Prelude.{◌≡◌, Bool, true, false, List, [], Some, None, if◌then◌else◌}
 use Rattle.unwinding.specs.Machine.{World, Occurrence, Machine, WorldOf}
 use Rattle.unwinding.specs.World.{is_in, consulted, no_cells, outcome, after_sides, world_step}

@@ -1,4 +1,5 @@
 -- Shared cells as a plain function from cells to contents, where nothing has to be enumerated.
+-- Source: none.
 use Rattle.std.specs.Prelude.{Bool, if◌then◌else◌}
 
 module _ {Cell Content : Type 0} where

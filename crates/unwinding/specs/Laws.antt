@@ -1,5 +1,6 @@
 -- The laws of isolation. Each is carried by a function without a body, for every setting.
 -- Where a law names facts, it says nothing of a machine that does not have them.
+-- Source: none.
 use Rattle.std.specs.Prelude.{◌≡◌, ℕ, true, false, List, [], None}
 use Rattle.unwinding.specs.Machine.{WorldOf}
 use Rattle.unwinding.specs.World.{SiteReply, is_in, world_step, world_after, replies, of_site}

@@ -1,5 +1,6 @@
 -- What one site is given of some lines: its events in order, each with the cells that it may not
 -- know. The replies to the site depend on nothing else.
+-- Source: none.
 -- Our own choice: an entry holds a consulted cell that is not home to the site, and one that an
 -- event of another site has left different, in the last use of a cookie too.
 use Rattle.std.specs.Prelude.{Bool, true, false, not, ◌||◌, List, [], ◌∷◌, ◌++◌, Option, Some, None}

@@ -1,4 +1,5 @@
 -- The local script of a site: all that it is given of a whole run.
+-- Source: none.
 -- Our own choice: events of interrupted lines are entries, and cells that they changed count as
 -- changed by others. A cell that has to be held stays so over restarts.
 use Rattle.std.specs.Prelude.{ℕ, List, [], ◌∷◌, ◌++◌, length}

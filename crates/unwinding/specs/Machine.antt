@@ -1,5 +1,6 @@
 -- The machine of one site and the world of all sites, whatever sites, cells and events are.
 -- A machine is a record of functions over type parameters, and a concrete one fills them in.
+-- Source: none.
 -- Our own choice: a site has a partition for itself, and shares cells with others. An event says
 -- which cells it consults: those it names and, where it sweeps, each cell that is its site's own.
 -- Our own choice: an event carries its moment, so that no site learns of the clock otherwise.

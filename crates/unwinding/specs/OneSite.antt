@@ -1,4 +1,5 @@
 -- What the machine of one site makes of its entries alone, with no world around it.
+-- Source: none.
 -- Our own choice: it goes by the cell that an entry holds, and else by its own copy. It keeps a
 -- new content where the cell is home to the site.
 use Rattle.std.specs.Prelude.{◌&&◌, List, [], ◌∷◌, ◌++◌, Option, Some, None}

@@ -1,5 +1,6 @@
 -- How little a local script holds. Each law is carried by a function without a body.
 -- Where a law names facts, it says nothing of a machine that does not have them.
+-- Source: none.
 use Rattle.std.specs.Prelude.{◌≡◌, Bool, true, List}
 use Rattle.unwinding.specs.World.{world_step}
 use Rattle.unwinding.specs.LocalEntries.{line_entries}

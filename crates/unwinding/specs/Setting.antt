@@ -1,5 +1,6 @@
 -- A machine with its types, what is kept of it, and when a world is sound and a state valid.
 -- It is what the functions that carry the laws take: a type of a caller stands for one setting.
+-- Source: none.
 use Rattle.unwinding.specs.Machine.{World, Machine}
 use Rattle.unwinding.specs.Durable.{Keeping, Durable}
 

@@ -1,4 +1,5 @@
 -- What the machine of one site makes of its local script alone, over restarts too.
+-- Source: none.
 -- Our own choice: at a restart it goes on from what it has kept itself, its first kept changes
 -- made to what it had. A row change of a cell that is not home to the site is passed over.
 use Rattle.std.specs.Prelude.{List, [], ◌∷◌, ◌++◌, take}

@@ -1,4 +1,5 @@
 -- What is printed of a history.
+-- Source: none.
 -- Our own choice: a line that met a device fault has a reply of its own, `down`, and a restart has
 -- one that tells how many durable changes were kept. The caller says what these two replies are.
 use Rattle.std.specs.Prelude.{ℕ, List, [], ◌∷◌, ◌++◌, map}

@@ -1,4 +1,5 @@
 -- What a line does to the world of all sites, and the reply that it gets.
+-- Source: none.
 -- Our own choice: the events of a line are read off the world before it. All events beside the
 -- main one happen first, at every site at once; the main one acts on what they left.
 use Rattle.std.specs.Prelude.{Bool, true, false, ◌&&◌, ◌||◌, List, [], ◌∷◌, ◌++◌, Option, Some}

@@ -10,7 +10,7 @@ use Rattle.std.specs.Prelude.{List}
 use Rattle.agent_model.specs.CookieCells.{Domain, domain_order}
 use Rattle.agent_model.specs.PartitionedCells.{PartitionedKey, partitioned_order}
 use Rattle.agent_model.specs.Partition.{Holdings}
-use Rattle.agent_model.specs.Done.{Effect}
+use Rattle.agent_model.specs.Effects.{Effect}
 use Rattle.agent_model.specs.CookieUse.{CookieUse, cookie_domain, key_of, uses_own}
 use Rattle.agent_model.specs.CookieStore.{BothCells}
 use Rattle.row_changes.specs.Change.{PlainChange}
@@ -19,7 +19,7 @@ use Rattle.agent_model.proofs.CookieCellsLemmas.{domain_order_total, domain_orde
 use Rattle.agent_model.proofs.PartitionedLemmas.{partitioned_order_total, partitioned_order_same}
 use Rattle.web_cookies.specs.Stored.{Entries, IsDoneBy, held_with, shared_in, partitioned_in}
 use Rattle.web_cookies.specs.Cells.{cell_key, cookies_at}
-use Rattle.web_cookies.specs.Found.{HoldSame, cookies_if, found, is_key, left_at, own_key, partition_key}
+use Rattle.web_cookies.specs.CellsOfUse.{HoldSame, cookies_if, found, is_key, left_at, own_key, partition_key}
 use Rattle.web_cookies.proofs.CellLemmas.{shared_at, partitioned_at}
 
 -- ---- the same cookies

@@ -13,7 +13,7 @@ use Rattle.reply_lines.specs.Reply.{Cookie, Load, SetOne}
 use Rattle.script_actions.specs.Action.{HeadField}
 use Rattle.agent_model.specs.CookieCells.{Cookies}
 use Rattle.agent_model.specs.Partition.{Holdings}
-use Rattle.agent_model.specs.Done.{Effect, answers}
+use Rattle.agent_model.specs.Effects.{Effect, answers}
 use Rattle.agent_model.specs.CookieUse.{CookieUse, cookie_domain, uses_own}
 use Rattle.agent_model.specs.CookieStore.{BothCells, both_marked, cookie_texts, header_text, own_places, partition_places, sent, store_text, store_texts}
 use Rattle.agent_model.specs.Cookies.{leaves, read_cookies_by, request, set_cookie_by}
@@ -25,7 +25,7 @@ use Rattle.web_cookies.specs.Cells.{HaveKinds, cell_order, cookies_at, jar_at, k
 use Rattle.web_cookies.specs.Prepared.{HasPlace, IsReady, IsReadyIf, Prepares, changed, changed_if, cookies_after}
 use Rattle.web_cookies.specs.declared.change.Becomes.{Becomes}
 use Rattle.web_cookies.specs.declared.change.Becomes.TheVariants.{Marked, Stored}
-use Rattle.web_cookies.specs.Found.{CanBeDone, HasPlaceIf, HoldSame, IsChange, KeepKeys, LeavesBoth, cookies_if, found, is_key, left_at, own_key, partition_key}
+use Rattle.web_cookies.specs.CellsOfUse.{CanBeDone, HasPlaceIf, HoldSame, IsChange, KeepKeys, LeavesBoth, cookies_if, found, is_key, left_at, own_key, partition_key}
 use Rattle.web_cookies.specs.declared.prepared.Prepared.{Prepared}
 use Rattle.web_cookies.proofs.OrderOfCells.{alike, cell_order_total, equal_keys, order, own_tie}
 use Rattle.web_cookies.proofs.PlainKeyLemmas as plain

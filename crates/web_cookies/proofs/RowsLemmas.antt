@@ -15,7 +15,7 @@ use Rattle.agent_model.proofs.PartitionedLemmas.{partitioned_order_total, partit
 use Rattle.web_cookies.specs.declared.change.Becomes.TheVariants.{Stored}
 use Rattle.web_cookies.specs.Stored.{Entries, shared_in, partitioned_in, with_shared, with_partitioned}
 use Rattle.web_cookies.specs.Cells.{HaveKinds, cell_key, cell_order, cookies_at, cookies_of, jar_at, kind_of}
-use Rattle.web_cookies.specs.Found.{HoldSame}
+use Rattle.web_cookies.specs.CellsOfUse.{HoldSame}
 use Rattle.web_cookies.specs.Rows.{HasPlace, IsRowDone, cookies_after_row}
 use Rattle.web_cookies.proofs.OrderOfCells.{alike, cell_order_total, equal_keys, order, own_tie}
 use Rattle.web_cookies.proofs.PlainKeyLemmas.{found-key, found-set}

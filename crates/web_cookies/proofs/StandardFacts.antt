@@ -14,7 +14,7 @@ use Rattle.agent_model.specs.CookieCells.{Cookies}
 use Rattle.agent_model.specs.CookieUse.{CookieUse}
 use Rattle.agent_model.specs.CookieStore.{BothCells}
 use Rattle.web_cookies.specs.Cells.{cell_order, kind_of}
-use Rattle.web_cookies.specs.Found.{is_key, left_at, own_key, partition_key}
+use Rattle.web_cookies.specs.CellsOfUse.{is_key, left_at, own_key, partition_key}
 use Rattle.web_cookies.specs.Words.{jar_left, word_by}
 
 -- ---- names

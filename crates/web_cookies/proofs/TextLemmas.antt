@@ -16,7 +16,7 @@ use Rattle.cookie_jar.specs.Steps.{after_steps}
 use Rattle.row_changes.specs.Change.{PlainChange}
 use Rattle.agent_model.specs.CookieCells.{Cookies}
 use Rattle.agent_model.specs.CookieWords.{stored_word}
-use Rattle.web_cookies.specs.Found.{own_key}
+use Rattle.web_cookies.specs.CellsOfUse.{own_key}
 use Rattle.web_cookies.specs.Words.{IsStored, IsWordOf, IsWordOfDrop, jar_left, rows_by, word_by}
 use Rattle.std.specs.List.{list_any}
 use Rattle.case_tables.specs.Rows.{same_in_any_case}

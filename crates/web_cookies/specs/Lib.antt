@@ -7,5 +7,5 @@ pub mod Prepared
 pub mod Rows
 pub mod Listed
 -- What private functions compute. No public clause rests on it.
-pub mod Found
+pub mod CellsOfUse
 pub mod Words

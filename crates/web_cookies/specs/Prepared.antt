@@ -7,7 +7,7 @@ use Rattle.cookie_jar.specs.Key.{PlainKey, plain_key}
 use Rattle.reply_lines.specs.Plain.{body_of}
 use Rattle.agent_model.specs.CookieCells.{Cookies}
 use Rattle.row_changes.specs.Plain.{plain_change}
-use Rattle.agent_model.specs.Done.{Effect}
+use Rattle.agent_model.specs.Effects.{Effect}
 use Rattle.agent_model.specs.Partition.{Holdings}
 use Rattle.web_cookies.specs.Stored.{Entries, IsDoneBy, held_with, shared_in}
 use Rattle.web_cookies.specs.Cells.{cell_order, cookies_at, jar_at}
@@ -32,11 +32,12 @@ changed change key cookies =
     if eq_by_cmp cell_order key (plain_key change.key) then becomes_of change.becomes cookies
     else cookies
 
--- the same of a change that there may be
+-- a change that there may be can be done
 abbrev pub IsReadyIf : Option CellChange → Entries → Type 0
 IsReadyIf None entries = ⊤
 IsReadyIf (Some change) entries = IsReady change entries
 
+-- the cookies of a key, once the cell was changed where there is a change
 abbrev pub changed_if : Option CellChange → PlainKey → Cookies → Cookies
 changed_if None key cookies = cookies
 changed_if (Some change) key cookies = changed change key cookies

@@ -12,7 +12,7 @@ use Rattle.agent_model.specs.CookieCells.{Cookies, domain_order, no_cookies}
 use Rattle.agent_model.specs.PartitionedCells.{PartitionedCells, partitioned_order}
 use Rattle.agent_model.specs.PartitionedCells.{no_partitioned_cells}
 use Rattle.agent_model.specs.Partition.{Holdings}
-use Rattle.agent_model.specs.Done.{Done, Effect, SharedCells}
+use Rattle.agent_model.specs.Effects.{Done, Effect, SharedCells}
 
 -- what contracts see: a jar for each key
 abbrev pub Entries : Type 0

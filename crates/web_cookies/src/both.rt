@@ -4,7 +4,7 @@ ghost use Rattle.std.specs.List.{list_any};
 ghost use Rattle.cookie_jar.specs.Sending.{marked};
 ghost use Rattle.script_actions.specs.Plain.{head_field_of};
 ghost use Rattle.setcookie_parse.specs.SetCookie.{Kept};
-ghost use Rattle.setcookie_parse.specs.Views.{cookie_view};
+ghost use Rattle.setcookie_parse.specs.Plain.{plain_text};
 ghost use Rattle.agent_model.specs.CookieStore as spec;
 ghost use Rattle.agent_model.specs.Rest.{last_moment};
 ghost use Rattle.case_tables.specs.Rows.{same_in_any_case};
@@ -13,10 +13,10 @@ ghost use Rattle.cookie_jar.specs.Key.{plain_key};
 ghost use Rattle.cookie_jar.specs.Persistent.{rows_of_steps};
 ghost use Rattle.cookie_jar.specs.Planned.{IsPlanFor, planned};
 ghost use Rattle.cookie_jar.specs.Steps.{after_steps};
-ghost use Rattle.cookie_jar.specs.Views.{plain_access};
+ghost use Rattle.cookie_jar.specs.Plain.{plain_access};
 ghost use Rattle.row_changes.specs.Plain.{plain_change};
 ghost use Rattle.agent_model.specs.CookieWords as spec_of;
-ghost use Rattle.web_cookies.specs.Found.{AreKeysOf};
+ghost use Rattle.web_cookies.specs.CellsOfUse.{AreKeysOf};
 ghost use Rattle.web_cookies.specs.Uses.{plain_use};
 
 use crate::cookie_use::{CookieUse, access_of};
@@ -168,10 +168,10 @@ impl BothJars {
         requires keys { AreKeysOf list.now.rules (plain_use how.now) keys.now }
         requires pair { length cookie.now.name.now + length cookie.now.value.now ≤ 4096 }
         ensures stored { IfOk result (λ word. IsStored (spec.store_parsed list.now.rules now
-            (plain_use how.now) self.old (Kept (cookie_view cookie.now))) self.new word.now) }
+            (plain_use how.now) self.old (Kept (plain_text cookie.now))) self.new word.now) }
         ensures rows { OnOk result (map plain_change rows.new.items
             ≡ map plain_change rows.old.items ++ (spec.store_parsed list.now.rules now
-            (plain_use how.now) self.old (Kept (cookie_view cookie.now))).changes) }
+            (plain_use how.now) self.old (Kept (plain_text cookie.now))).changes) }
     {
         let access = access_of(how);
         match destination(cookie, &access) {
@@ -213,13 +213,13 @@ fn store_in(
 ) -> Result<&'static str, NoMemory>
     requires now { now ≤ last_moment }
     requires pair { length cookie.now.name.now + length cookie.now.value.now ≤ 4096 }
-    ensures stored { let plan = planned list.now.rules (cookie_view cookie.now)
+    ensures stored { let plan = planned list.now.rules (plain_text cookie.now)
         (plain_access access.now) jar.old.kind (pos now) jar.old.cookies in
         IfOk result (λ word. (jar.new.cookies ≡ jar_left jar.old.cookies plan)
         × (word.now ≡ word_by plan)) }
     ensures rows { OnOk result (map plain_change rows.new.items
         ≡ map plain_change rows.old.items ++ rows_by (plain_key cell.now)
-        (planned list.now.rules (cookie_view cookie.now) (plain_access access.now) jar.old.kind
+        (planned list.now.rules (plain_text cookie.now) (plain_access access.now) jar.old.kind
         (pos now) jar.old.cookies)) }
     ensures kind { jar.new.kind ≡ jar.old.kind }
 {

@@ -1,6 +1,6 @@
 //! Uses of cookies.
 ghost use Rattle.std.specs.Prelude.{◌≡◌};
-ghost use Rattle.cookie_jar.specs.Views.{plain_access};
+ghost use Rattle.cookie_jar.specs.Plain.{plain_access};
 ghost use Rattle.agent_model.specs.CookieUse as spec;
 ghost use Rattle.web_cookies.specs.Uses.{plain_use};
 

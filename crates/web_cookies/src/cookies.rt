@@ -7,13 +7,13 @@ ghost use Rattle.script_actions.specs.Plain.{head_field_of};
 ghost use Rattle.agent_model.specs.CookieCells.{no_cookies};
 ghost use Rattle.agent_model.specs.PartitionedCells.{no_partitioned_cells};
 ghost use Rattle.agent_model.specs.Cookies.{read_cookies_by, request, set_cookie_by};
-ghost use Rattle.agent_model.specs.Done.{Effect};
+ghost use Rattle.agent_model.specs.Effects.{Effect};
 ghost use Rattle.agent_model.specs.Rest.{last_moment};
 ghost use Rattle.web_cookies.specs.Stored.{IsDoneBy, shared_in, partitioned_in};
 ghost use Rattle.web_cookies.specs.Uses.{plain_use};
 ghost use Rattle.web_cookies.specs.Cells.{cookies_at, jar_at, kind_of};
 ghost use Rattle.web_cookies.specs.Prepared.{Prepares, IsReady, IsReadyIf, changed, changed_if};
-ghost use Rattle.web_cookies.specs.Found.{AreKeysOf, HasKey, HoldSame, IsSending, KeepKeys, cookies_if, found};
+ghost use Rattle.web_cookies.specs.CellsOfUse.{AreKeysOf, HasKey, HoldSame, IsSending, KeepKeys, cookies_if, found};
 
 use crate::both::{BothJars, has_cookies};
 use crate::change::{CellChange, write};

@@ -1,7 +1,7 @@
 //! The keys of the cells that a use has.
 ghost use Rattle.std.specs.Prelude.{◌≡◌, IfOk, IsSome, Some, option_map};
 ghost use Rattle.cookie_jar.specs.Key.{plain_key};
-ghost use Rattle.web_cookies.specs.Found as spec;
+ghost use Rattle.web_cookies.specs.CellsOfUse as spec;
 ghost use Rattle.web_cookies.specs.Uses.{plain_use};
 
 use crate::cookie_use::CookieUse;

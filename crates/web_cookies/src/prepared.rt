@@ -12,7 +12,7 @@ ghost use Rattle.web_cookies.specs.Becoming.{FitsKey, becomes_of};
 ghost use Rattle.web_cookies.specs.Stored.{Entries};
 ghost use Rattle.web_cookies.specs.Cells.{kind_of};
 ghost use Rattle.web_cookies.specs.Prepared.{IsReadyIf, Prepares};
-ghost use Rattle.web_cookies.specs.Found.{AreKeysOf, CanBeDone, HasKey, HasPlaceIf, IsChange, IsSending, LeavesBoth};
+ghost use Rattle.web_cookies.specs.CellsOfUse.{AreKeysOf, CanBeDone, HasKey, HasPlaceIf, IsChange, IsSending, LeavesBoth};
 
 use crate::both::BothJars;
 use crate::change::{Becomes, CellChange};

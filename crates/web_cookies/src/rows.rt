@@ -6,7 +6,7 @@ ghost use Rattle.partition_limits.specs.Limits as limits;
 ghost use Rattle.cookie_jar.specs.Cookie as spec;
 ghost use Rattle.cookie_jar.specs.Key.{plain_key};
 ghost use Rattle.cookie_jar.specs.Persistent.{RowInsert, RowRemove, RowReplace, apply_row, row_fits};
-ghost use Rattle.cookie_jar.specs.Views.{plain_cookie};
+ghost use Rattle.cookie_jar.specs.Plain.{plain_cookie};
 ghost use Rattle.web_cookies.specs.Cells.{cookies_at, jar_at, kind_of};
 ghost use Rattle.web_cookies.specs.Stored.{partitioned_in, shared_in};
 ghost use Rattle.web_cookies.specs.Rows.{HasPlace, IsRowDone};

@@ -3,7 +3,7 @@ ghost use Rattle.std.specs.Prelude.{◌≡◌, ◌++◌, IfOk, OnOk, map, option
 ghost use Rattle.cookie_jar.specs.Key.{plain_key};
 ghost use Rattle.cookie_jar.specs.Lifetime.{is_persistent};
 ghost use Rattle.cookie_jar.specs.Persistent as spec;
-ghost use Rattle.cookie_jar.specs.Views.{plain_cookie};
+ghost use Rattle.cookie_jar.specs.Plain.{plain_cookie};
 ghost use Rattle.row_changes.specs.Plain.{plain_change};
 ghost use Rattle.agent_model.specs.CookieStore.{in_cell};
 

@@ -3,7 +3,7 @@ use Rattle.std.specs.Prelude.{option_map, slice_get}
 use Rattle.std.proofs.lemmas.Map.Entries.{option_filter}
 use Rattle.cookie_jar.specs.Borrowed.{plain_borrowed}
 use Rattle.cookie_jar.specs.Lifetime.{is_expired}
-use Rattle.cookie_jar.specs.Views.{plain_cookie}
+use Rattle.cookie_jar.specs.Plain.{plain_cookie}
 use Rattle.cookie_jar.proofs.NewCookieLemmas.{replaced_at}
 use Rattle.cookie_jar.proofs.new_cookie.replaced_creation.Goals as goal
 

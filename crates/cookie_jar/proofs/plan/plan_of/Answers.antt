@@ -2,7 +2,7 @@ use Rattle.std.proofs.Common.{rules, ◌≡◌, map, w64, to_z, of_z}
 use Rattle.std.specs.Prelude.{option_map, is_some, unwrap_or}
 use Rattle.cookie_jar.specs.Borrowed.{plain_borrowed}
 use Rattle.cookie_jar.specs.NewCookie.{replaced, kind_with}
-use Rattle.cookie_jar.specs.Views.{plain_cookie}
+use Rattle.cookie_jar.specs.Plain.{plain_cookie}
 use Rattle.cookie_jar.proofs.NewCookieLemmas.{plan_is, steps_at}
 use Rattle.cookie_jar.proofs.plan.plan_of.Goals as goal
 

@@ -1,7 +1,7 @@
 use Rattle.std.proofs.Common.{rules, ◌≡◌, ◌∙◌, ap, map, w64, to_z, of_z}
 use Rattle.cookie_jar.specs.Borrowed.{plain_borrowed}
 use Rattle.cookie_jar.specs.Planned as spec
-use Rattle.cookie_jar.specs.Views.{plain_cookie}
+use Rattle.cookie_jar.specs.Plain.{plain_cookie}
 use Rattle.cookie_jar.proofs.plan.plan_unless_memory.Goals as goal
 
 pub returns : goal.returns

@@ -1,11 +1,11 @@
 use Rattle.std.proofs.Common.{rules, ◌≡◌, ◌∙◌, ap, sym, map, inr, w64, to_z, of_z}
 use Rattle.std.specs.Prelude.{Ok, option_copied}
-use Rattle.setcookie_parse.specs.Views.{cookie_view}
+use Rattle.setcookie_parse.specs.Plain.{plain_text}
 use Rattle.cookie_jar.specs.Borrowed.{plain_borrowed}
 use Rattle.cookie_jar.specs.Drops.{first_drop, later_rows}
 use Rattle.cookie_jar.specs.NewCookie.{made_with}
 use Rattle.cookie_jar.specs.Planned as spec
-use Rattle.cookie_jar.specs.Views.{plain_access, plain_cookie}
+use Rattle.cookie_jar.specs.Plain.{plain_access, plain_cookie}
 use Rattle.cookie_jar.proofs.PlanLemmas.{plan_stands, plan_drops, decides}
 use Rattle.cookie_jar.proofs.plan.planned_with.Goals as goal
 
@@ -13,7 +13,7 @@ pub returns-in-Some : goal.returns-in-Some
 returns-in-Some c =
     let rules_of = c.args.list.now.rules in
     let lower = option_copied c.args.lower in
-    let text = cookie_view c.args.text.now in
+    let text = plain_text c.args.text.now in
     let access = plain_access c.args.access.now in
     let cs = map plain_cookie c.args.cookies.now in
     let e : to_z w64 (of_z w64 c.args.now) ≡ c.args.now = search rules in
@@ -24,7 +24,7 @@ pub returns-in-None : goal.returns-in-None
 returns-in-None c =
     let rules_of = c.args.list.now.rules in
     let lower = option_copied c.args.lower in
-    let text = cookie_view c.args.text.now in
+    let text = plain_text c.args.text.now in
     let access = plain_access c.args.access.now in
     let cs = map plain_cookie c.args.cookies.now in
     let e : to_z w64 (of_z w64 c.args.now) ≡ c.args.now = search rules in

@@ -5,7 +5,7 @@ use Rattle.std.proofs.lemmas.Result.{IfOk-weaker}
 use Rattle.cookie_jar.specs.Flags.{flag_put}
 use Rattle.cookie_jar.specs.Performed.{after_removals}
 use Rattle.cookie_jar.specs.Steps.{put_step, removals}
-use Rattle.cookie_jar.specs.Views.{plain_cookie}
+use Rattle.cookie_jar.specs.Plain.{plain_cookie}
 use Rattle.cookie_jar.proofs.PutLemmas.{steps_alone}
 use Rattle.cookie_jar.proofs.RemovalLemmas.{flag_put_is}
 use Rattle.cookie_jar.proofs.removals.live_steps.Goals as goal

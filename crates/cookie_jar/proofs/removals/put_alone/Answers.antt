@@ -3,7 +3,7 @@ use Rattle.std.proofs.Common.{◌∙◌, ap, map, sym, [], ◌∷◌}
 use Rattle.std.proofs.lemmas.Result.{IfOk-weaker}
 use Rattle.cookie_jar.specs.Flags.{flag_put}
 use Rattle.cookie_jar.specs.Lifetime.{is_persistent}
-use Rattle.cookie_jar.specs.Views.{plain_cookie}
+use Rattle.cookie_jar.specs.Plain.{plain_cookie}
 use Rattle.cookie_jar.proofs.RemovalLemmas.{flag_put_is, map_both}
 use Rattle.cookie_jar.proofs.removals.put_alone.Goals as goal
 

@@ -6,7 +6,7 @@ use Rattle.std.proofs.lemmas.Result.{IfOk-weaker}
 use Rattle.cookie_jar.specs.Flags.{flag_removal}
 use Rattle.cookie_jar.specs.Lifetime.{is_persistent}
 use Rattle.cookie_jar.specs.Steps.{remove_step}
-use Rattle.cookie_jar.specs.Views.{plain_cookie}
+use Rattle.cookie_jar.specs.Plain.{plain_cookie}
 use Rattle.cookie_jar.proofs.RemovalLemmas.{flag_removal_is, map_both}
 use Rattle.cookie_jar.proofs.removals.removal_alone.Goals as goal
 

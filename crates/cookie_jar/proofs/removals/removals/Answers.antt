@@ -2,7 +2,7 @@ use Rattle.std.proofs.Common.{arith, ◌∙◌, sym, refl, ap, map, [], ◌∷�
 use Rattle.std.proofs.lemmas.List.{take_all}
 use Rattle.cookie_jar.specs.Lifetime.{is_persistent}
 use Rattle.cookie_jar.specs.Flags.{flag_removal}
-use Rattle.cookie_jar.specs.Views.{plain_cookie}
+use Rattle.cookie_jar.specs.Plain.{plain_cookie}
 use Rattle.cookie_jar.proofs.RemovalLemmas.{plan_step, map_both, left_after, left_is}
 use Rattle.cookie_jar.proofs.removals.removals.Goals as goal
 

@@ -1,7 +1,7 @@
 use Rattle.std.proofs.Common.{◌≡◌, ◌++◌, [], drop, take, map}
 use Rattle.cookie_jar.specs.Steps.{removals}
 use Rattle.cookie_jar.specs.Lifetime.{is_persistent}
-use Rattle.cookie_jar.specs.Views.{plain_cookie}
+use Rattle.cookie_jar.specs.Plain.{plain_cookie}
 use Rattle.cookie_jar.proofs.StepLaws.{gone_after}
 use Rattle.cookie_jar.proofs.RemovalLemmas.{left_after}
 use Rattle.cookie_jar.proofs.removals.removals.Given as goal

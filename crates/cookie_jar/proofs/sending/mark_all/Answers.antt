@@ -2,7 +2,7 @@ use Rattle.std.proofs.Common.{◌∙◌, ap, get_or, map, sym, take, w64, to_z, 
 use Rattle.std.proofs.lemmas.List.{take_more}
 use Rattle.cookie_jar.specs.Marked.{used_at}
 use Rattle.cookie_jar.specs.Sending.{marked}
-use Rattle.cookie_jar.specs.Views.{plain_cookie}
+use Rattle.cookie_jar.specs.Plain.{plain_cookie}
 use Rattle.cookie_jar.proofs.MarkLemmas.{marked_more, none_marked}
 use Rattle.cookie_jar.proofs.sending.mark_all.Goals as goal
 

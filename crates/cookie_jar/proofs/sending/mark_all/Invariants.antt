@@ -1,6 +1,6 @@
 use Rattle.std.proofs.Common.{◌≡◌, map, take}
 use Rattle.cookie_jar.specs.Sending.{marked}
-use Rattle.cookie_jar.specs.Views.{plain_cookie}
+use Rattle.cookie_jar.specs.Plain.{plain_cookie}
 use Rattle.cookie_jar.proofs.sending.mark_all.Given as goal
 
 abbrev pub invariant-loop-place : goal.invariant-loop-place

@@ -1,6 +1,6 @@
 use Rattle.std.proofs.Common.{rules, ◌≡◌, ◌∙◌, ap, map, get_or, w64, to_z, of_z}
 use Rattle.std.specs.Prelude.{slice_set}
-use Rattle.cookie_jar.specs.Views.{plain_cookie}
+use Rattle.cookie_jar.specs.Plain.{plain_cookie}
 use Rattle.cookie_jar.proofs.MarkLemmas.{used_set, used_past}
 use Rattle.cookie_jar.proofs.sending.mark_at.Goals as goal
 

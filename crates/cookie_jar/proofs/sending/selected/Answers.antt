@@ -2,7 +2,7 @@
 use Rattle.std.proofs.Common.{◌≡◌, ℕ, ◌∙◌, ap, rules, sym, of_z, to_z, w64}
 use Rattle.cookie_jar.specs.declared.cookie.Cookie.{Cookie}
 use Rattle.cookie_jar.specs.Sending.{goes_out}
-use Rattle.cookie_jar.specs.Views.{plain_access, plain_cookie}
+use Rattle.cookie_jar.specs.Plain.{plain_access, plain_cookie}
 use Rattle.cookie_jar.proofs.SendingLemmas.{next_goes, next_stays, none_left, places_from}
 use Rattle.cookie_jar.proofs.sending.selected.Goals as goal
 use Rattle.cookie_jar.proofs.sending.selected.Goals.{then-goes_out+in_ok-push, else-goes_out}

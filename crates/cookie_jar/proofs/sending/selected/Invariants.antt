@@ -2,7 +2,7 @@ use Rattle.std.proofs.Common.{◌≡◌, ◌++◌, drop, map}
 use Rattle.std.specs.Prelude.{filter}
 use Rattle.std.specs.List.{enumerate_from}
 use Rattle.cookie_jar.specs.Sending.{goes_out}
-use Rattle.cookie_jar.specs.Views.{plain_access, plain_cookie}
+use Rattle.cookie_jar.specs.Plain.{plain_access, plain_cookie}
 use Rattle.cookie_jar.proofs.sending.selected.Given as goal
 
 -- the places so far, and those of the cookies that are left, are all

@@ -2,7 +2,7 @@ use Rattle.std.proofs.Common.{◌∙◌, ◌≤◌, arith, sym, map, subst}
 use Rattle.std.proofs.lemmas.List.{length-map}
 use Rattle.std.proofs.Math.ListN.{get_or-map}
 use Rattle.cookie_jar.specs.Cookie.{PlainCookie, counted}
-use Rattle.cookie_jar.specs.Views.{plain_cookie}
+use Rattle.cookie_jar.specs.Plain.{plain_cookie}
 use Rattle.cookie_jar.proofs.CellLemmas.{counted_small}
 use Rattle.cookie_jar.proofs.steps.going.Goals as goal
 

@@ -1,7 +1,7 @@
 -- The new cookie counts in the place of the same one, or as one more.
 use Rattle.std.proofs.Common.{◌∙◌, map, sym}
 use Rattle.cookie_jar.specs.Borrowed.{plain_borrowed}
-use Rattle.cookie_jar.specs.Views.{plain_cookie}
+use Rattle.cookie_jar.specs.Plain.{plain_cookie}
 use Rattle.cookie_jar.proofs.PutLemmas.{none_goes, none_goes_there, read_counts, small_tally}
 use Rattle.cookie_jar.proofs.steps.holds_put.Goals as goal
 

@@ -2,7 +2,7 @@ use Rattle.std.proofs.Common.{rules, ◌≡◌, ◌∙◌, false, map}
 use Rattle.cookie_jar.specs.Borrowed.{plain_borrowed}
 use Rattle.cookie_jar.specs.Lifetime.{is_expired}
 use Rattle.cookie_jar.specs.Steps as spec
-use Rattle.cookie_jar.specs.Views.{plain_cookie}
+use Rattle.cookie_jar.specs.Plain.{plain_cookie}
 use Rattle.cookie_jar.proofs.PutLemmas.{steps_are}
 use Rattle.cookie_jar.proofs.steps.steps.Goals as goal
 

@@ -1,6 +1,6 @@
 use Rattle.std.proofs.Common.{◌≡◌, take, map}
 use Rattle.cookie_jar.specs.Steps.{weigh}
-use Rattle.cookie_jar.specs.Views.{plain_cookie}
+use Rattle.cookie_jar.specs.Plain.{plain_cookie}
 use Rattle.cookie_jar.proofs.steps.weigh_all.Given as goal
 
 abbrev pub invariant-loop-cookie : goal.invariant-loop-cookie

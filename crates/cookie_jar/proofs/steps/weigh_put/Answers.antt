@@ -1,7 +1,7 @@
 use Rattle.std.proofs.Common.{rules, ◌≡◌, ◌∙◌, ap, sym, map, length, arith}
 use Rattle.cookie_jar.specs.Steps.{weigh}
 use Rattle.cookie_jar.specs.Borrowed.{plain_borrowed}
-use Rattle.cookie_jar.specs.Views.{plain_cookie}
+use Rattle.cookie_jar.specs.Plain.{plain_cookie}
 use Rattle.cookie_jar.proofs.RemovalLemmas.{rows_there, rows_last, map_both}
 use Rattle.cookie_jar.proofs.steps.weigh_put.Goals as goal
 use Rattle.cookie_jar.proofs.steps.weigh_put.Goals.{then-place-len, else-place-len+in_ok-push}

@@ -1,5 +1,5 @@
 use Rattle.cookie_jar.specs.Key.{plain_key as plain_cell}
-use Rattle.cookie_jar.specs.Views.{plain_cookie}
+use Rattle.cookie_jar.specs.Plain.{plain_cookie}
 use Rattle.std.proofs.lemmas.Result.{on_ok_weaker}
 use Rattle.row_changes.specs.Spelling.{cell_bytes, cookie_bytes}
 use Rattle.row_changes.proofs.WritingLemmas.{placed_joined}

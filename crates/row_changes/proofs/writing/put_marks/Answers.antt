@@ -1,6 +1,6 @@
 use Rattle.std.proofs.Common.{refl, pos}
 use Rattle.std.specs.Prelude.{unwrap_or}
-use Rattle.cookie_jar.specs.Views.{plain_cookie}
+use Rattle.cookie_jar.specs.Plain.{plain_cookie}
 use Rattle.std.proofs.lemmas.Result.{on_ok_weaker}
 use Rattle.row_changes.specs.Fields.{signed_bytes}
 use Rattle.row_changes.specs.Spelling.{flags_byte, same_site_byte}

@@ -3,7 +3,7 @@ use Rattle.std.proofs.Common.{◌≡◌, ℕ, ◌+◌, true, false, cond, List, 
 use Rattle.std.specs.Prelude.{Bool, filter}
 use Rattle.cookie_jar.specs.Key.{plain_key}
 use Rattle.cookie_jar.specs.Cookie.{PlainCookie}
-use Rattle.cookie_jar.specs.Views.{plain_cookie}
+use Rattle.cookie_jar.specs.Plain.{plain_cookie}
 use Rattle.row_store.specs.Listing.{cookie_rows}
 use Rattle.row_store.specs.Pushed.{is_chosen}
 use Rattle.row_store.proofs.PushedLemmas.{found_there, none_found}

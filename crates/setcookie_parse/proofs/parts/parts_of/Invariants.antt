@@ -1,6 +1,6 @@
 use Rattle.std.proofs.Common.{◌≡◌, length}
 use Rattle.setcookie_parse.specs.CookieDate.{cookie_date, tokens_of}
-use Rattle.setcookie_parse.specs.Found.{completed}
+use Rattle.setcookie_parse.specs.DateParts.{completed}
 use Rattle.setcookie_parse.proofs.parts.parts_of.Given as goal
 
 abbrev pub invariant-tokens : goal.invariant-tokens

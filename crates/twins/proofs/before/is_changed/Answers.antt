@@ -2,7 +2,7 @@ use Rattle.std.proofs.Common.{ap, subst, ◌∙◌}
 use Rattle.unwinding.specs.FiniteCells.{get_cell}
 use Rattle.origin_site.specs.Plain.{plain_site}
 use Rattle.agent_model.specs.CookieCells.{domain_order}
-use Rattle.twins.specs.Lines.{IsKept}
+use Rattle.twins.specs.Collecting.{IsCopied}
 use Rattle.twins.proofs.LineLemmas.{changed_else, changed_then}
 use Rattle.twins.proofs.before.is_changed.Goals as goal
 use Rattle.twins.proofs.before.is_changed.Goals.{then-changed, else-changed}
@@ -11,7 +11,7 @@ pub returns : goal.returns
 returns c = record {
   changed = λ b world asks seen up kept.
       let site = plain_site c.args.site.now in
-      let here = subst (IsKept site world asks) c.in-Some.is kept in
+      let here = subst (IsCopied site world asks) c.in-Some.is kept in
       let after = c.in_ok-after.ensures.up b seen up ∙ ap (λ d. get_cell domain_order b.world.cells d) c.as_str.ensures.value in
       elim c.if-changed.branch [
         | then-changed w ↦ changed_then site world b.world c.args.changed asks c.if-changed.result

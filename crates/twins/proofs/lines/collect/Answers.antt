@@ -5,7 +5,7 @@ use Rattle.script_actions.specs.Plain.{step_of}
 use Rattle.script_actions.specs.declared.step.Line.{Line}
 use Rattle.store_runs.specs.Steps.{steps_of}
 use Rattle.store_runs.proofs.LoopLemmas.{steps_fit, steps_more}
-use Rattle.twins.specs.Lines.{Collects, EndsAs, Stands}
+use Rattle.twins.specs.Collecting.{Collects, EndsAs, StandsOnCourse}
 use Rattle.twins.specs.Scripts.{Gives}
 use Rattle.twins.specs.Settings.{setting}
 use Rattle.twins.proofs.lines.collect.Goals as goal
@@ -15,7 +15,7 @@ loop-line-init c =
     let site = plain_site c.args.site.now in
     let at = setting c.args.list.now site c.args.options in (
       0,
-      subst (Stands at c.in_ok-agent.agent []) (sym c.new-found.ensures.nothing) (c.in_ok-agent.ensures.opened site),
+      subst (StandsOnCourse at c.in_ok-agent.agent []) (sym c.new-found.ensures.nothing) (c.in_ok-agent.ensures.opened site),
     )
 
 pub loop-line-preserved : goal.loop-line-preserved

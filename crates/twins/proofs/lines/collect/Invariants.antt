@@ -2,7 +2,7 @@
 use Rattle.std.proofs.Common.{take}
 use Rattle.origin_site.specs.Plain.{plain_site}
 use Rattle.store_runs.specs.Steps.{steps_of}
-use Rattle.twins.specs.Lines.{Collects}
+use Rattle.twins.specs.Collecting.{Collects}
 use Rattle.twins.specs.Settings.{setting}
 use Rattle.twins.proofs.lines.collect.Given as goal
 

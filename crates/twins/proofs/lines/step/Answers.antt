@@ -3,7 +3,7 @@ use Rattle.std.proofs.lemmas.Result.{on_ok_weaker}
 use Rattle.std.specs.Prelude.{OnOk}
 use Rattle.origin_site.specs.Plain.{plain_site}
 use Rattle.script_actions.specs.Plain.{step_of}
-use Rattle.twins.specs.Lines.{Leads}
+use Rattle.twins.specs.Collecting.{Leads}
 use Rattle.twins.proofs.lines.step.Goals as goal
 
 pub returns-in-Act : goal.returns-in-Act

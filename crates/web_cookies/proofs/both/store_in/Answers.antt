@@ -5,11 +5,11 @@ use Rattle.std.proofs.lemmas.Int.{to_z_pos}
 use Rattle.std.proofs.lemmas.Result.{IfOk-weaker, on_ok_weaker}
 use mir.Syntax.{w64}
 use mir.Val.{to_z}
-use Rattle.setcookie_parse.specs.Views.{cookie_view}
+use Rattle.setcookie_parse.specs.Plain.{plain_text}
 use Rattle.cookie_jar.specs.declared.cause.CookieDrop.TheVariants as why
 use Rattle.cookie_jar.specs.Key.{plain_key}
 use Rattle.cookie_jar.specs.Planned.{planned}
-use Rattle.cookie_jar.specs.Views.{plain_access}
+use Rattle.cookie_jar.specs.Plain.{plain_access}
 use Rattle.row_changes.specs.Plain.{plain_change}
 use Rattle.web_cookies.specs.Words.{rows_by}
 use Rattle.web_cookies.proofs.TextLemmas.{both_hold, drop_left, drop_rows, left_by}
@@ -18,7 +18,7 @@ use Rattle.web_cookies.proofs.both.store_in.Goals as goal
 pub returns-in-Ok : goal.returns-in-Ok
 returns-in-Ok c =
     let rules = c.args.list.now.rules in
-    let text = cookie_view c.args.cookie.now in
+    let text = plain_text c.args.cookie.now in
     let access = plain_access c.args.access.now in
     let kind = c.args.jar.now.kind in
     let cookies = c.args.jar.now.cookies in
@@ -38,7 +38,7 @@ returns-in-Ok c =
 pub returns-in-Err : goal.returns-in-Err
 returns-in-Err c =
     let rules = c.args.list.now.rules in
-    let text = cookie_view c.args.cookie.now in
+    let text = plain_text c.args.cookie.now in
     let access = plain_access c.args.access.now in
     let kind = c.args.jar.now.kind in
     let cookies = c.args.jar.now.cookies in

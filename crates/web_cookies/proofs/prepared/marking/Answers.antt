@@ -9,7 +9,7 @@ use Rattle.cookie_jar.specs.Key.{plain_key}
 use Rattle.cookie_jar.specs.Sending.{marked}
 use Rattle.reply_lines.specs.Reply.{Load}
 use Rattle.web_cookies.specs.Cells.{cell_order}
-use Rattle.web_cookies.specs.Found.{IsChange, found}
+use Rattle.web_cookies.specs.CellsOfUse.{IsChange, found}
 use Rattle.web_cookies.proofs.PreparedLemmas.{header_told, marking_prepared, marks_place}
 use Rattle.web_cookies.proofs.prepared.marking.Goals as goal
 

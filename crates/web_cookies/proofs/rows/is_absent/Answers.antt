@@ -1,6 +1,6 @@
 -- No cookie up to each place is the same.
 use Rattle.std.proofs.Common.{add-one, sym, ◌∙◌}
-use Rattle.cookie_jar.specs.Views.{plain_cookie}
+use Rattle.cookie_jar.specs.Plain.{plain_cookie}
 use Rattle.web_cookies.proofs.LimitLemmas.{copies_more, copy_there}
 use Rattle.web_cookies.proofs.rows.is_absent.Goals as goal
 

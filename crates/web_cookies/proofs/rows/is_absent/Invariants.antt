@@ -1,6 +1,6 @@
 use Rattle.std.proofs.Common.{◌≡◌, take}
 use Rattle.cookie_jar.specs.Cookie.{copies}
-use Rattle.cookie_jar.specs.Views.{plain_cookie}
+use Rattle.cookie_jar.specs.Plain.{plain_cookie}
 use Rattle.web_cookies.proofs.rows.is_absent.Given as goal
 
 abbrev pub invariant-loop-place : goal.invariant-loop-place

@@ -1,7 +1,7 @@
 -- The cookie at the place is the same one, and another stands there within the limits.
 use Rattle.std.proofs.Common.{◌+◌, ◌-◌, arith, sym, ◌∙◌}
 use Rattle.partition_limits.specs.Limits.{fits}
-use Rattle.cookie_jar.specs.Views.{plain_cookie}
+use Rattle.cookie_jar.specs.Plain.{plain_cookie}
 use Rattle.web_cookies.proofs.LimitLemmas.{counted_there, replace_other, replace_valid}
 use Rattle.web_cookies.proofs.rows.may_replace.Goals as goal
 

@@ -2,7 +2,7 @@
 use Rattle.std.proofs.Common.{◌≡◌, ◌++◌, map, take}
 use Rattle.cookie_jar.specs.Key.{plain_key}
 use Rattle.cookie_jar.specs.Persistent.{rows_of_steps}
-use Rattle.cookie_jar.specs.Views.{plain_cookie}
+use Rattle.cookie_jar.specs.Plain.{plain_cookie}
 use Rattle.row_changes.specs.Plain.{plain_change}
 use Rattle.agent_model.specs.CookieStore.{in_cell}
 use Rattle.web_cookies.proofs.stored_rows.push_steps.Given as goal

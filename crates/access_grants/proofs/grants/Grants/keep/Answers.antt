@@ -2,10 +2,10 @@
 use Rattle.std.proofs.Common.{◌≡◌, ◌-◌, cond, map, length, ap, sym, ◌∙◌, ◌∷◌, [], Some, None, ⊎_elim, false, arith}
 use Rattle.std.specs.List.{position}
 use Rattle.std.proofs.lemmas.List.{map-set, map-append, length-set, length-append}
-use Rattle.access_grants.specs.Grant.{has_row, is_of, kept, spare_after}
+use Rattle.access_grants.specs.Grant.{has_row, is_of, with_row, spare_after}
 use Rattle.access_grants.specs.Plain.{plain_grant}
 use Rattle.access_grants.proofs.GrantLemmas.{has_row-None, has_row-Some, kept-None, kept-Some, kept_distinct}
-use Rattle.access_grants.specs.Part.{grants_under}
+use Rattle.access_grants.specs.UnderSite.{grants_under}
 use Rattle.access_grants.proofs.PartLemmas.{kept_at}
 use Rattle.access_grants.proofs.RowsLemmas.{position_seen}
 use Rattle.access_grants.proofs.grants.Grants.keep.Goals as goal
@@ -27,7 +27,7 @@ returns-in-Some-clause-rows c =
     let at = sym (found ∙ position_seen plain_grant (is_of row.top row.site) items) in
     map-set plain_grant items c.in-Some.place c.args.row
     ∙ kept-Some row (map plain_grant items) c.in-Some.place c.self.invariant at
-    ∙ ap (λ v. kept row v.rows) c.self.view_is
+    ∙ ap (λ v. with_row row v.rows) c.self.view_is
 
 pub invariant_of-self-in-None : goal.invariant_of-self-in-None
 invariant_of-self-in-None c =
@@ -47,7 +47,7 @@ returns-in-None-clause-rows c =
     ap (map plain_grant) c.push_reserved.ensures.items
     ∙ map-append plain_grant items (c.args.row ∷ [])
     ∙ kept-None row (map plain_grant items) at
-    ∙ ap (λ v. kept row v.rows) c.self.view_is
+    ∙ ap (λ v. with_row row v.rows) c.self.view_is
 
 pub push_reserved-requires : goal.push_reserved-requires
 push_reserved-requires c =

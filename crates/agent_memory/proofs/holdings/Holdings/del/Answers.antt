@@ -9,7 +9,7 @@ use Rattle.live_state.specs.Queues.{are_distinct, is_ready}
 use Rattle.frame_tree.specs.Document.{PlainDocument}
 use Rattle.row_changes.specs.Appended.{IsAppended}
 use Rattle.agent_model.specs.Documents.{Keyed}
-use Rattle.agent_model.specs.Done.{Done}
+use Rattle.agent_model.specs.Effects.{Done}
 use Rattle.agent_memory.specs.FrameTrees.{AreTrees}
 use Rattle.agent_memory.specs.HoldingsView.{cells_of, held_of}
 use Rattle.agent_memory.proofs.TreeLemmas.{trees_after_send}

@@ -8,7 +8,7 @@ use Rattle.reply_lines.specs.Plain.{body_of}
 use Rattle.script_actions.specs.Plain.{head_field_of}
 use Rattle.agent_model.specs.CookieUses.{fetch_use, request_use}
 use Rattle.agent_model.specs.Cookies.{fetch, request}
-use Rattle.agent_model.specs.Done.{Effect}
+use Rattle.agent_model.specs.Effects.{Effect}
 use Rattle.agent_model.specs.Documents.{by_document}
 use Rattle.origin_site.specs.Site.{PlainSite}
 use Rattle.row_changes.specs.Appended.{IsAppended}

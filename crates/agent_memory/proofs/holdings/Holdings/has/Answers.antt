@@ -6,7 +6,7 @@ use Rattle.live_state.specs.Tabs.{tab_at}
 use Rattle.access_grants.specs.Request.{has_access}
 use Rattle.reply_lines.specs.Plain.{body_of}
 use Rattle.reply_lines.specs.Reply.{Truth}
-use Rattle.agent_model.specs.Done.{answers}
+use Rattle.agent_model.specs.Effects.{answers}
 use Rattle.agent_model.specs.StorageAccess.{access_facts}
 use Rattle.agent_memory.proofs.AccessLemmas.{found_done}
 use Rattle.agent_memory.proofs.DoneLemmas.{stays_done}

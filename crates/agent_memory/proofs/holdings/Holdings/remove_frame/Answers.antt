@@ -1,6 +1,6 @@
 -- The frames of the tab are changed in their place.
 use Rattle.std.proofs.Common.{None, refl, ap, ◌∙◌}
-use Rattle.agent_model.specs.Done.{ok}
+use Rattle.agent_model.specs.Effects.{ok}
 use Rattle.agent_model.specs.Frames.{frames_removed}
 use Rattle.agent_memory.proofs.ShownLemmas.{shown}
 use Rattle.agent_memory.proofs.FrameLemmas.{tree_removed}

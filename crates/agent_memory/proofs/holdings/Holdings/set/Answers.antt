@@ -7,7 +7,7 @@ use Rattle.storage_key.specs.Plain.{plain_key}
 use Rattle.storage_events.specs.Event.{PlainEvent}
 use Rattle.agent_model.specs.AreaActions.{set_item}
 use Rattle.agent_model.specs.Documents.{Keyed}
-use Rattle.agent_model.specs.Done.{Done}
+use Rattle.agent_model.specs.Effects.{Done}
 use Rattle.agent_memory.specs.HoldingsView.{cells_of, held_of}
 use Rattle.row_changes.specs.Appended.{Appends}
 use Rattle.agent_memory.specs.Actions.{Acts, put_sent}

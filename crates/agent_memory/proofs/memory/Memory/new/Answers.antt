@@ -1,5 +1,5 @@
 use Rattle.std.proofs.Common.{ap, ◌∙◌}
-use Rattle.agent_model.specs.Done.{no_shared_cells}
+use Rattle.agent_model.specs.Effects.{no_shared_cells}
 use Rattle.agent_model.specs.Partition.{no_holdings}
 use Rattle.agent_model.specs.Lines.{no_places}
 use Rattle.one_store.proofs.WorldBeginningLemmas.{beginning_placed, beginning_whole}

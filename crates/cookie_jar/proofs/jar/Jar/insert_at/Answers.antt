@@ -1,7 +1,7 @@
 use Rattle.std.proofs.Common.{◌≡◌, ◌∙◌, ap, arith, map, length}
 use Rattle.std.specs.List.{insert}
 use Rattle.cookie_jar.specs.Cookie.{PlainJar, copies, keeps_limits}
-use Rattle.cookie_jar.specs.Views.{plain_cookie}
+use Rattle.cookie_jar.specs.Plain.{plain_cookie}
 use Rattle.cookie_jar.proofs.CellLemmas.{map-insert, inserted_cell, ok_then}
 use Rattle.cookie_jar.proofs.jar.Jar.insert_at.Goals as goal
 use Rattle.cookie_jar.proofs.jar.Jar.insert_at.Goals.{Joined-insert}

@@ -1,8 +1,8 @@
 use Rattle.std.proofs.Common.{rules, ◌≡◌, ◌∙◌, ap, length, map, sym, subst, w64, to_z, of_z}
 use Rattle.cookie_jar.specs.Cookie.{PlainJar, IsCell}
-use Rattle.cookie_jar.specs.Persistent.{kept}
+use Rattle.cookie_jar.specs.Persistent.{persistent_part}
 use Rattle.cookie_jar.specs.Sending.{marked}
-use Rattle.cookie_jar.specs.Views.{plain_cookie}
+use Rattle.cookie_jar.specs.Plain.{plain_cookie}
 use Rattle.cookie_jar.proofs.MarkLemmas.{kept_marked, mark_leaves, marked_cell}
 use Rattle.cookie_jar.proofs.jar.Jar.mark.Goals as goal
 
@@ -15,7 +15,7 @@ returns-clause-cookies c =
     ∙ ap (λ (j : PlainJar). marked c.args.places.now c.args.now j.cookies) c.self.view_is
 
 pub returns-clause-persistent : goal.returns-clause-persistent
-returns-clause-persistent c = ap kept (returns-clause-cookies c) ∙ kept_marked c.args.places.now c.args.now c.args.self.now.cookies
+returns-clause-persistent c = ap persistent_part (returns-clause-cookies c) ∙ kept_marked c.args.places.now c.args.now c.args.self.now.cookies
 
 pub invariant_of-self : goal.invariant_of-self
 invariant_of-self c =

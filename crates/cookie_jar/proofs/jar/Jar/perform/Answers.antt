@@ -1,8 +1,8 @@
 use Rattle.std.proofs.Common.{◌≡◌, ◌∙◌, ap, sym, subst}
-use Rattle.cookie_jar.specs.Persistent.{kept}
+use Rattle.cookie_jar.specs.Persistent.{persistent_part}
 use Rattle.cookie_jar.specs.Planned.{PlainPlan}
 use Rattle.cookie_jar.specs.Steps.{after_steps}
-use Rattle.cookie_jar.specs.Views.{plain_cookie}
+use Rattle.cookie_jar.specs.Plain.{plain_cookie}
 use Rattle.cookie_jar.proofs.PerformLemmas.{IsDone, performs, performs_rows, put_may, put_leaves}
 use Rattle.cookie_jar.proofs.jar.Jar.perform.Goals as goal
 use Rattle.cookie_jar.proofs.jar.Jar.perform.Goals.{After-put_last}
@@ -25,4 +25,4 @@ pub returns-clause-steps : goal.returns-clause-steps
 returns-clause-steps c = performed c
 
 pub returns-clause-persistent : goal.returns-clause-persistent
-returns-clause-persistent c = ap kept (performed c) ∙ performs_rows c.args.self.now c.args.plan c.requires.fit
+returns-clause-persistent c = ap persistent_part (performed c) ∙ performs_rows c.args.self.now c.args.plan c.requires.fit

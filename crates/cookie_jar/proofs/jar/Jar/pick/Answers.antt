@@ -2,7 +2,7 @@ use Rattle.std.proofs.Common.{rules, ◌≡◌, ◌∙◌, ap, map}
 use Rattle.std.specs.List.{filter, enumerate_from}
 use Rattle.cookie_jar.specs.Cookie.{PlainJar}
 use Rattle.cookie_jar.specs.Sending as spec
-use Rattle.cookie_jar.specs.Views.{plain_access, plain_cookie}
+use Rattle.cookie_jar.specs.Plain.{plain_access, plain_cookie}
 use Rattle.cookie_jar.proofs.SendingLemmas.{places_plain}
 use Rattle.cookie_jar.proofs.jar.Jar.pick.Goals as goal
 

@@ -2,7 +2,7 @@ use Rattle.std.proofs.Common.{◌≤◌, ◌<◌, ◌∙◌, ap, sym, arith, map
 use Rattle.std.specs.List.{remove}
 use Rattle.std.proofs.lemmas.List.Sums.{get_or-le-sum_by}
 use Rattle.cookie_jar.specs.Cookie.{counted, PlainJar}
-use Rattle.cookie_jar.specs.Views.{plain_cookie}
+use Rattle.cookie_jar.specs.Plain.{plain_cookie}
 use Rattle.cookie_jar.proofs.CellLemmas.{map-remove, removed_cell, read_at, counted_small}
 use Rattle.cookie_jar.proofs.jar.Jar.remove_at.Goals as goal
 

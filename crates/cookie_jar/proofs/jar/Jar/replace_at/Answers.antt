@@ -2,7 +2,7 @@ use Rattle.std.proofs.Common.{◌≡◌, ◌<◌, ◌∙◌, ap, map, length, ge
 use Rattle.std.specs.Prelude.{slice_set}
 use Rattle.std.proofs.lemmas.List.{map-set, get_or_default}
 use Rattle.cookie_jar.specs.Cookie.{PlainJar, counted, keeps_limits, same}
-use Rattle.cookie_jar.specs.Views.{plain_cookie}
+use Rattle.cookie_jar.specs.Plain.{plain_cookie}
 use Rattle.cookie_jar.proofs.CellLemmas.{read_at, replaced_cell}
 use Rattle.cookie_jar.proofs.jar.Jar.replace_at.Goals as goal
 

@@ -2,12 +2,12 @@ use Rattle.std.proofs.Common.{arith, rules, ◌≡◌, ◌≤◌, ◌∙◌, ap,
 use Rattle.std.specs.Prelude.{Ok, Err, IsOk}
 use Rattle.std.proofs.lemmas.Result.{err_from_is_err_and}
 use Rattle.agent_base.specs.Answers.{Answers}
-use Rattle.setcookie_parse.specs.Views.{cookie_view}
+use Rattle.setcookie_parse.specs.Plain.{plain_text}
 use Rattle.cookie_jar.specs.declared.cause.CookieDrop.TheVariants as why
 use Rattle.cookie_jar.specs.Cookie.{PlainJar, copies, keeps_limits}
 use Rattle.cookie_jar.specs.Planned as spec
 use Rattle.cookie_jar.specs.Stored.{plain_stored}
-use Rattle.cookie_jar.specs.Views.{plain_access}
+use Rattle.cookie_jar.specs.Plain.{plain_access}
 use Rattle.cookie_jar.proofs.StoreLemmas.{done_over, drop_answers, fit_over, leaves_held, leaves_rows, leaves_steps, leaves_stored, one_cause, planned_stands}
 use Rattle.cookie_jar.proofs.jar.Jar.store.Goals as goal
 
@@ -21,7 +21,7 @@ perform-requires-clause-room c = omega (arith, c.in_ok-reserve.ensures.room)
 pub returns-in_err-plan-clause-answer : goal.returns-in_err-plan-clause-answer
 returns-in_err-plan-clause-answer c =
     let list = c.args.list.now.rules in
-    let text = cookie_view c.args.text.now in
+    let text = plain_text c.args.text.now in
     let access = plain_access c.args.access.now in
     let jar = c.args.self.now in
     let e : to_z w64 (of_z w64 c.args.now) ≡ c.args.now = search rules in
@@ -32,7 +32,7 @@ returns-in_err-plan-clause-answer c =
 pub returns-in_err-plan-clause-memory : goal.returns-in_err-plan-clause-memory
 returns-in_err-plan-clause-memory c is =
     let list = c.args.list.now.rules in
-    let text = cookie_view c.args.text.now in
+    let text = plain_text c.args.text.now in
     let access = plain_access c.args.access.now in
     let jar = c.args.self.now in
     let e : to_z w64 (of_z w64 c.args.now) ≡ c.args.now = search rules in
@@ -46,7 +46,7 @@ returns-in_err-plan-clause-distinct c x = subst (λ (j : PlainJar). copies x j.c
 pub returns-in_err-reserve-clause-memory : goal.returns-in_err-reserve-clause-memory
 returns-in_err-reserve-clause-memory c is =
     let e : to_z w64 (of_z w64 c.args.now) ≡ c.args.now = search rules in
-    inr (planned_stands c.args.list.now.rules (cookie_view c.args.text.now) (plain_access c.args.access.now) c.args.self.now _ c.args.now c.in_ok-plan.plan e c.in_ok-plan.ensures.answer)
+    inr (planned_stands c.args.list.now.rules (plain_text c.args.text.now) (plain_access c.args.access.now) c.args.self.now _ c.args.now c.in_ok-plan.plan e c.in_ok-plan.ensures.answer)
 
 pub returns-in_err-reserve-clause-distinct : goal.returns-in_err-reserve-clause-distinct
 returns-in_err-reserve-clause-distinct c x =
@@ -55,7 +55,7 @@ returns-in_err-reserve-clause-distinct c x =
 pub returns-clause-answer : goal.returns-clause-answer
 returns-clause-answer c =
     let list = c.args.list.now.rules in
-    let text = cookie_view c.args.text.now in
+    let text = plain_text c.args.text.now in
     let access = plain_access c.args.access.now in
     let jar = c.args.self.now in
     let e : to_z w64 (of_z w64 c.args.now) ≡ c.args.now = search rules in
@@ -64,26 +64,26 @@ returns-clause-answer c =
 pub returns-clause-memory : goal.returns-clause-memory
 returns-clause-memory c is =
     let e : to_z w64 (of_z w64 c.args.now) ≡ c.args.now = search rules in
-    inr (planned_stands c.args.list.now.rules (cookie_view c.args.text.now) (plain_access c.args.access.now) c.args.self.now _ c.args.now c.in_ok-plan.plan e c.in_ok-plan.ensures.answer)
+    inr (planned_stands c.args.list.now.rules (plain_text c.args.text.now) (plain_access c.args.access.now) c.args.self.now _ c.args.now c.in_ok-plan.plan e c.in_ok-plan.ensures.answer)
 
 pub returns-clause-stored : goal.returns-clause-stored
 returns-clause-stored c =
     let e : to_z w64 (of_z w64 c.args.now) ≡ c.args.now = search rules in
     let done = done_over c.in_ok-plan.plan c.reserve.new.self.cookies c.args.self.now.cookies c.perform.new.self.cookies c.in_ok-reserve.ensures.cookies c.perform.ensures.steps in
-    leaves_stored c.args.list.now.rules (cookie_view c.args.text.now) (plain_access c.args.access.now) c.args.self.now _ c.args.now c.in_ok-plan.plan c.perform.new.self.cookies e
+    leaves_stored c.args.list.now.rules (plain_text c.args.text.now) (plain_access c.args.access.now) c.args.self.now _ c.args.now c.in_ok-plan.plan c.perform.new.self.cookies e
     c.in_ok-plan.ensures.answer done
 
 pub returns-clause-steps : goal.returns-clause-steps
 returns-clause-steps c =
     let e : to_z w64 (of_z w64 c.args.now) ≡ c.args.now = search rules in
     let done = done_over c.in_ok-plan.plan c.reserve.new.self.cookies c.args.self.now.cookies c.perform.new.self.cookies c.in_ok-reserve.ensures.cookies c.perform.ensures.steps in
-    leaves_steps c.args.list.now.rules (cookie_view c.args.text.now) (plain_access c.args.access.now) c.args.self.now _ c.args.now c.in_ok-plan.plan (plain_stored c.perform.result) c.perform.new.self.cookies e
+    leaves_steps c.args.list.now.rules (plain_text c.args.text.now) (plain_access c.args.access.now) c.args.self.now _ c.args.now c.in_ok-plan.plan (plain_stored c.perform.result) c.perform.new.self.cookies e
     c.in_ok-plan.ensures.answer c.perform.ensures.answer done
 
 pub returns-clause-persistent : goal.returns-clause-persistent
 returns-clause-persistent c =
     let e : to_z w64 (of_z w64 c.args.now) ≡ c.args.now = search rules in
-    leaves_rows c.args.list.now.rules (cookie_view c.args.text.now) (plain_access c.args.access.now) c.args.self.now c.reserve.new.self _ c.args.now c.in_ok-plan.plan (plain_stored c.perform.result) c.perform.new.self.cookies e
+    leaves_rows c.args.list.now.rules (plain_text c.args.text.now) (plain_access c.args.access.now) c.args.self.now c.reserve.new.self _ c.args.now c.in_ok-plan.plan (plain_stored c.perform.result) c.perform.new.self.cookies e
     c.in_ok-plan.ensures.answer c.perform.ensures.answer c.in_ok-reserve.ensures.kind c.in_ok-reserve.ensures.cookies c.perform.ensures.persistent
 
 pub returns-clause-within : goal.returns-clause-within

@@ -2,7 +2,7 @@
 use Rattle.std.proofs.Common.{rules, ◌≡◌, List, [], ◌∷◌, ◌++◌, map, sym, ap, subst, ◌∙◌}
 use Rattle.std.proofs.lemmas.List.{map-append}
 use Rattle.origin_site.specs.Plain.{plain_site}
-use Rattle.frame_tree.specs.Kept.{IsKept, kept_frame}
+use Rattle.frame_tree.specs.Kept.{KeepsChain, kept_frame}
 use Rattle.frame_tree.specs.Plain.{plain_frame}
 use Rattle.frame_tree.specs.Tree.{PlainFrame, has_frame, top_site}
 use Rattle.frame_tree.specs.declared.frames.Frame.{Frame}
@@ -18,7 +18,7 @@ invariant_of-self-2 c =
     sound-added (plain_site c.self.inside.top) fresh items c.push.new.self.items more
     (ap (has_frame fresh.frame) c.self.view_is ∙ c.in_ok-fresh.ensures.fresh)
     (ap (has_frame fresh.parent) c.self.view_is ∙ c.in_ok-fresh.ensures.parent)
-    (subst (λ (fs : List PlainFrame). IsKept (fs ++ plain_frame fresh ∷ []) (kept_frame fresh)) (sym c.self.view_is) c.in_ok-fresh.ensures.kept)
+    (subst (λ (fs : List PlainFrame). KeepsChain (fs ++ plain_frame fresh ∷ []) (kept_frame fresh)) (sym c.self.view_is) c.in_ok-fresh.ensures.kept)
     c.self.invariant
 
 pub returns-clause-site : goal.returns-clause-site
@@ -38,5 +38,5 @@ returns-clause-tree c =
     (sound-added (plain_site c.self.inside.top) fresh items c.push.new.self.items more
     (ap (has_frame fresh.frame) c.self.view_is ∙ c.in_ok-fresh.ensures.fresh)
     (ap (has_frame fresh.parent) c.self.view_is ∙ c.in_ok-fresh.ensures.parent)
-    (subst (λ (fs : List PlainFrame). IsKept (fs ++ plain_frame fresh ∷ []) (kept_frame fresh)) (sym c.self.view_is) c.in_ok-fresh.ensures.kept)
+    (subst (λ (fs : List PlainFrame). KeepsChain (fs ++ plain_frame fresh ∷ []) (kept_frame fresh)) (sym c.self.view_is) c.in_ok-fresh.ensures.kept)
     c.self.invariant).tree

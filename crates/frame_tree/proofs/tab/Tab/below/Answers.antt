@@ -2,7 +2,7 @@
 use Rattle.std.proofs.Common.{◌≡◌, List, map, refl, ap, subst, sym, ◌∙◌, ◌++◌, ◌∷◌, []}
 use Rattle.std.specs.Prelude.{◌==◌, Some, find}
 use Rattle.origin_site.specs.Plain.{plain_site}
-use Rattle.frame_tree.specs.Kept.{IsKept, KeptDocument, kept_document, kept_frame}
+use Rattle.frame_tree.specs.Kept.{KeepsChain, KeptDocument, kept_document, kept_frame}
 use Rattle.frame_tree.specs.Plain.{plain_document, plain_frame}
 use Rattle.frame_tree.specs.Tree.{PlainFrame, has_frame}
 use Rattle.frame_tree.specs.declared.frames.Frame.{Frame}
@@ -25,7 +25,7 @@ returns-clause-kept c =
     let site = plain_site c.self.inside.top in
     let above = c.in-Some.above.now.loaded.bit in
     let own = under-own site above (kept_document made) (plain_document c.in_ok-document.document) c.in_ok-below.ensures.made in
-    subst (λ (fs : List PlainFrame). IsKept (fs ++ plain_frame fresh ∷ []) (kept_frame fresh)) c.self.view_is
+    subst (λ (fs : List PlainFrame). KeepsChain (fs ++ plain_frame fresh ∷ []) (kept_frame fresh)) c.self.view_is
     (kept-below site above (plain_frame fresh) (kept_frame fresh) (map plain_frame items) c.self.invariant.tree c.self.invariant.top
     (there-found c.args.parent items c.in-Some.above.now found) (bit-found c.args.parent items c.in-Some.above.now found c.self.invariant.keys)
     refl (ap (λ (d : KeptDocument). d.bit) own) (ap (λ (d : KeptDocument). d.key) own))

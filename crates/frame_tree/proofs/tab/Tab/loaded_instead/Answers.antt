@@ -4,7 +4,7 @@ use Rattle.std.specs.Prelude.{◌==◌, Ok, Some, true, find, option_map, unwrap
 use Rattle.origin_site.specs.Plain.{plain_address, plain_site}
 use Rattle.frame_tree.specs.Calls.{navigated_from, with_document, without_below}
 use Rattle.frame_tree.specs.Document.{PlainDocument}
-use Rattle.frame_tree.specs.Kept.{IsKeptAt, KeptDocument, kept_document}
+use Rattle.frame_tree.specs.Kept.{KeepsChainAt, KeptDocument, kept_document}
 use Rattle.frame_tree.specs.Plain.{plain_document, plain_frame}
 use Rattle.frame_tree.specs.Tree.{PlainFrame, document_of, has_frame}
 use Rattle.frame_tree.specs.declared.frames.Frame.{Frame}
@@ -36,7 +36,7 @@ returns-clause-kept c =
     let before : Frame = c.in-Some.before.now in
     let site = plain_site c.self.inside.top in
     let above = c.bit_of-above.result in
-    subst (λ (fs : List PlainFrame). IsKeptAt c.args.frame fs (kept_document made)) c.self.view_is
+    subst (λ (fs : List PlainFrame). KeepsChainAt c.args.frame fs (kept_document made)) c.self.view_is
     (kept-instead site c.args.frame items before above (kept_document made) c.requires
     (found-in c.args.frame items c.as_slice.result.now (Some before) c.in-Some.ensures.found c.as_slice.ensures.value)
     c.self.invariant.tree c.self.invariant.top c.self.invariant.keys

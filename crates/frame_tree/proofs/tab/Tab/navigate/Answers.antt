@@ -3,7 +3,7 @@ use Rattle.std.proofs.Common.{◌≡◌, ℕ, true, not, List, map, get_or, fals
 use Rattle.std.specs.Prelude.{◌||◌, ◌==◌, Bool, Ok}
 use Rattle.origin_site.specs.Plain.{plain_site}
 use Rattle.frame_tree.specs.Calls.{with_document, without_below}
-use Rattle.frame_tree.specs.Kept.{IsKeptAt, KeptDocument, kept_document}
+use Rattle.frame_tree.specs.Kept.{KeepsChainAt, KeptDocument, kept_document}
 use Rattle.frame_tree.specs.Plain.{plain_frame}
 use Rattle.frame_tree.specs.Tree.{PlainFrame, has_frame, is_on_chain, top_site}
 use Rattle.frame_tree.specs.declared.frames.Frame.{Frame}
@@ -39,12 +39,12 @@ invariant_of-self c =
     let so : (n : ℕ) → stays c.frames_below-below.result n ≡ (n == c.args.frame || not (is_on_chain c.args.frame n fs)) =
     λ n. c.frames_below-below.ensures.set n
     ∙ ap (λ (xs : List Frame). n == c.args.frame || not (is_on_chain c.args.frame n (map plain_frame xs))) c.as_slice.ensures.value in
-    let own : IsKeptAt c.args.frame fs made = subst (λ (l : List PlainFrame). IsKeptAt c.args.frame l made) (sym c.self.view_is) c.in_ok-made.ensures.kept in
+    let own : KeepsChainAt c.args.frame fs made = subst (λ (l : List PlainFrame). KeepsChainAt c.args.frame l made) (sym c.self.view_is) c.in_ok-made.ensures.kept in
     let left : map plain_frame mid ≡ without_below c.args.frame fs =
     plain-left true c.args.frame c.requires (stays c.frames_below-below.result) items mid so c.drop_frames.ensures.dropped in
     sound-put c.args.frame c.requires made mid c.put_document.new.frames.items c.put_document.ensures.put (plain_site c.self.inside.top)
     (clear-left true c.args.frame c.requires (stays c.frames_below-below.result) items mid so c.drop_frames.ensures.dropped c.self.invariant.tree)
-    (subst (λ (l : List PlainFrame). IsKeptAt c.args.frame l made) (sym left) (kept-at-left c.args.frame made fs c.self.invariant.tree own))
+    (subst (λ (l : List PlainFrame). KeepsChainAt c.args.frame l made) (sym left) (kept-at-left c.args.frame made fs c.self.invariant.tree own))
     (sound-left true c.args.frame c.requires (stays c.frames_below-below.result) items mid so c.drop_frames.ensures.dropped
     (plain_site c.self.inside.top) c.self.invariant)
 
@@ -67,7 +67,7 @@ returns c =
     c.in_ok-made.ensures.answer
     ∙ ap Ok (ap (λ (l : List PlainFrame). with_document c.args.frame (λ _. made.plain) (without_below c.args.frame l)) (sym c.self.view_is)
     ∙ sym (put ∙ ap (with_document c.args.frame (λ _. made.plain)) left)) in
-    let own : IsKeptAt c.args.frame fs made = subst (λ (l : List PlainFrame). IsKeptAt c.args.frame l made) (sym c.self.view_is) c.in_ok-made.ensures.kept in
+    let own : KeepsChainAt c.args.frame fs made = subst (λ (l : List PlainFrame). KeepsChainAt c.args.frame l made) (sym c.self.view_is) c.in_ok-made.ensures.kept in
     record {
       answer = answer;
       decided = λ why is. absurd (cc (sym c.in_ok-made.ensures.answer ∙ is));
@@ -77,7 +77,7 @@ returns c =
           ∙ ap top_site c.self.view_is;
       tree = (sound-put c.args.frame c.requires made mid c.put_document.new.frames.items c.put_document.ensures.put (plain_site c.self.inside.top)
           (clear-left true c.args.frame c.requires (stays c.frames_below-below.result) items mid so c.drop_frames.ensures.dropped c.self.invariant.tree)
-          (subst (λ (l : List PlainFrame). IsKeptAt c.args.frame l made) (sym left) (kept-at-left c.args.frame made fs c.self.invariant.tree own))
+          (subst (λ (l : List PlainFrame). KeepsChainAt c.args.frame l made) (sym left) (kept-at-left c.args.frame made fs c.self.invariant.tree own))
           (sound-left true c.args.frame c.requires (stays c.frames_below-below.result) items mid so c.drop_frames.ensures.dropped
           (plain_site c.self.inside.top) c.self.invariant)).tree;
       unchanged = tt;

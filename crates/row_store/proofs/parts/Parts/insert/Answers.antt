@@ -1,7 +1,7 @@
 -- The cookie outlives a restart, and is put where that is valid.
 use Rattle.std.proofs.Common.{sym, ◌∙◌}
 use Rattle.cookie_jar.specs.Key.{plain_key as plain_cell}
-use Rattle.cookie_jar.specs.Views.{plain_cookie}
+use Rattle.cookie_jar.specs.Plain.{plain_cookie}
 use Rattle.row_store.proofs.EditLemmas.{cookies_stay, inserted_ok}
 use Rattle.row_store.proofs.parts.Parts.insert.Goals as goal
 

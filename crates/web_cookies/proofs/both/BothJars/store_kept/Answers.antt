@@ -7,11 +7,11 @@ use mir.Val.{to_z}
 use Rattle.std.proofs.lemmas.Result.{IfOk-weaker, on_ok_weaker}
 use Rattle.agent_base.specs.Answers.{Answers}
 use Rattle.agent_base.proofs.Logic.{on_ok}
-use Rattle.setcookie_parse.specs.Views.{cookie_view}
+use Rattle.setcookie_parse.specs.Plain.{plain_text}
 use Rattle.cookie_jar.specs.declared.cause.CookieDrop.TheVariants as why
 use Rattle.cookie_jar.specs.Key.{plain_key}
 use Rattle.cookie_jar.specs.Planned.{planned}
-use Rattle.cookie_jar.specs.Views.{plain_access}
+use Rattle.cookie_jar.specs.Plain.{plain_access}
 use Rattle.row_changes.specs.Plain.{plain_change}
 use Rattle.agent_model.specs.CookieStore.{BothCells}
 use Rattle.agent_model.specs.CookieUse.{own_cell}
@@ -22,7 +22,7 @@ use Rattle.web_cookies.proofs.both.BothJars.store_kept.Goals as goal
 pub own_cell-cell-requires : goal.own_cell-cell-requires
 own_cell-cell-requires c = record {
   own = subst IsSome (sym (c.requires.keys.own ∙ own_key_used c.args.list.now.rules (plain_use c.args.how.now)
-      (own_used (cookie_view c.args.cookie.now) (plain_use c.args.how.now) (plain_access c.access_of-access.result) c.access_of-access.ensures.value c.in-Own.ensures.value))) refl;
+      (own_used (plain_text c.args.cookie.now) (plain_use c.args.how.now) (plain_access c.access_of-access.result) c.access_of-access.ensures.value c.in-Own.ensures.value))) refl;
 }
 
 pub returns-in-Own : goal.returns-in-Own
@@ -30,7 +30,7 @@ returns-in-Own c =
     let both : BothCells = record { own = c.self.inside.own.cookies; partition = c.self.inside.partition.cookies } in
     let rules = c.args.list.now.rules in
     let how = plain_use c.args.how.now in
-    let text = cookie_view c.args.cookie.now in
+    let text = plain_text c.args.cookie.now in
     let access = plain_access c.access_of-access.result in
     let cell : plain_key c.own_cell-cell.result.now ≡ own_cell rules how =
     let is = c.own_cell-cell.ensures.cell ∙ c.requires.keys.own ∙ own_key_used rules how (own_used text how access c.access_of-access.ensures.value c.in-Own.ensures.value) in cc in
@@ -51,7 +51,7 @@ returns-in-Partition c =
     let both : BothCells = record { own = c.self.inside.own.cookies; partition = c.self.inside.partition.cookies } in
     let rules = c.args.list.now.rules in
     let how = plain_use c.args.how.now in
-    let text = cookie_view c.args.cookie.now in
+    let text = plain_text c.args.cookie.now in
     let access = plain_access c.access_of-access.result in
     rw (← c.self.view_is) (record {
       stored = IfOk-weaker c.store_in-in-Partition.result _ _
@@ -69,7 +69,7 @@ pub returns-in-Nowhere : goal.returns-in-Nowhere
 returns-in-Nowhere c =
     let rules = c.args.list.now.rules in
     let how = plain_use c.args.how.now in
-    let text = cookie_view c.args.cookie.now in
+    let text = plain_text c.args.cookie.now in
     let access = plain_access c.access_of-access.result in
     let jar = c.new-none.result in
     let moment : to_z w64 c.args.now ≡ pos c.args.now = to_z_pos w64 c.args.now (omega (arith, c.requires.now)) in

@@ -5,7 +5,7 @@ use Rattle.std.proofs.lemmas.Result.{on_err_weaker}
 use Rattle.agent_base.proofs.Logic.{on_err}
 use Rattle.cookie_jar.specs.Key.{plain_key}
 use Rattle.cookie_jar.specs.Persistent.{RowInsert, row_fits}
-use Rattle.cookie_jar.specs.Views.{plain_cookie}
+use Rattle.cookie_jar.specs.Plain.{plain_cookie}
 use Rattle.web_cookies.specs.Stored.{partitioned_in, shared_in}
 use Rattle.web_cookies.specs.Cells.{HaveKinds, cookies_at, jar_at, kind_of}
 use Rattle.web_cookies.specs.Rows.{HasPlace, IsRowDone}

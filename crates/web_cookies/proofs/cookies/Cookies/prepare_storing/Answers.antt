@@ -7,7 +7,7 @@ use Rattle.script_actions.specs.Plain.{head_field_of}
 use Rattle.row_changes.specs.Plain.{plain_change}
 use Rattle.agent_model.specs.CookieStore.{cookie_texts, own_places, partition_places, sent, store_texts}
 use Rattle.web_cookies.specs.Uses.{plain_use}
-use Rattle.web_cookies.specs.Found.{found}
+use Rattle.web_cookies.specs.CellsOfUse.{found}
 use Rattle.web_cookies.proofs.PreparedLemmas.{header_told, marked_is, request_prepared}
 use Rattle.web_cookies.proofs.cookies.Cookies.prepare_storing.Goals as goal
 

@@ -4,7 +4,7 @@ use Rattle.std.specs.Prelude.{is_some}
 use Rattle.std.specs.Option.{option_copied_mut}
 use Rattle.cookie_jar.specs.Key.{plain_key}
 use Rattle.cookie_jar.specs.Persistent.{RowReplace}
-use Rattle.cookie_jar.specs.Views.{plain_cookie}
+use Rattle.cookie_jar.specs.Plain.{plain_cookie}
 use Rattle.web_cookies.specs.Cells.{HaveKinds, kind_of}
 use Rattle.web_cookies.specs.Rows.{IsRowDone}
 use Rattle.web_cookies.proofs.LimitLemmas.{replace_past}

@@ -21,25 +21,25 @@ use Rattle.site_entries.specs.Seen.{IsGivenAt}
 use Rattle.agent_core.specs.AgentView.{AgentView, may_of}
 use Rattle.agent_core.specs.Seen.{AgentSeen, IsSeen}
 use Rattle.store_runs.specs.Calls.{IsQuiet}
-use Rattle.twins.specs.Found.{collected_of}
+use Rattle.twins.specs.Collectors.{collected_of}
 use Rattle.twins.specs.Scripts.{Gives}
 use Rattle.twins.specs.declared.before.Before.{Before}
 use Rattle.twins.specs.declared.collector.Collector.{Collector}
-use Rattle.twins.specs.declared.scripts.Script.{Script}
+use Rattle.twins.specs.declared.scripts.LocalScript.{LocalScript}
 
 -- ---- a line
 
 -- the cookies of the site's domain were kept exactly where a line asks for them
-abbrev pub IsKept : PlainSite → AgentWorld → (asks : Bool) → Option PlainJar → Type 0
-IsKept site world asks None = asks ≡ false
-IsKept site world asks (Some jar) =
+abbrev pub IsCopied : PlainSite → AgentWorld → (asks : Bool) → Option PlainJar → Type 0
+IsCopied site world asks None = asks ≡ false
+IsCopied site world asks (Some jar) =
     (asks ≡ true) × (jar.cookies ≡ get_cell domain_order world.cells site.host)
 
 -- what is told of a line before it runs
 pub record IsBefore (rules : List Rule) (site : PlainSite) (changed : Bool) (a : AgentSeen)
     (line : PlainAction) (before : Before) : Type 0 where
   pub given : IsGivenAt rules site changed a.world line before.line
-  pub kept : IsKept site a.world before.line.asks before.cookies
+  pub kept : IsCopied site a.world before.line.asks before.cookies
   pub changes : before.changes ≡ a.base.count + length a.pending
 
 -- a line ran, whether it waits or not
@@ -72,8 +72,8 @@ IsStill agent =
 
 -- the agent stands on a course of these lines over a new store, of which this is collected, and no
 -- call of its disk can fail
-pub record Stands (at : TwinSetting) (agent : MemAgent) (steps : List PlainStep) (c : Collected)
-    : Type 0 where
+pub record StandsOnCourse (at : TwinSetting) (agent : MemAgent) (steps : List PlainStep)
+    (c : Collected) : Type 0 where
   pub rules : agent.memory.rules ≡ at.rules
   pub batch : agent.batch ≡ at.batch
   pub some : 0 < at.batch
@@ -86,7 +86,7 @@ pub record Stands (at : TwinSetting) (agent : MemAgent) (steps : List PlainStep)
 -- this is what a collector has of it
 abbrev pub Collects : TwinSetting → MemAgent → List PlainStep → Collector → Type 0
 Collects at agent steps found =
-    (waiting : ℕ) × Stands at agent steps (collected_of found waiting)
+    (waiting : ℕ) × StandsOnCourse at agent steps (collected_of found waiting)
 
 -- a line leads from one to the next, wherever a run of not too many lines stands
 abbrev pub Leads : PlainSite → PlainStep → (old : MemAgent) → (before : Collector)
@@ -96,7 +96,7 @@ Leads site step old before new after =
     → Collects at old steps before → Collects at new (steps ++ step ∷ []) after
 
 -- the end of a run: the local script is this one, and its counts keep in range
-abbrev pub EndsAs : PlainSite → MemAgent → Collector → Script → Type 0
+abbrev pub EndsAs : PlainSite → MemAgent → Collector → LocalScript → Type 0
 EndsAs site agent found script =
     (at : TwinSetting) (steps : List PlainStep) → at.site ≡ site → length steps + 1 < 2 ^ 64
     → Collects at agent steps found → Gives at steps script

@@ -6,14 +6,15 @@ use Rattle.setcookie_parse.specs.declared.attribute.Kind.{Kind}
 use Rattle.setcookie_parse.specs.declared.cookie.SameSite.{SameSite}
 use Rattle.setcookie_parse.specs.declared.cookie.SameSite.TheVariants.{Default}
 use Rattle.setcookie_parse.specs.declared.cookie.DropCause.TheVariants.{TooLong, Empty}
-use Rattle.setcookie_parse.specs.declared.seen.Seen.{Seen as BorrowedSeen}
+use Rattle.setcookie_parse.specs.declared.seen.AttributesSoFar.{AttributesSoFar as BorrowedAttributes}
 use Rattle.setcookie_parse.specs.SetCookie.{CookieText, Parsed, Kept, Dropped, name_of, value_of}
 use Rattle.setcookie_parse.specs.SetCookie.{last_of, has, expires_of, max_age_of, domain_of}
 use Rattle.setcookie_parse.specs.SetCookie.{path_of, is_secure, is_http_only, is_partitioned}
 use Rattle.setcookie_parse.specs.SetCookie.{same_site_of, domain_in, path_in, expiry_of}
+use Rattle.setcookie_parse.specs.SetCookie.{pair_limit}
 
 -- the last value of each kind
-pub record Seen : Type 0 where
+pub record AttributesSoFar : Type 0 where
   pub expires : Option ℤ
   pub max_age : Option ℕ
   pub domain : Option (List ℕ)
@@ -24,8 +25,8 @@ pub record Seen : Type 0 where
   pub same_site : Option SameSite
 
 -- the values as contracts see them
-abbrev pub seen_view : BorrowedSeen → Seen
-seen_view seen =
+abbrev pub plain_seen : BorrowedAttributes → AttributesSoFar
+plain_seen seen =
     record {
       expires = seen.expires;
       max_age = seen.max_age;
@@ -38,7 +39,7 @@ seen_view seen =
     }
 
 -- the values of pieces
-abbrev pub seen_in : List (List ℕ) → Seen
+abbrev pub seen_in : List (List ℕ) → AttributesSoFar
 seen_in pieces =
     record {
       expires = last_of expires_of pieces;
@@ -52,7 +53,7 @@ seen_in pieces =
     }
 
 -- the values of pieces, over earlier ones
-abbrev pub seen_after : Seen → List (List ℕ) → Seen
+abbrev pub seen_after : AttributesSoFar → List (List ℕ) → AttributesSoFar
 seen_after seen pieces =
     record {
       expires = option_or (last_of expires_of pieces) seen.expires;
@@ -66,7 +67,7 @@ seen_after seen pieces =
     }
 
 -- the values with one more attribute
-abbrev pub seen_with : Seen → Option Kind → List ℕ → Seen
+abbrev pub seen_with : AttributesSoFar → Option Kind → List ℕ → AttributesSoFar
 seen_with seen kind value =
     record {
       expires = option_or (expires_of kind value) seen.expires;
@@ -80,7 +81,7 @@ seen_with seen kind value =
     }
 
 -- the cookie of a name, a value and what the attributes have said
-abbrev pub cookie_from : List ℕ → List ℕ → Seen → ℤ → CookieText
+abbrev pub cookie_from : List ℕ → List ℕ → AttributesSoFar → ℤ → CookieText
 cookie_from name value seen now =
     record {
       name = name;
@@ -96,9 +97,9 @@ cookie_from name value seen now =
     }
 
 -- the answer to a pair and what the attributes have said
-abbrev pub answer_from : List ℕ → Seen → ℤ → Parsed
+abbrev pub answer_from : List ℕ → AttributesSoFar → ℤ → Parsed
 answer_from pair seen now =
     let octets = length (name_of pair) + length (value_of pair) in
-    if nat_lt 4096 octets then Dropped TooLong
+    if nat_lt pair_limit octets then Dropped TooLong
     else (if octets == 0 then Dropped Empty
     else Kept (cookie_from (name_of pair) (value_of pair) seen now))

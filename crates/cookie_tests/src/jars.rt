@@ -39,33 +39,64 @@ fn drop_of(alloc: Global, list: &SuffixList, host: &str, text: &str) -> Option<C
         .err()
 }
 
+// A host, the text of a cookie, and why an empty jar drops it, if it does.
+const DOMAINS: &[(&str, &str, Option<CookieDrop>)] = &[
+    (
+        "google.co.uk",
+        "a=1; domain=.co.uk",
+        Some(CookieDrop::PublicSuffix),
+    ),
+    ("a.b.c.d.com", "b=2; domain=.b.c.d.com", None),
+    (
+        "foo.com.com",
+        "a=1; domain=.foo.com.com.com",
+        Some(CookieDrop::DomainMismatch),
+    ),
+    ("www.google.com", "a=1; domain=www.google.com", None),
+    ("co.uk", "a=1", None),
+    (
+        "www.host.test",
+        "a=1; secure",
+        Some(CookieDrop::NotSecureUrl),
+    ),
+];
+
 #[test]
 fn domains_of_outside_cases(rt: HostRuntime) -> Result<(), Fail> {
     let alloc = rt.alloc();
     let list = list_of(alloc)?;
-    for (host, text, want) in [
-        (
-            "google.co.uk",
-            "a=1; domain=.co.uk",
-            Some(CookieDrop::PublicSuffix),
-        ),
-        ("a.b.c.d.com", "b=2; domain=.b.c.d.com", None),
-        (
-            "foo.com.com",
-            "a=1; domain=.foo.com.com.com",
-            Some(CookieDrop::DomainMismatch),
-        ),
-        ("www.google.com", "a=1; domain=www.google.com", None),
-        ("co.uk", "a=1", None),
-        (
-            "www.host.test",
-            "a=1; secure",
-            Some(CookieDrop::NotSecureUrl),
-        ),
-    ] {
-        assert_eq!(rt; drop_of(alloc, &list, host, text), want, "{text} at {host}");
+    for (host, text, want) in DOMAINS {
+        assert!(rt; drop_of(alloc, &list, host, text) == *want, "{host}");
     }
     Ok(())
+}
+
+// Whether the cookie of a text is planned for an empty jar as its only one, with this path.
+fn is_planned(
+    alloc: Global,
+    list: &SuffixList,
+    jar: &Jar,
+    text: &str,
+    path: &str,
+) -> Result<bool, Fail> {
+    let Parsed::Kept(cookie) = parse(text, 1) else {
+        return Ok(false);
+    };
+    let plan = jar.plan(alloc, &cookie, &access_of("www.host.test", "/"), list, 1)?;
+    Ok(
+        plan.kind() == StoredKind::Added
+            && plan.steps() == [JarStep::Insert { place: 0, rank: 0 }].as_slice()
+            && plan.fresh().texts.path.as_str() == path,
+    )
+}
+
+// Whether a copy of a jar has nothing to send.
+fn copy_is_silent(alloc: Global, jar: &Jar) -> Result<bool, Fail> {
+    let copy = jar.copy(alloc)?;
+    Ok(
+        copy.pick(alloc, &access_of("www.host.test", "/"), 1)?
+            .is_empty(),
+    )
 }
 
 #[test]
@@ -73,21 +104,8 @@ fn a_new_cookie_is_planned_last(rt: HostRuntime) -> Result<(), Fail> {
     let alloc = rt.alloc();
     let list = list_of(alloc)?;
     let jar = Jar::new(alloc, CellKind::Own);
-    let Parsed::Kept(cookie) = parse("A=a; path=/foo/bar", 1) else {
-        return Err(Fail::new("no cookie"));
-    };
-    let plan = jar.plan(alloc, &cookie, &access_of("www.host.test", "/"), &list, 1)?;
-    assert_eq!(rt; plan.kind(), StoredKind::Added);
-    assert_eq!(rt;
-        plan.steps(),
-        [JarStep::Insert { place: 0, rank: 0 }].as_slice()
-    );
-    assert_eq!(rt; plan.fresh().texts.path.as_str(), "/foo/bar");
-    let copy = jar.copy(alloc)?;
-    assert_eq!(rt;
-        copy.pick(alloc, &access_of("www.host.test", "/"), 1)?.len(),
-        0
-    );
+    assert!(rt; is_planned(alloc, &list, &jar, "A=a; path=/foo/bar", "/foo/bar")?);
+    assert!(rt; copy_is_silent(alloc, &jar)?);
     Ok(())
 }
 
@@ -129,87 +147,87 @@ fn store(
     }
 }
 
-// Texts stored from an address, divided by `|`, and the header that goes to another one.
-const HEADERS: &[(&str, &str, &str, &str, &str, &str)] = &[
-    (
-        "www.host.test",
-        "/",
-        "A=a; path=/foo/bar|B=b; path=/foo/bar/baz/qux|C=c; path=/foo/bar/baz|D=d; path=/foo",
-        "www.host.test",
-        "/foo/bar/baz/qux",
-        "B=b; C=c; A=a; D=d",
-    ),
-    (
-        "www.host.test",
-        "/",
-        "A=1; path=/|A=2; path=/path|A=3; path=/quux|A=4; domain=.host.test; path=/path",
-        "www.host.test",
-        "/path/foo",
-        "A=2; A=4; A=1",
-    ),
-    (
-        "www.google.izzle",
-        "/",
-        "a=1; path=/wee",
-        "www.google.izzle",
-        "/wee/war",
-        "a=1",
-    ),
-    (
-        "www.google.izzle",
-        "/",
-        "a=1; path=/wee",
-        "www.google.izzle",
-        "/weehee",
-        "",
-    ),
-    (
-        "www.host.test",
-        "/",
-        "a=1; domain=host.test",
-        "bar.host.test",
-        "/",
-        "a=1",
-    ),
-    (
-        "www.example.com",
-        "/dir/index.html",
-        "a=b",
-        "www.example.com",
-        "/dir/x",
-        "a=b",
-    ),
-    (
-        "www.example.com",
-        "/dir/index.html",
-        "a=b",
-        "x.www.example.com",
-        "/dir/x",
-        "",
-    ),
-    (
-        "www.example.com",
-        "/",
-        "a=b|=c|a=; Max-Age=-1",
-        "www.example.com",
-        "/",
-        "c",
-    ),
+/// Texts stored from a host and a path, divided by `|`, and the header that goes to others.
+#[derive(Clone, Copy)]
+struct Case {
+    name: &'static str,
+    from: (&'static str, &'static str),
+    texts: &'static str,
+    to: (&'static str, &'static str),
+    header: &'static str,
+}
+
+const HEADERS: &[Case] = &[
+    Case {
+        name: "the longer path goes first",
+        from: ("www.host.test", "/"),
+        texts: "A=a; path=/foo/bar|B=b; path=/foo/bar/baz/qux|C=c; path=/foo/bar/baz|D=d; path=/foo",
+        to: ("www.host.test", "/foo/bar/baz/qux"),
+        header: "B=b; C=c; A=a; D=d",
+    },
+    Case {
+        name: "cookies of one path go by their age",
+        from: ("www.host.test", "/"),
+        texts: "A=1; path=/|A=2; path=/path|A=3; path=/quux|A=4; domain=.host.test; path=/path",
+        to: ("www.host.test", "/path/foo"),
+        header: "A=2; A=4; A=1",
+    },
+    Case {
+        name: "a path of the segments before",
+        from: ("www.google.izzle", "/"),
+        texts: "a=1; path=/wee",
+        to: ("www.google.izzle", "/wee/war"),
+        header: "a=1",
+    },
+    Case {
+        name: "a path that ends within a segment",
+        from: ("www.google.izzle", "/"),
+        texts: "a=1; path=/wee",
+        to: ("www.google.izzle", "/weehee"),
+        header: "",
+    },
+    Case {
+        name: "a domain is for the hosts below it",
+        from: ("www.host.test", "/"),
+        texts: "a=1; domain=host.test",
+        to: ("bar.host.test", "/"),
+        header: "a=1",
+    },
+    Case {
+        name: "the default path is the folder",
+        from: ("www.example.com", "/dir/index.html"),
+        texts: "a=b",
+        to: ("www.example.com", "/dir/x"),
+        header: "a=b",
+    },
+    Case {
+        name: "a cookie without a domain is for its host alone",
+        from: ("www.example.com", "/dir/index.html"),
+        texts: "a=b",
+        to: ("x.www.example.com", "/dir/x"),
+        header: "",
+    },
+    Case {
+        name: "a cookie without a name stays where another one goes",
+        from: ("www.example.com", "/"),
+        texts: "a=b|=c|a=; Max-Age=-1",
+        to: ("www.example.com", "/"),
+        header: "c",
+    },
 ];
+
+fn is_sent(alloc: Global, list: &SuffixList, case: &Case) -> Result<bool, Fail> {
+    let from = access_of(case.from.0, case.from.1);
+    let to = access_of(case.to.0, case.to.1);
+    Ok(sent_after(alloc, list, &from, case.texts, &to)?.as_str() == case.header)
+}
 
 #[test]
 fn headers_of_outside_cases(rt: HostRuntime) -> Result<(), Fail> {
     let alloc = rt.alloc();
     let list = list_of(alloc)?;
-    for (host, path, texts, to, at, want) in HEADERS {
-        let text = sent_after(
-            alloc,
-            &list,
-            &access_of(host, path),
-            texts,
-            &access_of(to, at),
-        )?;
-        assert_eq!(rt; text.as_str(), *want, "{texts} at {host}, to {to}{at}");
+    for case in HEADERS {
+        assert!(rt; is_sent(alloc, &list, case)?, "{}", case.name);
     }
     Ok(())
 }
@@ -250,23 +268,37 @@ const STORES: &[(&str, i64, StoredKind, JarStep)] = &[
     ),
 ];
 
+// Whether storing a text answers this, and takes this step alone.
+fn is_stored(
+    alloc: Global,
+    jar: &mut Jar,
+    list: &SuffixList,
+    (text, now, kind, step): (&str, i64, StoredKind, JarStep),
+) -> Result<bool, Fail> {
+    let access = access_of("www.host.test", "/");
+    let stored = store(alloc, jar, list, &access, text, now)?.copy(alloc)?;
+    Ok(stored.kind == kind && stored.steps.as_slice() == [step].as_slice())
+}
+
+// Whether the first cookie is marked, and not that of a copy.
+fn is_marked_apart(alloc: Global, jar: &mut Jar) -> Result<bool, Fail> {
+    let before = jar.copy(alloc)?;
+    jar.mark(&[0], 9);
+    let (Some(cookie), Some(copy)) = (jar.cookie(0), before.cookie(0)) else {
+        return Ok(false);
+    };
+    let marked = cookie.creation == 1 && cookie.last == 9;
+    Ok(marked && copy.texts.value.as_str() == "2" && copy.last == 3)
+}
+
 #[test]
 fn a_cookie_is_added_replaced_and_removed(rt: HostRuntime) -> Result<(), Fail> {
     let alloc = rt.alloc();
     let list = list_of(alloc)?;
-    let access = access_of("www.host.test", "/");
     let mut jar = Jar::new(alloc, CellKind::Own);
-    for (text, now, kind, step) in STORES {
-        let stored = store(alloc, &mut jar, &list, &access, text, *now)?.copy(alloc)?;
-        assert_eq!(rt; stored.kind, *kind, "{text}");
-        assert_eq!(rt; stored.steps.as_slice(), [*step].as_slice(), "{text}");
+    for row in STORES {
+        assert!(rt; is_stored(alloc, &mut jar, &list, *row)?, "{}", row.0);
     }
-    let before = jar.copy(alloc)?;
-    jar.mark(&[0], 9);
-    let (Some(cookie), Some(copy)) = (jar.cookie(0), before.cookie(0)) else {
-        return Err(Fail::new("no cookie"));
-    };
-    assert_eq!(rt; (cookie.creation, cookie.last), (1, 9));
-    assert_eq!(rt; (copy.texts.value.as_str(), copy.last), ("2", 3));
+    assert!(rt; is_marked_apart(alloc, &mut jar)?);
     Ok(())
 }

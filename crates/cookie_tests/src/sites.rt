@@ -6,7 +6,6 @@ use origin_site::{Address, Site};
 use reply_lines::ReplyBody;
 use script_actions::HeadField;
 use std::alloc::Global;
-use std::process::Abort;
 use std::test::Fail;
 use storage_key::Context;
 use suffix_list::SuffixList;
@@ -175,19 +174,34 @@ const STEPS: &[Step] = &[
     (W, "Cookie", "", "p=5; g=1; h=1", &[]),
 ];
 
+// Whether one step answers as it has to at that moment.
+fn is_answered(
+    alloc: Global,
+    cookies: &mut Cookies,
+    list: &SuffixList,
+    now: u64,
+    step: Step,
+) -> Result<bool, Fail>
+    requires now { now ≤ 253402300799 }
+{
+    let (who, name, texts, want, words) = step;
+    let body = answer(alloc, cookies, list, now, who, name, texts)?;
+    Ok(is_answer(&body, want, words))
+}
+
 #[test]
 fn sites_and_partitions_stand_apart(rt: HostRuntime) -> Result<(), Fail> {
     let alloc = rt.alloc();
     let list = list_of(alloc)?;
     let mut cookies = Cookies::new(alloc);
-    for (who, name, texts, want, words) in STEPS {
-        let body = answer(alloc, &mut cookies, &list, 7, *who, name, texts)?;
-        assert!(rt; is_answer(&body, want, words), "{texts} at {}", who.0);
+    for (place, step) in STEPS.iter().enumerate() {
+        let answered = is_answered(alloc, &mut cookies, &list, 7, *step)?;
+        assert!(rt; answered, "step {place}");
     }
     Ok(())
 }
 
-// Sets cookies with these numbers and this path in one second.
+// Sets so many cookies of one path in one second, each with a number of its own.
 fn fill(
     alloc: Global,
     cookies: &mut Cookies,
@@ -212,38 +226,50 @@ const SCRIPT_AT_X: Who = (
     Kind::FirstPartyScript,
 );
 
-// What goes out to `/x`, where a full cell had its first cookie used by this one before one more.
-fn left_by(rt: &impl Abort, alloc: Global, user: Who, want: &str) -> Result<(), Fail> {
+const NO_WORDS: &[&str] = &[];
+
+// The first cookie of a cell, and one behind its last.
+const FIRST: Step = (A, "Set-Cookie", "k=1; Path=/x", "", &["added"]);
+
+const LAST: Step = (A, "Set-Cookie", "l=1; Path=/z", "", &["added"]);
+
+// Whether a cell is full, with a first cookie that this one used.
+fn is_filled(
+    alloc: Global,
+    cookies: &mut Cookies,
+    list: &SuffixList,
+    user: Who,
+) -> Result<bool, Fail> {
+    let added = is_answered(alloc, cookies, list, 1, FIRST)?;
+    fill(alloc, cookies, list, 1, 179)?;
+    Ok(
+        added
+            && is_answered(
+                alloc,
+                cookies,
+                list,
+                2,
+                (user, "Cookie", "", "k=1", NO_WORDS),
+            )?,
+    )
+}
+
+// Whether this goes out to `/x`, where a full cell had its first cookie used by this one before
+// one more.
+fn is_left_by(alloc: Global, user: Who, want: &'static str) -> Result<bool, Fail> {
     let list = list_of(alloc)?;
     let mut cookies = Cookies::new(alloc);
-    let _ = answer(
-        alloc,
-        &mut cookies,
-        &list,
-        1,
-        A,
-        "Set-Cookie",
-        "k=1; Path=/x",
-    )?;
-    fill(alloc, &mut cookies, &list, 1, 179)?;
-    let _ = answer(alloc, &mut cookies, &list, 2, user, "Cookie", "")?;
-    let _ = answer(
-        alloc,
-        &mut cookies,
-        &list,
-        3,
-        A,
-        "Set-Cookie",
-        "l=1; Path=/z",
-    )?;
-    let body = answer(alloc, &mut cookies, &list, 4, AT_X, "Cookie", "")?;
-    assert!(rt; is_answer(&body, want, &[]), "used at {}", user.0);
-    Ok(())
+    let filled = is_filled(alloc, &mut cookies, &list, user)?;
+    let added = is_answered(alloc, &mut cookies, &list, 3, LAST)?;
+    let step = (AT_X, "Cookie", "", want, NO_WORDS);
+    let sent = is_answered(alloc, &mut cookies, &list, 4, step)?;
+    Ok(filled && added && sent)
 }
 
 #[test]
 fn a_sending_marks_and_a_script_does_not(rt: HostRuntime) -> Result<(), Fail> {
     let alloc = rt.alloc();
-    left_by(&rt, alloc, AT_X, "k=1")?;
-    left_by(&rt, alloc, SCRIPT_AT_X, "")
+    assert!(rt; is_left_by(alloc, AT_X, "k=1")?);
+    assert!(rt; is_left_by(alloc, SCRIPT_AT_X, "")?);
+    Ok(())
 }

@@ -5,7 +5,6 @@ use access_grants::{
 use agent_base::NoMemory;
 use origin_site::Site;
 use std::alloc::Global;
-use std::process::Abort;
 use std::test::Fail;
 
 /// A third-party document that was just activated, and may ask.
@@ -42,26 +41,23 @@ fn keep(
     Ok(())
 }
 
-// The row at a place is that of these sites, with this permission.
-fn check_row(
-    rt: &impl Abort,
-    alloc: Global,
-    grants: &Grants,
-    place: usize,
-    want: (&str, &str, bool, i64),
-) -> Result<(), Fail> {
-    let Some(row) = grants.row(place) else {
-        assert!(rt; false, "no row {place}");
-        return Ok(());
-    };
-    let top = row.top.text(alloc)?;
-    let site = row.site.text(alloc)?;
-    let (want_top, want_site, granted, until) = want;
-    assert_eq!(rt; top.as_str(), want_top);
-    assert_eq!(rt; site.as_str(), want_site);
-    assert_eq!(rt; row.granted, granted);
-    assert_eq!(rt; row.until, until);
-    Ok(())
+/// The texts of the sites of a row, and its permission.
+type Kept = (&'static str, &'static str, bool, i64);
+
+// Whether a row is that of these sites, with this permission.
+fn is_row(alloc: Global, row: &GrantRow, (top, site, granted, until): Kept) -> Result<bool, Fail> {
+    let found_top = row.top.text(alloc)?;
+    let found_site = row.site.text(alloc)?;
+    let sites = found_top.as_str() == top && found_site.as_str() == site;
+    Ok(sites && row.granted == granted && row.until == until)
+}
+
+// Whether that row is at a place, and so is a copy of it.
+fn has_row(alloc: Global, grants: &Grants, place: usize, kept: Kept) -> Result<bool, Fail> {
+    match grants.row(place) {
+        Some(row) => Ok(is_row(alloc, row, kept)? && is_row(alloc, &row.copy(alloc)?, kept)?),
+        None => Ok(false),
+    }
 }
 
 fn refused(why: Refusal, consumes: bool) -> Outcome {
@@ -73,71 +69,97 @@ fn refused(why: Refusal, consumes: bool) -> Outcome {
     }
 }
 
+// Whether a request is denied, which is kept.
+fn is_denied(alloc: Global, grants: &mut Grants, top: &Site, site: &Site) -> Result<bool, Fail> {
+    let denied = grants.request(top, site, &ASKS, Answer::Deny, NOW);
+    keep(grants, alloc, top, site, denied.kept)?;
+    let kept = Some(Permission {
+        granted: false,
+        until: OVER,
+    });
+    Ok(
+        denied
+            == Outcome {
+                kept,
+                ..refused(Refusal::DeniedNow, true)
+            },
+    )
+}
+
 #[test]
 fn denial_is_kept_for_thirty_days(rt: HostRuntime) -> Result<(), Fail> {
     let alloc = rt.alloc();
     let top = Site::read(alloc, "https://a.test")?;
     let site = Site::read(alloc, "https://x.test")?;
     let mut grants = Grants::new(alloc);
-    let denied = grants.request(&top, &site, &ASKS, Answer::Deny, NOW);
-    let until = OVER;
-    let granted = false;
-    let kept = Some(Permission { granted, until });
-    assert_eq!(rt;
-        denied,
-        Outcome {
-            kept,
-            ..refused(Refusal::DeniedNow, true)
-        }
-    );
-    keep(&mut grants, alloc, &top, &site, denied.kept)?;
+    assert!(rt; is_denied(alloc, &mut grants, &top, &site)?);
     let again = grants.request(&top, &site, &ASKS, Answer::Grant, NEARLY);
-    assert_eq!(rt; again, refused(Refusal::Denied, false));
+    assert!(rt; again == refused(Refusal::Denied, false));
     let later = grants.request(&top, &site, &ASKS, Answer::Grant, OVER);
-    assert_eq!(rt; later.decision, Decision::Granted { prompted: true });
-    assert_eq!(rt; grants.state(&top, &site, NEARLY), GrantState::Denied);
-    assert_eq!(rt; grants.state(&site, &top, NEARLY), GrantState::Unset);
+    assert!(rt; later.decision == Decision::Granted { prompted: true });
+    assert!(rt; grants.state(&top, &site, NEARLY) == GrantState::Denied);
+    assert!(rt; grants.state(&site, &top, NEARLY) == GrantState::Unset);
     Ok(())
 }
+
+// Keeps a permission for sites of these texts.
+fn keep_at(
+    alloc: Global,
+    grants: &mut Grants,
+    top: &str,
+    site: &str,
+    permission: Permission,
+) -> Result<(), Fail> {
+    let top = Site::read(alloc, top)?;
+    let site = Site::read(alloc, site)?;
+    Ok(keep(grants, alloc, &top, &site, Some(permission))?)
+}
+
+// Rows of two pairs.
+fn two_rows(alloc: Global) -> Result<Grants, Fail> {
+    let mut grants = Grants::new(alloc);
+    let denied = Permission::at(false, NOW);
+    keep_at(
+        alloc,
+        &mut grants,
+        "https://a.test",
+        "https://x.test",
+        denied,
+    )?;
+    let granted = Permission::at(true, NOW);
+    keep_at(
+        alloc,
+        &mut grants,
+        "https://b.test",
+        "https://x.test",
+        granted,
+    )?;
+    Ok(grants)
+}
+
+const FIRST: Kept = ("https://a.test", "https://x.test", false, OVER);
+
+const AGAIN: Kept = ("https://a.test", "https://x.test", true, 2_592_007);
+
+const SECOND: Kept = ("https://b.test", "https://x.test", true, OVER);
 
 #[test]
 fn rows_keep_their_places(rt: HostRuntime) -> Result<(), Fail> {
     let alloc = rt.alloc();
-    let a = Site::read(alloc, "https://a.test")?;
-    let b = Site::read(alloc, "https://b.test")?;
-    let x = Site::read(alloc, "https://x.test")?;
-    let mut grants = Grants::new(alloc);
-    keep(&mut grants, alloc, &a, &x, Some(Permission::at(false, NOW)))?;
-    keep(&mut grants, alloc, &b, &x, Some(Permission::at(true, NOW)))?;
+    let mut grants = two_rows(alloc)?;
     let copy = grants.copy()?;
-    keep(&mut grants, alloc, &a, &x, Some(Permission::at(true, 7)))?;
-    check_row(
-        &rt,
+    let granted = Permission::at(true, 7);
+    keep_at(
         alloc,
-        &grants,
-        0,
-        ("https://a.test", "https://x.test", true, 2_592_007),
+        &mut grants,
+        "https://a.test",
+        "https://x.test",
+        granted,
     )?;
-    check_row(
-        &rt,
-        alloc,
-        &grants,
-        1,
-        ("https://b.test", "https://x.test", true, OVER),
-    )?;
+    assert!(rt; has_row(alloc, &grants, 0, AGAIN)?);
+    assert!(rt; has_row(alloc, &grants, 1, SECOND)?);
     assert!(rt; grants.row(2).is_none());
-    check_row(
-        &rt,
-        alloc,
-        &copy,
-        0,
-        ("https://a.test", "https://x.test", false, OVER),
-    )?;
-    let Some(row) = copy.row(1) else {
-        assert!(rt; false, "no row");
-        return Ok(());
-    };
-    let row = row.copy(alloc)?;
-    assert_eq!(rt; (row.granted, row.until), (true, OVER));
+    assert!(rt; has_row(alloc, &copy, 0, FIRST)?);
+    assert!(rt; has_row(alloc, &copy, 1, SECOND)?);
     Ok(())
 }

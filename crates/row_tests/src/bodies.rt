@@ -51,7 +51,7 @@ struct Case {
     pieces: &'static [Want],
 }
 
-const CASES: [Case; 13] = [
+const CASES: &[Case] = &[
     Case {
         name: "no change",
         snapshot: false,
@@ -132,40 +132,54 @@ const CASES: [Case; 13] = [
     },
 ];
 
+fn joined(alloc: Global, parts: &[&[u8]]) -> Result<Vec<u8>, Fail> {
+    let mut body = Vec::new(alloc);
+    for part in parts {
+        body.extend_from_slice(part)?;
+    }
+    Ok(body)
+}
+
+// Whether a body is read in these pieces.
+fn has_pieces(
+    alloc: Global,
+    list: &SuffixList,
+    snapshot: bool,
+    body: &[u8],
+    want: &[Want],
+) -> Result<bool, Fail> {
+    Ok(pieces_of(alloc, list, snapshot, body)?.as_slice() == want)
+}
+
+fn is_read(alloc: Global, list: &SuffixList, case: &Case) -> Result<bool, Fail> {
+    let body = joined(alloc, case.parts)?;
+    has_pieces(alloc, list, case.snapshot, body.as_slice(), case.pieces)
+}
+
 #[test]
 fn pieces_and_first_faults(rt: HostRuntime) -> Result<(), Fail> {
     let alloc = rt.alloc();
     let list = list_of(alloc, b"")?;
-    for case in &CASES {
-        let mut body = Vec::new(alloc);
-        for part in case.parts {
-            body.extend_from_slice(part)?;
-        }
-        let pieces = pieces_of(alloc, &list, case.snapshot, body.as_slice())?;
-        assert!(rt;
-            pieces.as_slice() == case.pieces,
-            "{}: {pieces:?}",
-            case.name
-        );
+    for case in CASES {
+        assert!(rt; is_read(alloc, &list, case)?, "{}", case.name);
     }
     Ok(())
 }
+
+// The pieces of a body of one row change that is cut in its count, or behind it.
+const CUT: &[Want] = &[Fault(0)];
+
+const CUT_BEHIND: &[Want] = &[Begins, Fault(4)];
 
 #[test]
 fn a_cut_body_has_its_fault_where_its_row_begins(rt: HostRuntime) -> Result<(), Fail> {
     let alloc = rt.alloc();
     let list = list_of(alloc, b"")?;
-    let mut body = Vec::new(alloc);
-    body.extend_from_slice(ONE)?;
-    body.extend_from_slice(CLEAR)?;
+    let body = joined(alloc, &[ONE, CLEAR])?;
     for count in 1..body.len() {
-        let pieces = pieces_of(alloc, &list, false, &body[..count])?;
-        let want: &[Want] = if count < 4 {
-            &[Fault(0)]
-        } else {
-            &[Begins, Fault(4)]
-        };
-        assert!(rt; pieces.as_slice() == want, "{count} bytes: {pieces:?}");
+        let want = if count < 4 { CUT } else { CUT_BEHIND };
+        let found = has_pieces(alloc, &list, false, &body[..count], want)?;
+        assert!(rt; found, "{count} bytes");
     }
     Ok(())
 }

@@ -1,14 +1,16 @@
 //! Row changes, written by hand field by field: each kind, and each condition on a key, a cell
 //! and a permission, just inside and outside.
 use crate::parts::Part::{Byte, Raw, Signed, Text};
-use crate::parts::{HTTP_A, HTTPS_A, Row, bytes_of, is_change, list_of, put};
+use crate::parts::{HTTP_A, HTTPS_A, Part, Row, bytes_of, is_change, list_of};
 use access_grants::GrantRow;
 use origin_site::{Address, Site, site_of};
 use row_changes::{Change, read_change, write_changes, write_rows};
+use std::alloc::Global;
 use std::test::Fail;
 use storage_key::StorageKey;
+use suffix_list::SuffixList;
 
-const KINDS: [Row; 9] = [
+const KINDS: &[Row] = &[
     Row {
         name: "a pair",
         parts: &[Byte(1), HTTPS_A, HTTPS_A, Byte(0), Text("k"), Text("v")],
@@ -84,7 +86,7 @@ const KINDS: [Row; 9] = [
     },
 ];
 
-const KEYS: [Row; 16] = [
+const KEYS: &[Row] = &[
     Row {
         name: "the code 0",
         parts: &[Byte(0), HTTPS_A, HTTPS_A, Byte(0)],
@@ -172,7 +174,7 @@ const KEYS: [Row; 16] = [
     },
 ];
 
-const CELLS: [Row; 12] = [
+const CELLS: &[Row] = &[
     Row {
         name: "a cell of the kind 2",
         parts: &[Byte(7), Byte(2), Text("a.test"), Byte(0)],
@@ -235,30 +237,43 @@ const CELLS: [Row; 12] = [
     },
 ];
 
+const TABLES: &[&[Row]] = &[KINDS, KEYS, CELLS];
+
+// Whether fields are taken as a row change, or not.
+fn is_as_told(alloc: Global, list: &SuffixList, row: &Row) -> Result<bool, Fail> {
+    let bytes = bytes_of(alloc, row.parts)?;
+    Ok(is_change(alloc, list, bytes.as_slice())? == row.taken)
+}
+
 #[test]
 fn each_kind_and_condition(rt: HostRuntime) -> Result<(), Fail> {
     let alloc = rt.alloc();
     let list = list_of(alloc, b"co.uk")?;
-    for rows in [KINDS.as_slice(), KEYS.as_slice(), CELLS.as_slice()] {
-        for row in rows {
-            let bytes = bytes_of(alloc, row.parts)?;
-            let taken = is_change(alloc, &list, bytes.as_slice())?;
-            assert!(rt; taken == row.taken, "{}", row.name);
+    for rows in TABLES {
+        for row in *rows {
+            assert!(rt; is_as_told(alloc, &list, row)?, "{}", row.name);
         }
     }
     Ok(())
+}
+
+// Whether fields that are cut short are a row change at some length.
+fn has_front(alloc: Global, list: &SuffixList, row: &Row) -> Result<bool, Fail> {
+    let bytes = bytes_of(alloc, row.parts)?;
+    for count in 0..bytes.len() {
+        if read_change(alloc, &bytes[..count], list)?.is_some() {
+            return Ok(true);
+        }
+    }
+    Ok(false)
 }
 
 #[test]
 fn no_front_of_a_row_change_is_one(rt: HostRuntime) -> Result<(), Fail> {
     let alloc = rt.alloc();
     let list = list_of(alloc, b"")?;
-    for row in &KINDS {
-        let bytes = bytes_of(alloc, row.parts)?;
-        for count in 0..bytes.len() {
-            let found = read_change(alloc, &bytes[..count], &list)?;
-            assert!(rt; found.is_none(), "{} cut to {count}", row.name);
-        }
+    for row in KINDS {
+        assert!(rt; !has_front(alloc, &list, row)?, "{}", row.name);
     }
     Ok(())
 }
@@ -268,78 +283,122 @@ const WORKED: &[u8] = b"\x01\x00\x00\x00\
     \x01\x0e\x00\x00\x00https://a.test\x0e\x00\x00\x00https://a.test\x00\
     \x01\x00\x00\x00k\x01\x00\x00\x00v";
 
+// The row change of that body.
+fn worked(alloc: Global, list: &SuffixList) -> Result<Vec<Change>, Fail> {
+    let origin = Address::read(alloc, "https://a.test/")?.origin(alloc)?;
+    let top = site_of(alloc, &origin, list)?;
+    let key = StorageKey {
+        top,
+        origin,
+        bit: false,
+    };
+    let name = String::from_str(alloc, "k")?;
+    let value = String::from_str(alloc, "v")?;
+    let mut changes = Vec::new(alloc);
+    changes.push(Change::AreaPut { key, name, value })?;
+    Ok(changes)
+}
+
+// Whether row changes are written as these bytes.
+fn are_written(alloc: Global, changes: &[Change], bytes: &[u8]) -> Result<bool, Fail> {
+    Ok(write_rows(alloc, changes)?.as_slice() == bytes)
+}
+
+// Whether the worked row change is written as that body.
+fn is_worked_body(alloc: Global, list: &SuffixList) -> Result<bool, Fail> {
+    let changes = worked(alloc, list)?;
+    if changes.is_empty() {
+        return Ok(false);
+    }
+    let rows = are_written(alloc, changes.as_slice(), &WORKED[4..])?;
+    Ok(rows && write_changes(alloc, changes.as_slice())?.as_slice() == WORKED)
+}
+
 #[test]
 fn the_worked_body(rt: HostRuntime) -> Result<(), Fail> {
     let alloc = rt.alloc();
     let list = list_of(alloc, b"")?;
-    let origin = Address::read(alloc, "https://a.test/")?.origin(alloc)?;
-    let top = site_of(alloc, &origin, &list)?;
-    let mut changes = Vec::new(alloc);
-    changes.push(Change::AreaPut {
-        key: StorageKey {
-            top,
-            origin,
-            bit: false,
-        },
-        name: String::from_str(alloc, "k")?,
-        value: String::from_str(alloc, "v")?,
-    })?;
     assert_eq!(rt; WORKED.len(), 52);
-    let body = write_changes(alloc, changes.as_slice())?;
-    assert_eq!(rt; body.as_slice(), WORKED);
-    let rows = write_rows(alloc, changes.as_slice())?;
-    assert_eq!(rt; rows.as_slice(), &WORKED[4..]);
+    assert!(rt; is_worked_body(alloc, &list)?);
     assert!(rt; is_change(alloc, &list, &WORKED[4..])?);
     Ok(())
+}
+
+// The fields of one row change of each kind, one behind another.
+fn all_kinds(alloc: Global) -> Result<Vec<u8>, Fail> {
+    let mut bytes = Vec::new(alloc);
+    for row in KINDS {
+        bytes.extend_from_slice(bytes_of(alloc, row.parts)?.as_slice())?;
+    }
+    Ok(bytes)
+}
+
+// Copies of so many row changes that stand in bytes, or nothing where they are no more, no fewer.
+fn read_all(
+    alloc: Global,
+    list: &SuffixList,
+    bytes: &[u8],
+    count: usize,
+) -> Result<Option<Vec<Change>>, Fail> {
+    let mut changes = Vec::new(alloc);
+    let mut rest = bytes;
+    for _ in 0..count {
+        let Some((change, behind)) = read_change(alloc, rest, list)? else {
+            return Ok(None);
+        };
+        changes.push(change.copy(alloc)?)?;
+        rest = behind;
+    }
+    Ok(rest.is_empty().then_some(changes))
+}
+
+// Whether row changes one behind another are written again as they were read.
+fn are_written_again(alloc: Global, list: &SuffixList) -> Result<bool, Fail> {
+    let bytes = all_kinds(alloc)?;
+    match read_all(alloc, list, bytes.as_slice(), KINDS.len())? {
+        Some(changes) => are_written(alloc, changes.as_slice(), bytes.as_slice()),
+        None => Ok(false),
+    }
 }
 
 #[test]
 fn what_stands_behind_is_left(rt: HostRuntime) -> Result<(), Fail> {
     let alloc = rt.alloc();
     let list = list_of(alloc, b"")?;
-    let mut bytes = Vec::new(alloc);
-    for row in &KINDS {
-        for part in row.parts {
-            put(&mut bytes, *part)?;
-        }
-    }
-    let mut changes = Vec::new(alloc);
-    let mut rest = bytes.as_slice();
-    for _ in 0..KINDS.len() {
-        let Some((change, behind)) = read_change(alloc, rest, &list)? else {
-            assert!(rt; false, "{} bytes are no row change", rest.len());
-            return Ok(());
-        };
-        changes.push(change.copy(alloc)?)?;
-        rest = behind;
-    }
-    assert!(rt; rest.is_empty());
-    let again = write_rows(alloc, changes.as_slice())?;
-    assert_eq!(rt; again.as_slice(), bytes.as_slice());
+    assert!(rt; are_written_again(alloc, &list)?);
     Ok(())
+}
+
+// A permission of two sites.
+fn granted(alloc: Global) -> Result<Vec<Change>, Fail> {
+    let row = GrantRow {
+        top: Site::read(alloc, "https://a.test")?,
+        site: Site::read(alloc, "https://w.test")?,
+        granted: true,
+        until: 1_769_817_600,
+    };
+    let mut changes = Vec::new(alloc);
+    changes.push(Change::Grant { row })?;
+    Ok(changes)
+}
+
+/// The fields of that permission, with the bytes of its end.
+const GRANTED: &[Part] = &[
+    Byte(8),
+    HTTPS_A,
+    Text("https://w.test"),
+    Byte(1),
+    Raw(&[0x00, 0x46, 0x7d, 0x69, 0, 0, 0, 0]),
+];
+
+fn grant_is_written(alloc: Global) -> Result<bool, Fail> {
+    let changes = granted(alloc)?;
+    let bytes = bytes_of(alloc, GRANTED)?;
+    are_written(alloc, changes.as_slice(), bytes.as_slice())
 }
 
 #[test]
 fn a_row_of_two_sites(rt: HostRuntime) -> Result<(), Fail> {
-    let alloc = rt.alloc();
-    let mut changes = Vec::new(alloc);
-    changes.push(Change::Grant {
-        row: GrantRow {
-            top: Site::read(alloc, "https://a.test")?,
-            site: Site::read(alloc, "https://w.test")?,
-            granted: true,
-            until: 1_769_817_600,
-        },
-    })?;
-    let bytes = write_rows(alloc, changes.as_slice())?;
-    let parts = [
-        Byte(8),
-        HTTPS_A,
-        Text("https://w.test"),
-        Byte(1),
-        Raw(&[0x00, 0x46, 0x7d, 0x69, 0, 0, 0, 0]),
-    ];
-    let want = bytes_of(alloc, &parts)?;
-    assert_eq!(rt; bytes.as_slice(), want.as_slice());
+    assert!(rt; grant_is_written(rt.alloc())?);
     Ok(())
 }

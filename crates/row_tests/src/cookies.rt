@@ -3,6 +3,7 @@ use crate::parts::Part::{Byte, Letters, Signed, Text};
 use crate::parts::{HTTPS_A, is_change, list_of, put};
 use std::alloc::Global;
 use std::test::Fail;
+use suffix_list::SuffixList;
 
 /// What of a cookie differs from row to row.
 #[derive(Clone, Copy)]
@@ -28,7 +29,7 @@ const PLAIN: CookieRow = CookieRow {
     taken: true,
 };
 
-const COOKIES: [CookieRow; 14] = [
+const COOKIES: &[CookieRow] = &[
     PLAIN,
     CookieRow {
         name: "no name and no value",
@@ -137,14 +138,17 @@ fn cookie_bytes(alloc: Global, row: &CookieRow) -> Result<Vec<u8>, Fail> {
     Ok(out)
 }
 
+fn is_as_told(alloc: Global, list: &SuffixList, row: &CookieRow) -> Result<bool, Fail> {
+    let bytes = cookie_bytes(alloc, row)?;
+    Ok(is_change(alloc, list, bytes.as_slice())? == row.taken)
+}
+
 #[test]
 fn each_condition_on_a_cookie(rt: HostRuntime) -> Result<(), Fail> {
     let alloc = rt.alloc();
     let list = list_of(alloc, b"co.uk")?;
-    for row in &COOKIES {
-        let bytes = cookie_bytes(alloc, row)?;
-        let taken = is_change(alloc, &list, bytes.as_slice())?;
-        assert!(rt; taken == row.taken, "{}", row.name);
+    for row in COOKIES {
+        assert!(rt; is_as_told(alloc, &list, row)?, "{}", row.name);
     }
     Ok(())
 }

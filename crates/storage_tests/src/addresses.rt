@@ -4,11 +4,10 @@ use origin_site::{
     Address, AddressFault, Origin, Site, SiteFault, same_origin, same_site, site_of,
 };
 use std::alloc::Global;
-use std::process::Abort;
 use std::test::Fail;
 
 // A list, an address, and the site of its origin.
-const SITES: [(&str, &str, &str); 14] = [
+const SITES: &[(&str, &str, &str)] = &[
     ("", "https://user@x.a.test:8443/p?q#f", "https://a.test"),
     ("", "HTTP://LOCALHOST", "http://localhost"),
     ("", "http://1.2.3./", "http://1.2.0.3"),
@@ -62,111 +61,131 @@ fn is_at(alloc: Global, rules: &str, text: &str, named: &str) -> Result<bool, Fa
     Ok(same_site(&site, &read))
 }
 
-fn check_site(
-    rt: &impl Abort,
-    alloc: Global,
-    rules: &str,
-    text: &str,
-    site: &str,
-) -> Result<(), Fail> {
+// Whether an address is at this site, which has this text.
+fn is_site(alloc: Global, rules: &str, text: &str, site: &str) -> Result<bool, Fail> {
     let shown = site_text_at(alloc, rules, text)?;
-    assert_eq!(rt; shown.as_str(), site, "{text} under {rules}");
     let again = at_one_site(alloc, rules, text, shown.as_str())?;
-    assert!(rt; again, "{text} under {rules}");
-    assert!(rt; is_at(alloc, rules, text, site)?, "{text} under {rules}");
-    Ok(())
+    let named = is_at(alloc, rules, text, site)?;
+    Ok(shown.as_str() == site && again && named)
 }
 
 #[test]
 fn sites_of_addresses(rt: HostRuntime) -> Result<(), Fail> {
     let alloc = rt.alloc();
     for (rules, text, site) in SITES {
-        check_site(&rt, alloc, rules, text, site)?;
+        assert!(rt; is_site(alloc, rules, text, site)?, "{text}");
     }
     Ok(())
+}
+
+// An address, and the text of its origin.
+const ORIGINS: &[(&str, &str)] = &[
+    ("https://a.test:443/p", "https://a.test"),
+    ("http://a.test:443/p", "http://a.test:443"),
+    ("https://a.test:80/p", "https://a.test:80"),
+    ("http://[::1]:80", "http://[::1]"),
+];
+
+fn is_shown(alloc: Global, text: &str, shown: &str) -> Result<bool, Fail> {
+    let origin = copied_origin(alloc, text)?;
+    Ok(origin.text(alloc)?.as_str() == shown)
 }
 
 #[test]
 fn texts_of_origins(rt: HostRuntime) -> Result<(), Fail> {
     let alloc = rt.alloc();
-    for (text, shown) in [
-        ("https://a.test:443/p", "https://a.test"),
-        ("http://a.test:443/p", "http://a.test:443"),
-        ("https://a.test:80/p", "https://a.test:80"),
-        ("http://[::1]:80", "http://[::1]"),
-    ] {
-        let origin = copied_origin(alloc, text)?;
-        assert_eq!(rt; origin.text(alloc)?.as_str(), shown, "{text}");
+    for (text, shown) in ORIGINS {
+        assert!(rt; is_shown(alloc, text, shown)?, "{text}");
     }
     Ok(())
+}
+
+const NO_SITES: &[&str] = &[
+    "",
+    "a.test",
+    "https://a.test/",
+    "https://a.test:443",
+    "https://a.test:8443",
+    "https://A.test",
+    "https://a.test.",
+    "ftp://a.test",
+    " https://a.test",
+    "https://user@a.test",
+    "http://1.2.3",
+    "https://食狮.test",
+];
+
+fn is_no_site(alloc: Global, text: &str) -> bool {
+    matches!(Site::read(alloc, text), Err(SiteFault::NotSite))
 }
 
 #[test]
 fn texts_that_are_no_site(rt: HostRuntime) -> Result<(), Fail> {
     let alloc = rt.alloc();
-    for text in [
-        "",
-        "a.test",
-        "https://a.test/",
-        "https://a.test:443",
-        "https://a.test:8443",
-        "https://A.test",
-        "https://a.test.",
-        "ftp://a.test",
-        " https://a.test",
-        "https://user@a.test",
-        "http://1.2.3",
-        "https://食狮.test",
-    ] {
-        let read = Site::read(alloc, text);
-        assert!(rt; matches!(read, Err(SiteFault::NotSite)), "{text}");
+    for text in NO_SITES {
+        assert!(rt; is_no_site(alloc, text), "{text}");
     }
     Ok(())
+}
+
+// A text that is no address, and its first fault.
+const FAULTS: &[(&str, AddressFault)] = &[
+    ("a.test", AddressFault::NotUrl),
+    ("https://", AddressFault::NotUrl),
+    ("ftp://a.test./", AddressFault::OtherScheme),
+    ("https://a.test./", AddressFault::TrailingDot),
+];
+
+fn fault_of(alloc: Global, text: &str) -> Option<AddressFault> {
+    Address::read(alloc, text).err()
 }
 
 #[test]
 fn first_fault_of_a_text(rt: HostRuntime) -> Result<(), Fail> {
     let alloc = rt.alloc();
-    for (text, why) in [
-        ("a.test", AddressFault::NotUrl),
-        ("https://", AddressFault::NotUrl),
-        ("ftp://a.test./", AddressFault::OtherScheme),
-        ("https://a.test./", AddressFault::TrailingDot),
-    ] {
-        match Address::read(alloc, text) {
-            Ok(_) => assert!(rt; false, "{text}"),
-            Err(fault) => assert_eq!(rt; fault, why, "{text}"),
-        }
+    for (text, why) in FAULTS {
+        assert!(rt; fault_of(alloc, text) == Some(*why), "{text}");
     }
     Ok(())
+}
+
+// The fault of a text of so many bytes, which is an address but for its length.
+fn fault_at(alloc: Global, length: usize) -> Result<Option<AddressFault>, Fail> {
+    let mut text = String::from_str(alloc, "http://a.test/")?;
+    for _ in text.len()..length {
+        text.push('x')?;
+    }
+    Ok(fault_of(alloc, text.as_str()))
 }
 
 #[test]
 fn text_of_8192_bytes_is_the_longest(rt: HostRuntime) -> Result<(), Fail> {
     let alloc = rt.alloc();
-    let mut text = String::from_str(alloc, "http://a.test/")?;
-    for _ in text.len()..8192 {
-        text.push('x')?;
-    }
-    assert!(rt; Address::read(alloc, text.as_str()).is_ok());
-    text.push('x')?;
-    let longer = Address::read(alloc, text.as_str());
-    assert!(rt; matches!(longer, Err(AddressFault::TooLong)));
+    assert!(rt; fault_at(alloc, 8_192)?.is_none());
+    assert!(rt; fault_at(alloc, 8_193)? == Some(AddressFault::TooLong));
     Ok(())
+}
+
+// An address, and whether its origin is that of `https://a.test/p`.
+const SAME: &[(&str, bool)] = &[
+    ("https://A.test:443/q", true),
+    ("http://a.test:443/", false),
+    ("https://a.test:444/", false),
+    ("https://b.test/", false),
+];
+
+fn at_one_origin(alloc: Global, text: &str, other: &str) -> Result<bool, Fail> {
+    let one = copied_origin(alloc, text)?;
+    let other = copied_origin(alloc, other)?;
+    Ok(same_origin(&one, &other))
 }
 
 #[test]
 fn ports_and_schemes_tell_origins_apart(rt: HostRuntime) -> Result<(), Fail> {
     let alloc = rt.alloc();
-    let one = copied_origin(alloc, "https://a.test/p")?;
-    for (text, same) in [
-        ("https://A.test:443/q", true),
-        ("http://a.test:443/", false),
-        ("https://a.test:444/", false),
-        ("https://b.test/", false),
-    ] {
-        let other = copied_origin(alloc, text)?;
-        assert_eq!(rt; same_origin(&one, &other), same, "{text}");
+    for (text, same) in SAME {
+        let found = at_one_origin(alloc, "https://a.test/p", text)?;
+        assert!(rt; found == *same, "{text}");
     }
     Ok(())
 }

@@ -3,7 +3,7 @@ ghost use Rattle.std.specs.Prelude.{◌≡◌};
 ghost use Rattle.key_map.specs.Entries.{map_set};
 
 use key_map::KeyMap;
-use std::process::Abort;
+use std::alloc::Global;
 use std::test::Fail;
 
 // Gives a key that is there this value.
@@ -16,34 +16,43 @@ fn set<K: Ord + Drop>(map: &mut KeyMap<K, u32>, key: &K, value: u32)
     }
 }
 
-fn check_writes(rt: &impl Abort, map: &mut KeyMap<u32, u32>) {
-    for (key, value) in [(7, 1), (3, 2), (5, 3), (7, 4)] {
-        assert_eq!(rt; map.insert(key, value), Ok(()), "at {key}");
+// Keys with the values that are inserted one after another.
+const WRITES: &[(u32, u32)] = &[(7, 1), (3, 2), (5, 3), (7, 4), (9, 5)];
+
+// Whether each is inserted, and the last key is there once.
+fn are_written(map: &mut KeyMap<u32, u32>) -> bool {
+    let mut done = true;
+    for (key, value) in WRITES {
+        done = done && map.insert(*key, *value) == Ok(());
     }
-    assert_eq!(rt; map.insert(9, 5), Ok(()));
-    assert_eq!(rt; map.remove(&9), Some(5));
-    assert_eq!(rt; map.remove(&9), None);
+    done && map.remove(&9) == Some(5) && map.remove(&9).is_none()
 }
 
-fn check_values(rt: &impl Abort, map: &KeyMap<u32, u32>) {
-    for (key, want) in [(3, Some(8)), (5, Some(3)), (7, Some(4)), (4, None)] {
-        assert_eq!(rt; map.get(&key).copied(), want, "at {key}");
-    }
-    assert_eq!(rt; map.next_key(Some(&3)).copied(), Some(5));
+const VALUES: &[(u32, Option<u32>)] = &[(3, Some(8)), (5, Some(3)), (7, Some(4)), (4, None)];
+
+fn are_found(map: &KeyMap<u32, u32>, values: &[(u32, Option<u32>)]) -> bool {
+    values
+        .iter()
+        .all(|(key, want)| map.get(key).copied() == *want)
+}
+
+// Whether these are the keys of a map.
+fn are_keys(alloc: Global, map: &KeyMap<u32, u32>, want: &[u32]) -> bool {
+    matches!(map.keys(alloc), Ok(keys) if keys.as_slice() == want)
 }
 
 #[test]
 fn written_values_are_found(rt: HostRuntime) -> Result<(), Fail> {
     let alloc = rt.alloc();
     let mut map = KeyMap::new(alloc);
-    check_writes(&rt, &mut map);
+    assert!(rt; are_written(&mut map));
     let copy = map.clone()?;
     set(&mut map, &3, 8);
     set(&mut map, &4, 8);
-    check_values(&rt, &map);
-    assert_eq!(rt; copy.get(&3).copied(), Some(2));
-    let keys = map.keys(alloc);
-    assert!(rt; matches!(&keys, Ok(keys) if keys.as_slice() == &[3, 5, 7][..]));
+    assert!(rt; are_found(&map, VALUES));
+    assert!(rt; map.next_key(Some(&3)).copied() == Some(5));
+    assert!(rt; are_found(&copy, &[(3, Some(2))]));
+    assert!(rt; are_keys(alloc, &map, &[3, 5, 7]));
     Ok(())
 }
 
@@ -59,13 +68,13 @@ fn fill(map: &mut KeyMap<u32, u32>) -> bool {
     done
 }
 
+const KEPT: &[(u32, Option<u32>)] = &[(0, None), (1, Some(1)), (4_998, None), (4_999, Some(4_999))];
+
 #[test]
 fn thousands_of_keys_are_kept(rt: HostRuntime) -> Result<(), Fail> {
     let mut map = KeyMap::new(rt.alloc());
     assert!(rt; fill(&mut map));
-    for (key, want) in [(0, None), (1, Some(1)), (4_998, None), (4_999, Some(4_999))] {
-        assert_eq!(rt; map.get(&key).copied(), want, "at {key}");
-    }
-    assert_eq!(rt; map.next_key(Some(&2_998)).copied(), Some(2_999));
+    assert!(rt; are_found(&map, KEPT));
+    assert!(rt; map.next_key(Some(&2_998)).copied() == Some(2_999));
     Ok(())
 }

@@ -41,36 +41,42 @@ fn put(
     Ok(matches!(&put, Ok(Put::Added)))
 }
 
-// Each of these places gets that name in tab 1.
-fn check_puts(
-    rt: &impl Abort,
+// Whether each of these places gets that name in tab 1.
+fn are_put(
     alloc: Global,
     storage: &mut Storage,
     kind: AreaKind,
     places: &[Place],
-) -> Result<(), Fail> {
+) -> Result<bool, Fail> {
+    let mut done = true;
     for at in places {
-        assert!(rt; put(alloc, storage, kind, 1, *at, "v")?);
+        done = done && put(alloc, storage, kind, 1, *at, "v")?;
     }
-    Ok(())
+    Ok(done)
 }
 
-// The value of that name has to be this one, or an empty text where there is none.
-fn check_value(
-    rt: &impl Abort,
-    alloc: Global,
-    storage: &Storage,
-    kind: AreaKind,
-    tab: u16,
-    at: Place,
-    want: &str,
-) -> Result<(), Fail> {
+// An area, and the value of that name there, or an empty text where there is none.
+type Value = (AreaKind, u16, Place, &'static str);
+
+fn has_value(alloc: Global, storage: &Storage, (kind, tab, at, want): Value) -> Result<bool, Fail> {
     let key = key_of(alloc, at)?;
     let found = match storage.area(kind, tab, &key) {
         Some(area) => area.get("k"),
         None => None,
     };
-    assert_eq!(rt; found.unwrap_or(""), want, "in tab {tab}");
+    Ok(found.unwrap_or("") == want)
+}
+
+fn check_values(
+    rt: &impl Abort,
+    alloc: Global,
+    storage: &Storage,
+    values: &[Value],
+) -> Result<(), Fail> {
+    for value in values {
+        let found = has_value(alloc, storage, *value)?;
+        assert!(rt; found, "in tab {} at {}", value.1, value.2.0);
+    }
     Ok(())
 }
 
@@ -83,7 +89,7 @@ fn is_emptied(alloc: Global, storage: &mut Storage, at: Place) -> Result<bool, F
 }
 
 // Areas once `A` has a pair of each kind in tab 1, with the values there.
-const VALUES: &[(AreaKind, u16, Place, &str)] = &[
+const VALUES: &[Value] = &[
     (AreaKind::Local, 1, A, "1"),
     (AreaKind::Local, 9, A, "1"),
     (AreaKind::Local, 1, B, ""),
@@ -91,12 +97,7 @@ const VALUES: &[(AreaKind, u16, Place, &str)] = &[
     (AreaKind::Session, 2, A, ""),
 ];
 
-fn check_values(rt: &impl Abort, alloc: Global, storage: &Storage) -> Result<(), Fail> {
-    for (kind, tab, at, want) in VALUES {
-        check_value(rt, alloc, storage, *kind, *tab, *at, want)?;
-    }
-    Ok(())
-}
+const EMPTIED: &[Value] = &[(AreaKind::Local, 1, A, ""), (AreaKind::Session, 1, A, "")];
 
 #[test]
 fn areas_of_keys_stand_apart(rt: HostRuntime) -> Result<(), Fail> {
@@ -104,10 +105,9 @@ fn areas_of_keys_stand_apart(rt: HostRuntime) -> Result<(), Fail> {
     let mut storage = Storage::new(alloc);
     assert!(rt; put(alloc, &mut storage, AreaKind::Local, 1, A, "1")?);
     assert!(rt; put(alloc, &mut storage, AreaKind::Session, 1, A, "2")?);
-    check_values(&rt, alloc, &storage)?;
+    check_values(&rt, alloc, &storage, VALUES)?;
     assert!(rt; is_emptied(alloc, &mut storage, A)?);
-    check_value(&rt, alloc, &storage, AreaKind::Local, 1, A, "")?;
-    check_value(&rt, alloc, &storage, AreaKind::Session, 1, A, "")
+    check_values(&rt, alloc, &storage, EMPTIED)
 }
 
 const KEPT: Place = ("https://v.test/", "https://a.test");
@@ -133,24 +133,31 @@ fn is_persisted(
     Ok(persisted.is_ok() && storage.is_persistent(&key) && !storage.is_persistent(&other))
 }
 
-// The first eviction empties three areas, and the second none.
-fn check_evictions(rt: &impl Abort, alloc: Global, storage: &mut Storage) -> Result<(), Fail> {
+// Whether the first eviction empties three areas, and the second none.
+fn are_evicted(alloc: Global, storage: &mut Storage) -> Result<bool, Fail> {
     let site = Site::read(alloc, "https://a.test")?;
-    assert_eq!(rt; storage.evict(&site), Ok(3));
-    assert_eq!(rt; storage.evict(&site), Ok(0));
-    Ok(())
+    Ok(storage.evict(&site) == Ok(3) && storage.evict(&site) == Ok(0))
+}
+
+const PLACES: &[Place] = &[KEPT, A, B, FIRST, BEFORE, BEHIND];
+
+// What is used at these places after the evictions.
+const USAGES: &[(Place, usize)] = &[
+    (KEPT, 2),
+    (A, 0),
+    (B, 2),
+    (FIRST, 2),
+    (BEFORE, 0),
+    (BEHIND, 0),
+];
+
+fn usage(alloc: Global, storage: &Storage, at: Place) -> Result<usize, Fail> {
+    Ok(storage.usage(&key_of(alloc, at)?))
 }
 
 fn check_usages(rt: &impl Abort, alloc: Global, storage: &Storage) -> Result<(), Fail> {
-    for (at, want) in [
-        (KEPT, 2),
-        (A, 0),
-        (B, 2),
-        (FIRST, 2),
-        (BEFORE, 0),
-        (BEHIND, 0),
-    ] {
-        assert_eq!(rt; storage.usage(&key_of(alloc, at)?), want);
+    for (at, want) in USAGES {
+        assert!(rt; usage(alloc, storage, *at)? == *want, "at {}", at.0);
     }
     Ok(())
 }
@@ -159,10 +166,9 @@ fn check_usages(rt: &impl Abort, alloc: Global, storage: &Storage) -> Result<(),
 fn evictions_spare_persistent_buckets(rt: HostRuntime) -> Result<(), Fail> {
     let alloc = rt.alloc();
     let mut storage = Storage::new(alloc);
-    let places = [KEPT, A, B, FIRST, BEFORE, BEHIND];
-    check_puts(&rt, alloc, &mut storage, AreaKind::Local, &places)?;
+    assert!(rt; are_put(alloc, &mut storage, AreaKind::Local, PLACES)?);
     assert!(rt; is_persisted(alloc, &mut storage, KEPT, A)?);
-    check_evictions(&rt, alloc, &mut storage)?;
+    assert!(rt; are_evicted(alloc, &mut storage)?);
     check_usages(&rt, alloc, &storage)
 }
 
@@ -172,25 +178,30 @@ fn copied(storage: &mut Storage, site: &Site) -> bool {
     storage.copy_tab(site, 1, 2).is_ok()
 }
 
+// The values under `https://a.test` in tab 2 once they are copied from tab 1.
+const COPIED: &[Value] = &[
+    (AreaKind::Session, 1, A, "v"),
+    (AreaKind::Session, 1, B, "v"),
+    (AreaKind::Session, 2, A, "v"),
+    (AreaKind::Session, 2, B, ""),
+    (AreaKind::Session, 2, FIRST, ""),
+    (AreaKind::Session, 2, BEFORE, "v"),
+    (AreaKind::Session, 2, BEHIND, "v"),
+];
+
+fn is_copied(alloc: Global, storage: &mut Storage) -> Result<bool, Fail> {
+    let site = Site::read(alloc, "https://a.test")?;
+    Ok(copied(storage, &site))
+}
+
 #[test]
 fn copies_are_of_one_site(rt: HostRuntime) -> Result<(), Fail> {
     let alloc = rt.alloc();
     let mut storage = Storage::new(alloc);
-    let places = [A, B, FIRST, BEFORE, BEHIND];
-    check_puts(&rt, alloc, &mut storage, AreaKind::Session, &places)?;
-    assert!(rt; copied(&mut storage, &Site::read(alloc, "https://a.test")?));
-    for (tab, at, want) in [
-        (1, A, "v"),
-        (1, B, "v"),
-        (2, A, "v"),
-        (2, B, ""),
-        (2, FIRST, ""),
-        (2, BEFORE, "v"),
-        (2, BEHIND, "v"),
-    ] {
-        check_value(&rt, alloc, &storage, AreaKind::Session, tab, at, want)?;
-    }
-    Ok(())
+    let places = &[A, B, FIRST, BEFORE, BEHIND];
+    assert!(rt; are_put(alloc, &mut storage, AreaKind::Session, places)?);
+    assert!(rt; is_copied(alloc, &mut storage)?);
+    check_values(&rt, alloc, &storage, COPIED)
 }
 
 // Thousands of pairs, each with a name of its own, in one area.
@@ -223,26 +234,32 @@ fn fill_tabs(alloc: Global, storage: &mut Storage, key: &StorageKey) -> Result<b
     Ok(done)
 }
 
+// Areas, and how many pairs they have.
+const LENGTHS: &[(AreaKind, u16, usize)] = &[
+    (AreaKind::Local, 1, 3_000),
+    (AreaKind::Session, 1, 3_001),
+    (AreaKind::Session, 2_999, 1),
+    (AreaKind::Session, 3_000, 0),
+];
+
+fn length(storage: &Storage, kind: AreaKind, tab: u16, key: &StorageKey) -> usize {
+    match storage.area(kind, tab, key) {
+        Some(area) => area.len(),
+        None => 0,
+    }
+}
+
 #[test]
 fn thousands_are_kept_in_each_kind_of_area(rt: HostRuntime) -> Result<(), Fail> {
     let alloc = rt.alloc();
     let mut storage = Storage::new(alloc);
     let key = key_of(alloc, A)?;
-    for kind in [AreaKind::Local, AreaKind::Session] {
-        assert!(rt; fill(alloc, &mut storage, kind, &key)?);
-    }
+    assert!(rt; fill(alloc, &mut storage, AreaKind::Local, &key)?);
+    assert!(rt; fill(alloc, &mut storage, AreaKind::Session, &key)?);
     assert!(rt; fill_tabs(alloc, &mut storage, &key)?);
-    for (kind, tab, want) in [
-        (AreaKind::Local, 1, 3_000),
-        (AreaKind::Session, 1, 3_001),
-        (AreaKind::Session, 2_999, 1),
-        (AreaKind::Session, 3_000, 0),
-    ] {
-        let len = match storage.area(kind, tab, &key) {
-            Some(area) => area.len(),
-            None => 0,
-        };
-        assert_eq!(rt; len, want, "in tab {tab}");
+    for (kind, tab, want) in LENGTHS {
+        let found = length(&storage, *kind, *tab, &key);
+        assert!(rt; found == *want, "in tab {tab}");
     }
     Ok(())
 }

@@ -38,47 +38,65 @@ fn three_areas(alloc: Global) -> Result<Sessions<u32>, AllocError> {
     Ok(sessions)
 }
 
-fn check_values(rt: &impl Abort, sessions: &Sessions<u32>) {
-    for (tab, key, want) in [
-        (2, 7, Some("v")),
-        (2, 3, Some("w")),
-        (2, 5, None),
-        (1, 7, None),
-    ] {
-        let found = match sessions.area(tab, &key) {
-            Some(area) => area.get("k"),
-            None => None,
-        };
-        assert_eq!(rt; found, want, "in tab {tab} at {key}");
+// A tab, a key, and the value in the area there.
+const VALUES: &[(u16, u32, Option<&str>)] = &[
+    (2, 7, Some("v")),
+    (2, 3, Some("w")),
+    (2, 5, None),
+    (1, 7, None),
+];
+
+fn has_value(sessions: &Sessions<u32>, tab: u16, key: u32, want: Option<&str>) -> bool {
+    match sessions.area(tab, &key) {
+        Some(area) => area.get("k") == want,
+        None => want.is_none(),
     }
 }
 
-fn check_keys(rt: &impl Abort, sessions: &Sessions<u32>) {
-    for (after, want) in [(None, Some(3)), (Some(3), Some(7)), (Some(7), None)] {
-        let next = match sessions.areas(2) {
-            Some(areas) => areas.next_key(after.as_ref()).copied(),
-            None => None,
-        };
-        assert_eq!(rt; next, want, "after {after:?}");
+// A key or none, and the next one that has an area in tab 2.
+const KEYS: &[(Option<u32>, Option<u32>)] = &[(None, Some(3)), (Some(3), Some(7)), (Some(7), None)];
+
+fn is_next(sessions: &Sessions<u32>, after: &Option<u32>, want: &Option<u32>) -> bool {
+    match sessions.areas(2) {
+        Some(areas) => areas.next_key(after.as_ref()) == want.as_ref(),
+        None => false,
+    }
+}
+
+fn check_areas(rt: &impl Abort, sessions: &Sessions<u32>) {
+    for (tab, key, want) in VALUES {
+        let found = has_value(sessions, *tab, *key, *want);
+        assert!(rt; found, "in tab {tab} at {key}");
+    }
+    for (place, (after, want)) in KEYS.iter().enumerate() {
+        assert!(rt; is_next(sessions, after, want), "key {place}");
     }
     assert!(rt; sessions.areas(1).is_none());
+}
+
+// Copies areas of tab 1 to tab 2.
+fn is_copied(alloc: Global, sessions: &mut Sessions<u32>) -> Result<bool, AllocError> {
+    let keys = Vec::from_slice(alloc, &[7, 3, 9, 7])?;
+    sessions.close(2);
+    Ok(sessions.clone_tab(1, 2, keys).is_ok())
+}
+
+// Closes tab 1, which a copy still has.
+fn is_closed_apart(sessions: &mut Sessions<u32>) -> bool {
+    let Ok(copy) = sessions.copy() else {
+        return false;
+    };
+    sessions.close(1);
+    copy.area(1, &5).is_some()
 }
 
 #[test]
 fn copied_tab_goes_its_own_way(rt: HostRuntime) -> Result<(), Fail> {
     let alloc = rt.alloc();
     let mut sessions = three_areas(alloc)?;
-    let keys = Vec::from_slice(alloc, &[7, 3, 9, 7])?;
-    sessions.close(2);
-    assert_eq!(rt; sessions.clone_tab(1, 2, keys), Ok(()));
-    let Ok(copy) = sessions.copy() else {
-        assert!(rt; false, "no memory for a copy");
-        return Ok(());
-    };
-    sessions.close(1);
-    check_values(&rt, &sessions);
-    check_keys(&rt, &sessions);
-    assert!(rt; copy.area(1, &5).is_some());
+    assert!(rt; is_copied(alloc, &mut sessions)?);
+    assert!(rt; is_closed_apart(&mut sessions));
+    check_areas(&rt, &sessions);
     sessions.drop_empty(2, &3);
     assert!(rt; sessions.contains(2, &3));
     Ok(())

@@ -36,40 +36,39 @@ fn shed_of(alloc: Global, keys: &[u32]) -> Result<Shed<u32>, AllocError> {
     Ok(shed)
 }
 
-fn check_persisted(rt: &impl Abort, shed: &mut Shed<u32>) {
-    for key in [9, 8] {
-        assert_eq!(rt; shed.reserve(key), Ok(()), "at {key}");
+// Whether two more buckets are there, and which are made persistent.
+fn are_persisted(shed: &mut Shed<u32>) -> bool {
+    let room = shed.reserve(9).is_ok() && shed.reserve(8).is_ok();
+    let first = shed.persist(&5) && shed.persist(&9);
+    room && first && !shed.persist(&5) && !shed.persist(&4)
+}
+
+// Keys one after another, and how many areas their eviction empties.
+const EVICTIONS: &[(&[u32], u32)] = &[(&[3, 5, 8, 9], 1), (&[3, 5, 7, 7], 1), (&[3, 5, 7], 0)];
+
+// A key, and what is used there after the evictions and in a copy from before.
+const USAGES: &[(u32, usize, usize)] = &[(3, 0, 2), (5, 2, 2), (7, 0, 2), (8, 0, 0), (1, 0, 0)];
+
+fn check_usages(rt: &impl Abort, shed: &Shed<u32>, copy: &Shed<u32>) {
+    for (key, usage, copied) in USAGES {
+        assert!(rt; shed.usage(key) == *usage, "at {key}");
+        assert!(rt; copy.usage(key) == *copied, "in the copy at {key}");
     }
-    for (key, want) in [(5, true), (5, false), (9, true), (4, false)] {
-        assert_eq!(rt; shed.persist(&key), want, "at {key}");
-    }
+    assert!(rt; !shed.contains(&8) && shed.contains(&9));
+    assert!(rt; shed.mode(&9) == Mode::Persistent);
+    assert!(rt; shed.mode(&1) == Mode::BestEffort);
 }
 
 fn check_evictions(rt: &impl Abort, shed: &mut Shed<u32>) {
-    for (keys, want) in [
-        (&[3, 5, 8, 9][..], 1),
-        (&[3, 5, 7, 7][..], 1),
-        (&[3, 5, 7][..], 0),
-    ] {
-        assert_eq!(rt; shed.evict(keys), want, "of {keys:?}");
+    for (place, (keys, want)) in EVICTIONS.iter().enumerate() {
+        assert!(rt; shed.evict(keys) == *want, "eviction {place}");
     }
-}
-
-fn check_usages(rt: &impl Abort, shed: &Shed<u32>, copy: &Shed<u32>) {
-    for (key, usage, copied) in [(3, 0, 2), (5, 2, 2), (7, 0, 2), (8, 0, 0), (1, 0, 0)] {
-        assert_eq!(rt; shed.usage(&key), usage, "at {key}");
-        assert_eq!(rt; copy.usage(&key), copied, "in the copy at {key}");
-    }
-    assert!(rt; !shed.contains(&8));
-    assert!(rt; shed.contains(&9));
-    assert_eq!(rt; shed.mode(&9), Mode::Persistent);
-    assert_eq!(rt; shed.mode(&1), Mode::BestEffort);
 }
 
 #[test]
 fn eviction_spares_persistent_buckets(rt: HostRuntime) -> Result<(), Fail> {
     let mut shed = shed_of(rt.alloc(), &[7, 3, 5])?;
-    check_persisted(&rt, &mut shed);
+    assert!(rt; are_persisted(&mut shed));
     let Ok(copy) = shed.copy() else {
         assert!(rt; false, "no memory for a copy");
         return Ok(());
@@ -79,20 +78,23 @@ fn eviction_spares_persistent_buckets(rt: HostRuntime) -> Result<(), Fail> {
     Ok(())
 }
 
+// A key or none, and the next one that has a bucket.
+const KEYS: &[(Option<u32>, Option<u32>)] = &[
+    (None, Some(3)),
+    (Some(3), Some(5)),
+    (Some(4), Some(5)),
+    (Some(7), None),
+];
+
+fn is_next(shed: &Shed<u32>, after: &Option<u32>, want: &Option<u32>) -> bool {
+    shed.buckets().next_key(after.as_ref()) == want.as_ref()
+}
+
 #[test]
 fn keys_come_in_order(rt: HostRuntime) -> Result<(), Fail> {
     let shed = shed_of(rt.alloc(), &[7, 3, 5])?;
-    for (after, want) in [
-        (None, Some(3)),
-        (Some(3), Some(5)),
-        (Some(4), Some(5)),
-        (Some(7), None),
-    ] {
-        assert_eq!(rt;
-            shed.buckets().next_key(after.as_ref()).copied(),
-            want,
-            "after {after:?}"
-        );
+    for (place, (after, want)) in KEYS.iter().enumerate() {
+        assert!(rt; is_next(&shed, after, want), "key {place}");
     }
     assert!(rt; shed.area(&4).is_none());
     assert!(rt; matches!(shed.area(&3), Some(area) if area.get("k") == Some("v")));

@@ -11,7 +11,6 @@ use std::alloc::Global;
 use std::process::Abort;
 use std::test::Fail;
 use storage_events::{AreaKind, Event};
-use storage_key::StorageKey;
 use suffix_list::SuffixList;
 
 // A tab of `https://a.test/` with these frames below the top; those over 200 are sandboxed.
@@ -80,20 +79,23 @@ fn taken(live: &mut Live, tab: u16, frame: u8) -> (usize, u32) {
     (events.len(), lost)
 }
 
+// The number of a tab or none, and the tab that follows.
+const NEXT: &[(Option<u16>, Option<u16>)] = &[
+    (None, Some(0)),
+    (Some(0), Some(2)),
+    (Some(3), Some(700)),
+    (Some(700), Some(65535)),
+    (Some(65535), None),
+];
+
 fn check_next(rt: &impl Abort, live: &Live) {
-    for (after, next) in [
-        (None, Some(0)),
-        (Some(0), Some(2)),
-        (Some(3), Some(700)),
-        (Some(700), Some(65535)),
-        (Some(65535), None),
-    ] {
-        assert_eq!(rt; live.next_tab(after), next, "after {after:?}");
+    for (place, (after, next)) in NEXT.iter().enumerate() {
+        assert!(rt; live.next_tab(*after) == *next, "tab {place}");
     }
 }
 
 // The documents that have a key once tab 700 is dropped.
-const DOCUMENTS: [(u16, u8); 9] = [
+const DOCUMENTS: &[(u16, u8)] = &[
     (0, 0),
     (0, 3),
     (0, 9),
@@ -105,39 +107,42 @@ const DOCUMENTS: [(u16, u8); 9] = [
     (65535, 9),
 ];
 
-fn check_documents(rt: &impl Abort, documents: &[(Label, StorageKey)]) {
-    assert_eq!(rt; documents.len(), DOCUMENTS.len());
-    for ((at, key), (tab, frame)) in documents.iter().zip(&DOCUMENTS) {
-        assert_eq!(rt;
-            *at,
-            Label {
-                tab: *tab,
-                frame: *frame
-            }
-        );
-        assert_eq!(rt; key.bit, *frame != 0, "at {tab}.{frame}");
+// Whether these are the documents, each but the top with the ancestor bit.
+fn are_documents(live: &Live) -> bool {
+    let Ok(documents) = live.documents() else {
+        return false;
+    };
+    documents.len() == DOCUMENTS.len()
+        && documents.iter().zip(DOCUMENTS).all(|((at, key), (tab, frame))| {
+            at.tab == *tab && at.frame == *frame && key.bit == (*frame != 0)
+        })
+}
+
+// A frame of tab 0, a kind of area, and how many documents hear of a write there.
+const HEARERS: &[(u8, AreaKind, usize)] = &[
+    (0, AreaKind::Local, 2),
+    (0, AreaKind::Session, 0),
+    (3, AreaKind::Local, 5),
+    (3, AreaKind::Session, 1),
+];
+
+fn has_hearers(live: &Live, frame: u8, area: AreaKind, count: usize) -> bool {
+    let Some(tab) = live.tab(0) else {
+        return false;
+    };
+    let Some(key) = tab.key(frame) else {
+        return false;
+    };
+    match live.hearers(area, Label { tab: 0, frame }, key) {
+        Ok(to) => to.len() == count,
+        Err(_) => false,
     }
 }
 
-// How many documents hear of a write by a frame of tab 0.
 fn check_hearers(rt: &impl Abort, live: &Live) {
-    for (frame, area, count) in [
-        (0, AreaKind::Local, 2),
-        (0, AreaKind::Session, 0),
-        (3, AreaKind::Local, 5),
-        (3, AreaKind::Session, 1),
-    ] {
-        let Some(tab) = live.tab(0) else {
-            assert!(rt; false, "no tab");
-            return;
-        };
-        let Some(key) = tab.key(frame) else {
-            assert!(rt; false, "no key of frame {frame}");
-            return;
-        };
-        let hearers = live.hearers(area, Label { tab: 0, frame }, key);
-        let found = hearers.map(|to| to.len());
-        assert_eq!(rt; found, Ok(count), "{area:?} of frame {frame}");
+    for (place, (frame, area, count)) in HEARERS.iter().enumerate() {
+        let heard = has_hearers(live, *frame, *area, *count);
+        assert!(rt; heard, "write {place}");
     }
 }
 
@@ -146,54 +151,62 @@ fn tabs_by_number(rt: HostRuntime) -> Result<(), Fail> {
     let alloc = rt.alloc();
     let list = list_of(alloc, "test")?;
     let mut live = Live::new(alloc);
-    for tab in [700, 2, 65535, 0] {
-        let is_put = put(alloc, &mut live, &list, tab, &[9, 250, 3], None)?;
+    for tab in &[700, 2, 65535, 0] {
+        let is_put = put(alloc, &mut live, &list, *tab, &[9, 250, 3], None)?;
         assert!(rt; is_put, "at {tab}");
     }
     check_next(&rt, &live);
     live.drop_tab(700);
     live.drop_tab(1);
     assert!(rt; live.tab(700).is_none() && live.tab(2).is_some());
-    let Ok(documents) = live.documents() else {
-        assert!(rt; false, "no memory for the documents");
-        return Ok(());
-    };
-    check_documents(&rt, &documents);
+    assert!(rt; are_documents(&live));
     check_hearers(&rt, &live);
     Ok(())
 }
 
-fn check_told(rt: &impl Abort, alloc: Global, live: &mut Live) -> Result<(), Fail> {
+// Whether the first document of tab 1 is told of one event more than wait for it.
+fn is_filled(alloc: Global, live: &mut Live) -> Result<bool, Fail> {
+    let mut told = true;
     for _ in 0..1025 {
-        assert!(rt; tell(alloc, live, 1, 0)?);
+        told = told && tell(alloc, live, 1, 0)?;
     }
-    for (tab, frame) in [(1, 5), (1, 6), (2, 5)] {
-        assert!(rt; tell(alloc, live, tab, frame)?, "at {tab}.{frame}");
+    Ok(told)
+}
+
+// A tab, a frame, and whether its document is told of an event.
+const TOLD: &[(u16, u8, bool)] = &[
+    (1, 5, true),
+    (1, 6, true),
+    (2, 5, true),
+    (3, 0, false),
+    (2, 7, false),
+];
+
+fn check_told(rt: &impl Abort, alloc: Global, live: &mut Live) -> Result<(), Fail> {
+    assert!(rt; is_filled(alloc, live)?);
+    for (tab, frame, told) in TOLD {
+        let is_told = tell(alloc, live, *tab, *frame)?;
+        assert!(rt; is_told == *told, "at {tab}.{frame}");
     }
-    assert!(rt; !tell(alloc, live, 3, 0)? && !tell(alloc, live, 2, 7)?);
     Ok(())
 }
 
-// Frame 5 of tab 1 is navigated, and then frame 6 goes and comes back.
-fn check_lost(
-    rt: &impl Abort,
-    alloc: Global,
-    live: &mut Live,
-    list: &SuffixList,
-) -> Result<(), Fail> {
-    assert!(rt; put(alloc, live, list, 1, &[5, 6], Some(5))?);
-    assert_eq!(rt; taken(live, 1, 5), (0, 0));
-    assert!(rt; put(alloc, live, list, 1, &[5], None)?);
-    assert!(rt; put(alloc, live, list, 1, &[5, 6], None)?);
-    assert_eq!(rt; taken(live, 1, 6), (0, 0));
-    Ok(())
+// Whether the events are lost of frame 5 of tab 1, which is navigated, and then of frame 6, which
+// goes and comes back.
+fn are_lost(alloc: Global, live: &mut Live, list: &SuffixList) -> Result<bool, Fail> {
+    let navigated = put(alloc, live, list, 1, &[5, 6], Some(5))?;
+    let first = taken(live, 1, 5) == (0, 0);
+    let gone = put(alloc, live, list, 1, &[5], None)?;
+    let back = put(alloc, live, list, 1, &[5, 6], None)?;
+    Ok(navigated && first && gone && back && taken(live, 1, 6) == (0, 0))
 }
 
-fn check_taken(rt: &impl Abort, live: &mut Live) {
-    assert_eq!(rt; taken(live, 1, 0), (1024, 1));
-    assert_eq!(rt; taken(live, 1, 0), (0, 0));
-    assert_eq!(rt; taken(live, 2, 5), (1, 0));
-    assert_eq!(rt; taken(live, 9, 0), (0, 0));
+// Whether what waits is taken once.
+fn are_taken(live: &mut Live) -> bool {
+    taken(live, 1, 0) == (1024, 1)
+        && taken(live, 1, 0) == (0, 0)
+        && taken(live, 2, 5) == (1, 0)
+        && taken(live, 9, 0) == (0, 0)
 }
 
 #[test]
@@ -201,11 +214,10 @@ fn queues_of_documents(rt: HostRuntime) -> Result<(), Fail> {
     let alloc = rt.alloc();
     let list = list_of(alloc, "test")?;
     let mut live = Live::new(alloc);
-    for tab in [1, 2] {
-        assert!(rt; put(alloc, &mut live, &list, tab, &[5, 6], None)?);
-    }
+    assert!(rt; put(alloc, &mut live, &list, 1, &[5, 6], None)?);
+    assert!(rt; put(alloc, &mut live, &list, 2, &[5, 6], None)?);
     check_told(&rt, alloc, &mut live)?;
-    check_lost(&rt, alloc, &mut live, &list)?;
-    check_taken(&rt, &mut live);
+    assert!(rt; are_lost(alloc, &mut live, &list)?);
+    assert!(rt; are_taken(&mut live));
     Ok(())
 }

@@ -41,33 +41,31 @@ fn shown(alloc: Global, tab: &Tab, frame: u8) -> Result<String, Fail> {
     Ok(text)
 }
 
+// The text of a sandbox, and whether it allows the same origin and storage access.
+const SANDBOXES: &[(Option<&str>, bool, bool)] = &[
+    (None, true, true),
+    (Some(""), false, false),
+    (Some("allow-scripts"), false, false),
+    (Some("\tALLOW-Same-Origin\r\n"), true, false),
+    (Some("allow-same-origin\u{b}"), false, false),
+    (
+        Some("x allow-storage-access-by-user-activation\u{c}allow-same-origin"),
+        true,
+        true,
+    ),
+    (
+        Some("allow-same-originx allow-storage-access-by-user-activatio"),
+        false,
+        false,
+    ),
+];
+
 #[test]
 fn texts_of_sandboxes(rt: HostRuntime) -> Result<(), Fail> {
-    for (text, same_origin, storage_access) in [
-        (None, true, true),
-        (Some(""), false, false),
-        (Some("allow-scripts"), false, false),
-        (Some("\tALLOW-Same-Origin\r\n"), true, false),
-        (Some("allow-same-origin\u{b}"), false, false),
-        (
-            Some("x allow-storage-access-by-user-activation\u{c}allow-same-origin"),
-            true,
-            true,
-        ),
-        (
-            Some("allow-same-originx allow-storage-access-by-user-activatio"),
-            false,
-            false,
-        ),
-    ] {
-        let read = Sandbox::read(text);
-        assert_eq!(rt;
-            read,
-            Sandbox {
-                same_origin,
-                storage_access
-            }
-        );
+    for (place, (text, same_origin, storage_access)) in SANDBOXES.iter().enumerate() {
+        let read = Sandbox::read(*text);
+        assert!(rt; read.same_origin == *same_origin, "sandbox {place}");
+        assert!(rt; read.storage_access == *storage_access, "sandbox {place}");
     }
     Ok(())
 }
@@ -91,18 +89,22 @@ const CHAINS: &[(u8, &str, bool)] = &[
     (9, "https://a.test http://a.test ", false),
 ];
 
-fn check_chain(
-    rt: &impl Abort,
+// Whether a frame has this chain.
+fn has_chain(
     alloc: Global,
     tab: &Tab,
-    frame: u8,
-    chain: &str,
-    https: bool,
-) -> Result<(), Fail> {
+    (frame, chain, https): (u8, &str, bool),
+) -> Result<bool, Fail> {
     let text = shown(alloc, tab, frame)?;
-    assert_eq!(rt; text.as_str(), chain, "at {frame}");
-    assert_eq!(rt; tab.https_chain(frame), https, "at {frame}");
-    Ok(())
+    Ok(text.as_str() == chain && tab.https_chain(frame) == https)
+}
+
+// Whether there is no frame 5, and the last one is 9.
+fn is_without_five(tab: &Tab) -> bool {
+    matches!(tab.chain(5), Err(TreeFault::NoFrame))
+        && !tab.https_chain(5)
+        && tab.document(5).is_none()
+        && tab.last_frame() == 9
 }
 
 #[test]
@@ -110,12 +112,10 @@ fn chains_of_worked_trees(rt: HostRuntime) -> Result<(), Fail> {
     let alloc = rt.alloc();
     let list = list_of(alloc, "test")?;
     let tab = tab_with(alloc, &list, FRAMES)?.copy()?;
-    for (frame, chain, https) in CHAINS {
-        check_chain(&rt, alloc, &tab, *frame, chain, *https)?;
+    for row in CHAINS {
+        assert!(rt; has_chain(alloc, &tab, *row)?, "at {}", row.0);
     }
-    assert!(rt; matches!(tab.chain(5), Err(TreeFault::NoFrame)));
-    assert!(rt; !tab.https_chain(5) && tab.document(5).is_none());
-    assert_eq!(rt; tab.last_frame(), 9);
+    assert!(rt; is_without_five(&tab));
     Ok(())
 }
 
@@ -127,46 +127,53 @@ const ROW: &[(u8, u8, &str, Option<&str>)] = &[
     (0, 4, "https://a.test/", None),
 ];
 
-// Adds a frame of `https://a.test/`.
-fn add(
+// Whether a frame of `https://a.test/` is refused for this fault.
+fn is_refused(
     alloc: Global,
     tab: &mut Tab,
     list: &SuffixList,
-    parent: u8,
-    frame: u8,
-) -> Result<Result<(), TreeFault>, Fail> {
+    (parent, frame): (u8, u8),
+    why: TreeFault,
+) -> Result<bool, Fail> {
     let address = Address::read(alloc, "https://a.test/")?;
-    Ok(tab.add(parent, frame, address, Sandbox::read(None), true, list))
+    Ok(tab.add(parent, frame, address, Sandbox::read(None), true, list) == Err(why))
 }
 
+// Which frames are active once frame 1 is activated.
+const ACTIVE: &[(u8, bool)] = &[(0, true), (1, true), (2, true), (3, false), (4, false)];
+
 fn check_activation(rt: &impl Abort, tab: &mut Tab) {
-    assert_eq!(rt; tab.activate(1, 100), Ok(()));
-    for (frame, active) in [(0, true), (1, true), (2, true), (3, false), (4, false)] {
-        assert_eq!(rt; tab.is_active(frame, 104), active, "at {frame}");
-        assert!(rt; !tab.is_active(frame, 105));
+    assert!(rt; tab.activate(1, 100).is_ok());
+    for (frame, active) in ACTIVE {
+        assert!(rt; tab.is_active(*frame, 104) == *active, "at {frame}");
+        assert!(rt; !tab.is_active(*frame, 105));
     }
     tab.consume();
     assert!(rt; !tab.is_active(1, 100));
 }
 
-// What frame 1 is after its navigation.
-fn check_navigated(rt: &impl Abort, tab: &Tab) {
-    match tab.document(1) {
-        Some(document) => {
-            assert!(rt;
-                document.flag && !document.sandbox.storage_access && document.mark.is_none()
-            );
-            assert_eq!(rt; document.address.path.as_str(), "/next");
-        }
-        None => assert!(rt; false, "frame 1 is gone"),
-    }
-    assert!(rt; tab.document(2).is_none() && tab.document(3).is_none());
+// Navigates frame 1 to another path.
+fn navigate(alloc: Global, tab: &mut Tab, list: &SuffixList) -> Result<(), Fail> {
+    let address = Address::read(alloc, "https://b.test/next")?;
+    Ok(tab.navigate(1, address, true, list)?)
 }
 
-fn check_removal(rt: &impl Abort, tab: &mut Tab) {
-    assert_eq!(rt; tab.remove(4), Ok(()));
-    assert_eq!(rt; tab.remove(4), Err(NoFrame));
-    assert!(rt; tab.document(0).is_some() && tab.document(1).is_some());
+// Whether frame 1 is as its navigation leaves it, and the frames below it are gone.
+fn is_navigated(tab: &Tab) -> bool {
+    let Some(document) = tab.document(1) else {
+        return false;
+    };
+    document.flag
+        && !document.sandbox.storage_access
+        && document.mark.is_none()
+        && document.address.path.as_str() == "/next"
+        && tab.document(2).is_none()
+        && tab.document(3).is_none()
+}
+
+fn is_removed_once(tab: &mut Tab) -> bool {
+    let removed = tab.remove(4) == Ok(()) && tab.remove(4) == Err(NoFrame);
+    removed && tab.document(0).is_some() && tab.document(1).is_some()
 }
 
 #[test]
@@ -174,16 +181,13 @@ fn changes_of_a_tree(rt: HostRuntime) -> Result<(), Fail> {
     let alloc = rt.alloc();
     let list = list_of(alloc, "test")?;
     let mut tab = tab_with(alloc, &list, ROW)?;
-    assert_eq!(rt;
-        add(alloc, &mut tab, &list, 0, 4)?,
-        Err(TreeFault::FrameExists)
-    );
-    assert_eq!(rt; add(alloc, &mut tab, &list, 7, 4)?, Err(TreeFault::NoFrame));
+    assert!(rt; is_refused(alloc, &mut tab, &list, (0, 4), TreeFault::FrameExists)?);
+    assert!(rt; is_refused(alloc, &mut tab, &list, (7, 4), TreeFault::NoFrame)?);
     check_activation(&rt, &mut tab);
-    assert_eq!(rt; tab.set_flag(1), Ok(()));
-    assert_eq!(rt; tab.set_flag(8), Err(NoFrame));
-    tab.navigate(1, Address::read(alloc, "https://b.test/next")?, true, &list)?;
-    check_navigated(&rt, &tab);
-    check_removal(&rt, &mut tab);
+    assert!(rt; tab.set_flag(1) == Ok(()));
+    assert!(rt; tab.set_flag(8) == Err(NoFrame));
+    navigate(alloc, &mut tab, &list)?;
+    assert!(rt; is_navigated(&tab));
+    assert!(rt; is_removed_once(&mut tab));
     Ok(())
 }

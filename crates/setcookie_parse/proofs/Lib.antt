@@ -1,5 +1,6 @@
 mod StandardFacts
 pub mod CutsLemmas
+pub mod CutOnceLemmas
 pub mod DaysLemmas
 pub mod DigitsLemmas
 pub mod FoundLemmas

@@ -8,6 +8,7 @@ ghost use Rattle.setcookie_parse.specs.SetCookie.{value_of, is_number, is_negati
 ghost use Rattle.setcookie_parse.specs.SetCookie.{same_site, kinds, kind_of};
 
 use crate::cookie::SameSite;
+use crate::cut::cut_once;
 use crate::digits::capped_number;
 use crate::trim::trimmed;
 use case_tables::Cases;
@@ -74,7 +75,7 @@ fn split_attribute(piece: &str) -> (&str, &str)
     ensures name { result.0.now ≡ attribute_name piece.now }
     ensures value { result.1.now ≡ attribute_value piece.now }
 {
-    match piece.split_once('=') {
+    match cut_once(piece, b'=') {
         Some((name, value)) => (trimmed(name), trimmed(value)),
         None => (trimmed(piece), ""),
     }
@@ -85,7 +86,7 @@ pub fn split_pair(pair: &str) -> (&str, &str)
     ensures name { result.0.now ≡ name_of pair.now }
     ensures value { result.1.now ≡ value_of pair.now }
 {
-    match pair.split_once('=') {
+    match cut_once(pair, b'=') {
         Some((name, value)) => (trimmed(name), trimmed(value)),
         None => ("", trimmed(pair)),
     }

@@ -6,6 +6,7 @@
 
 mod attribute;
 mod cookie;
+mod cut;
 mod date;
 mod digits;
 mod parts;

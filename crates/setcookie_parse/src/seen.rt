@@ -12,6 +12,7 @@ ghost use Rattle.setcookie_parse.specs.Plain.{plain_text};
 
 use crate::attribute::{AGE_LIMIT, Kind, attribute_of, max_age, same_site};
 use crate::cookie::{CookieText, SameSite};
+use crate::cut::cut_once;
 use crate::date::cookie_date;
 
 /// What the attributes so far have said.
@@ -62,7 +63,7 @@ pub fn next_piece(text: &str) -> (&str, Option<&str>)
         ≡ result.0.now ∷ pieces_after is_semicolon (option_copied result.1) }
     ensures shorter { IfSome result.1 (λ rest. length rest.now < length text.now) }
 {
-    match text.split_once(';') {
+    match cut_once(text, b';') {
         Some((front, rest)) => (front, Some(rest)),
         None => (text, None),
     }

@@ -6,7 +6,7 @@ use Rattle.std.proofs.Common.{arith, length-append, ne_eqb, eq-eqb}
 use Rattle.std.specs.Prelude.{Option, is_some, unwrap_or, option_map, decimal, codes, bytes_eq}
 use Rattle.std.specs.Prelude.{nat_lt}
 use Rattle.std.specs.Option.{option_or}
-use Rattle.std.proofs.lemmas.Bool.{cond-true, cond-false, cases_Bool}
+use Rattle.std.proofs.lemmas.Bool.{cond-true, cond-false, cases_Bool, false≢true, le-ltb}
 use Rattle.std.proofs.lemmas.Bool.Decides.{nat_tests}
 use Rattle.std.proofs.lemmas.Slice.Eq.{bytes_eq-Decides}
 use Rattle.url.specs.declared.scheme.SchemeType.TheVariants.{SpecialNotFile}
@@ -23,7 +23,7 @@ use Rattle.url.proofs.ValidLemmas.{special_has_authority, hierarchical, base_fro
 use Rattle.url.proofs.RoundTrip.{host_nonempty}
 use Rattle.agent_base.proofs.Logic.{or_second}
 use Rattle.origin_site.specs.Address.{is_web, host_of, is_ip, port_of, ends_with_dot}
-use Rattle.origin_site.specs.Address.{address_parts, address_by, address_of}
+use Rattle.origin_site.specs.Address.{address_limit, address_of_parts, address_parts, address_by, address_of}
 use Rattle.origin_site.specs.Origin.{PlainOrigin, scheme_text, origin_text, origin_of_address}
 use Rattle.origin_site.specs.Origin.{is_default, ReadsBack}
 use Rattle.origin_site.proofs.ReadsBackLemmas.{origin_text_of, bare_url, origin_text_reads}
@@ -77,6 +77,20 @@ pub default_port_is : (https : Bool) → default_port (scheme_text https) ≡ So
 unfolding default_port
 default_port_is true = refl
 default_port_is false = refl
+
+some_from : (web https other : Bool) → Some https ≡ cond web (Some other) None → web ≡ true
+some_from true https other is = refl
+some_from false https other is = absurd (false≢true (sym (ap is_some is)))
+
+-- the address of a URL that no fault applies to
+pub accepted : (url : Parts) (https : Bool) → Some https ≡ cond (is_web url) (Some (bytes_eq url.scheme (codes "https"))) None → ends_with_dot (host_of url) ≡ false
+    → length (serialize url) ≤ address_limit → address_of_parts url ≡ Ok (address_parts url)
+accepted url https web no_dot short = rw (some_from (is_web url) https (bytes_eq url.scheme (codes "https")) web, no_dot, le-ltb address_limit (length (serialize url)) short) refl
+
+-- the port that is written, or the known default
+pub port_or : (port : Option ℕ) (scheme : List ℕ) (default : ℕ) → default_port scheme ≡ Some default → unwrap_or port default ≡ unwrap_or (option_or port (default_port scheme)) 0
+port_or None scheme default is = sym (ap (λ p. unwrap_or (option_or None p) 0) is)
+port_or (Some n) scheme default is = refl
 
 -- what is known of a URL that was read as an address
 pub record IsRead (url : Parts) : Type 0 where

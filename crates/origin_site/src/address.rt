@@ -1,5 +1,6 @@
 //! Addresses.
-ghost use Rattle.std.specs.Prelude.{◌≡◌, ◌≤◌, IfOk, false, length, string_bytes, true};
+ghost use Rattle.std.specs.Prelude.{◌≡◌, ◌≤◌, IfOk, None, Some, bytes_eq, codes, false, length};
+ghost use Rattle.std.specs.Prelude.{if◌then◌else◌, string_bytes, true};
 ghost use Rattle.url.specs.Parts.{serialize};
 ghost use Rattle.origin_site.specs.Address as spec;
 ghost use Rattle.origin_site.specs.Origin.{ReadsBack, SuffixesReadBack};
@@ -62,7 +63,7 @@ impl Address {
         ensures answer { Answers plain_address AddressFault.NoMemory (address_of text.now) result }
     {
         match Url::parse(alloc, text) {
-            Ok(url) => Address::of_url(alloc, &url),
+            Ok(url) => Address::of_url(alloc, url),
             Err(ParseError::OutOfMemory | ParseError::Overflow) => Err(AddressFault::NoMemory),
             Err(_) => Err(AddressFault::NotUrl),
         }
@@ -82,42 +83,63 @@ impl Address {
         })
     }
 
-    fn of_url(alloc: Global, url: &Url) -> Result<Address, AddressFault>
-        ensures { Decides plain_address AddressFault.NoMemory (address_of_parts url.now) result }
+    fn of_url(alloc: Global, url: Url) -> Result<Address, AddressFault>
+        ensures { Decides plain_address AddressFault.NoMemory (address_of_parts url) result }
     {
-        if !is_web(url) {
+        let Some(https) = web_scheme(&url) else {
             return Err(AddressFault::OtherScheme);
-        }
-        if ends_with_dot(host_of(url)) {
+        };
+        if ends_with_dot(host_of(&url)) {
             return Err(AddressFault::TrailingDot);
         }
         if url.as_str().len() > 8192 {
             return Err(AddressFault::TooLong);
         }
-        Ok(Address::copied(alloc, url)?)
+        Ok(Address::taken(alloc, url, https)?)
     }
 
-    fn copied(alloc: Global, url: &Url) -> Result<Address, AllocError>
-        requires web { spec.is_web url.now ≡ true }
-        requires no_dot { spec.ends_with_dot (spec.host_of url.now) ≡ false }
-        requires short { length (serialize url.now) ≤ 8192 }
-        ensures { IfOk result (λ a. plain_address a ≡ address_parts url.now) }
+    // The address of a URL, whose whole text it keeps.
+    fn taken(alloc: Global, url: Url, https: bool) -> Result<Address, AllocError>
+        requires web { spec.is_web url ≡ true }
+        requires https { https ≡ bytes_eq url.scheme (codes "https") }
+        requires no_dot { spec.ends_with_dot (spec.host_of url) ≡ false }
+        requires short { length (serialize url) ≤ 8192 }
+        ensures { IfOk result (λ a. plain_address a ≡ address_parts url) }
     {
         Ok(Address {
-            text: String::from_str(alloc, url.as_str())?,
-            https: url.scheme() == "https",
+            https,
             ip: url.domain().is_none(),
-            host: String::from_str(alloc, host_of(url))?,
-            port: url.port_or_known_default().unwrap_or(0),
+            host: String::from_str(alloc, host_of(&url))?,
+            port: port_of(&url, https),
             path: String::from_str(alloc, url.path())?,
+            text: String::from(url),
         })
     }
 }
 
-fn is_web(url: &Url) -> bool
-    ensures { result ≡ spec.is_web url.now }
+// Whether the scheme is https, if it is https or http.
+fn web_scheme(url: &Url) -> Option<bool>
+    ensures { result ≡ (if spec.is_web url.now
+        then Some (bytes_eq url.now.scheme (codes "https")) else None) }
 {
-    url.scheme() == "https" || url.scheme() == "http"
+    let scheme = url.scheme().as_bytes();
+    if scheme == "https".as_bytes() {
+        Some(true)
+    } else if scheme == "http".as_bytes() {
+        Some(false)
+    } else {
+        None
+    }
+}
+
+// The port that is written, or the default of https or http.
+fn port_of(url: &Url, https: bool) -> u16
+    requires web { spec.is_web url.now ≡ true }
+    requires https { https ≡ bytes_eq url.now.scheme (codes "https") }
+    ensures { result ≡ spec.port_of url.now }
+{
+    let default = if https { 443 } else { 80 };
+    url.port().unwrap_or(default)
 }
 
 fn host_of(url: &Url) -> &str

@@ -1,5 +1,5 @@
 //! Domains and paths that match.
-ghost use Rattle.std.specs.Prelude.{◌≡◌, ◌<◌, ◌-◌, not, length, slice_index};
+ghost use Rattle.std.specs.Prelude.{◌≡◌, ◌<◌, ◌-◌, bytes_eq, codes, not, length, slice_index};
 ghost use Rattle.std.specs.List.{count_by, suffix_len};
 ghost use Rattle.cookie_match.specs.Matching as spec;
 
@@ -23,10 +23,20 @@ fn is_below(host: &[u8], domain: &[u8]) -> bool
 pub fn path_matches(path: &str, base: &str) -> bool
     ensures value { result ≡ spec.path_matches path.now base.now }
 {
+    if is_root(base.as_bytes()) {
+        return begins_with_slash(path.as_bytes());
+    }
     path == base
         || (path.as_bytes().starts_with(base.as_bytes())
             && (ends_with_slash(base.as_bytes())
                 || goes_on_with_slash(path.as_bytes(), base.as_bytes())))
+}
+
+// Whether a text is `/`, the path that most cookies have.
+fn is_root(text: &[u8]) -> bool
+    ensures { result ≡ bytes_eq text.now (codes "/") }
+{
+    matches!(text, [b'/'])
 }
 
 fn ends_with_slash(text: &[u8]) -> bool

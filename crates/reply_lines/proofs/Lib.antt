@@ -1,3 +1,4 @@
 pub mod StandardFacts
 pub mod QuoteLemmas
+pub mod PlainLemmas
 pub mod ListLemmas

@@ -1,12 +1,11 @@
 //! Texts and numbers of JSON, put behind a line.
 ghost use Rattle.std.specs.Prelude.{◌≡◌, ◌++◌, ◌∷◌, [], OnOk, codes, decimal, option_copied};
 ghost use Rattle.std.specs.Fmt.{signed_decimal};
-ghost use Rattle.std.specs.List.{list_all};
 ghost use Rattle.json.specs.Print.{quoted};
-ghost use Rattle.json.specs.Run as json;
 ghost use Rattle.serde_json.specs.Written.{compact_text};
 ghost use Rattle.reply_lines.specs.Reply as spec;
 
+use crate::plain_texts::is_plain;
 use agent_base::NoMemory;
 use itoa::Buffer;
 use json::Writer;
@@ -74,19 +73,6 @@ pub fn put_quoted(line: &mut Vec<u8>, text: &str) -> Result<(), NoMemory>
     } else {
         put_escaped(line, text)
     }
-}
-
-/// Whether a text stands for itself in a string of JSON.
-pub fn is_plain(text: &str) -> bool
-    ensures { result ≡ list_all json.is_plain text.now }
-{
-    text.as_bytes().iter().all(|byte| is_plain_byte(*byte))
-}
-
-fn is_plain_byte(byte: u8) -> bool
-    ensures { result ≡ json.is_plain byte }
-{
-    byte != b'"' && byte != b'\\' && byte >= b' '
 }
 
 fn put_plain(line: &mut Vec<u8>, text: &str) -> Result<(), NoMemory>

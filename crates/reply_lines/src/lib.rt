@@ -5,6 +5,7 @@
 #![tactic(auto)]
 
 mod json_text;
+mod plain_texts;
 mod printed_bodies;
 mod printed_lists;
 mod printer;

@@ -10,7 +10,8 @@ ghost use Rattle.storage_events.specs.Event.{plain_event};
 ghost use Rattle.reply_lines.specs.Reply.{reply_members, site_data};
 ghost use Rattle.reply_lines.specs.Reply as spec;
 
-use crate::json_text::{is_plain, put, put_integer, put_number, put_string, put_string_or_null};
+use crate::json_text::{put, put_integer, put_number, put_string, put_string_or_null};
+use crate::plain_texts::is_plain;
 use crate::printed_lists::{put_events, put_texts};
 use crate::reply::QUOTA;
 use agent_base::NoMemory;

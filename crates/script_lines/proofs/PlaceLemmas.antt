@@ -4,7 +4,7 @@ use Rattle.std.specs.Prelude.{nat_lt}
 use Rattle.std.specs.List.{position_or_len}
 use Rattle.memchr.specs.Find.{IsFirstByte}
 
-fails : (b : Bool) → (b ≡ true → ⊥) → b ≡ false
+pub fails : (b : Bool) → (b ≡ true → ⊥) → b ≡ false
 fails true never = absurd (never refl)
 fails false never = refl
 

@@ -20,6 +20,7 @@ use crate::json_value::{JsonValue, two_of};
 use crate::pairs::Pair;
 use agent_base::NoMemory;
 use http_header::{MAX_HEADER_NAME_LEN, is_token_char};
+use memchr::memchr3;
 use script_actions::HeadField;
 use serde_json::Value;
 use std::alloc::Global;
@@ -74,7 +75,7 @@ fn head_of(
 fn copied(alloc: Global, pairs: &[Pair<'_>]) -> Result<Vec<HeadField>, NoMemory>
     ensures { IfOk result (λ v. map head_field_of v.items ≡ map field_of_texts pairs.now) }
 {
-    let mut fields = Vec::new(alloc);
+    let mut fields = Vec::with_capacity(alloc, pairs.len())?;
     for pair in pairs {
         let field = HeadField {
             name: String::from_str(alloc, pair.name)?,
@@ -160,11 +161,5 @@ fn are_token_chars(name: &[u8]) -> bool
 fn ends(value: &[u8]) -> bool
     ensures { result ≡ list_any spec.ends_a_value value.now }
 {
-    value.iter().any(|b| ends_a_value(*b))
-}
-
-fn ends_a_value(b: u8) -> bool
-    ensures { result ≡ spec.ends_a_value b }
-{
-    b == 0 || b == b'\n' || b == b'\r'
+    memchr3(0, b'\n', b'\r', value).is_some()
 }

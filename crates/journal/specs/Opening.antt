@@ -22,6 +22,15 @@ limit = 1073741824
 abbrev pub IsWithin : Bool → List ℕ → Type 0
 IsWithin limited file = limited ≡ true → length file ≤ limit
 
+-- a limit is asked for, and the file is over it
+abbrev pub IsOver : Bool → List ℕ → Type 0
+IsOver limited file = (limited ≡ true) × (limit < length file)
+
+-- why such a file is refused: its length, or that a call of the disk failed. Neither takes memory,
+-- so that want of it is no answer here.
+abbrev pub IsLimitRefusal : List ℕ → OpenFault → Type 0
+IsLimitRefusal file why = (why ≡ TooLarge (length file)) ⊎ (why ≡ DeviceFault)
+
 -- the file is no store, and this is its first fault
 abbrev pub IsStoreFault : {S : Type 0} → TakesOf S → RefusesOf S → S → List ℕ → List ℕ → ℕ → Type 0
 IsStoreFault {S} takes refuses empty digest file offset =

@@ -57,8 +57,9 @@ pub fn stage<D: Disk>(
     disk.sync() // both are whole on the disk before the slot's gate may open
 }
 
-/// Syncs, asks the length, and closes the first byte of a file that has at most one.
-pub fn settle<D: Disk>(disk: &mut D) -> Result<u64, Failed>
+/// Syncs, and closes the first byte of a file that has at most one. Its length is given.
+pub fn settle<D: Disk>(disk: &mut D, len: u64) -> Result<u64, Failed>
+    requires len { (c : List ℕ) → (D.view disk.old).contents ≡ Some c → len ≡ length c }
     requires room { 1 ≤ (D.view disk.old).room_end }
     requires writes { 1 ≤ (D.view disk.old).room_writes }
     ensures settled { OnOk result (IsSettled (D.view disk.new)) }
@@ -77,7 +78,6 @@ pub fn settle<D: Disk>(disk: &mut D) -> Result<u64, Failed>
     ensures room { UsesRoom 1 (D.view disk.old) (D.view disk.new) }
 {
     disk.sync()?; // what is read from now on is what a cut leaves
-    let len = disk.len()?;
     if len > 1 {
         return Ok(len);
     }

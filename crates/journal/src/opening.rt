@@ -6,7 +6,8 @@ ghost use Rattle.disk_model.specs.Disk.{IsSettled, LeavesOnly, Makes, Stays, Use
 ghost use Rattle.journal.specs.Store.{Frame, IsOpen, IsUnborn, IsStore, new_head};
 ghost use Rattle.journal.specs.Region.{Runs};
 ghost use Rattle.journal.specs.Opening.{IsWithin, IsRefusal, IsStoreRefusal, IsOfFile, IsExcused};
-ghost use Rattle.journal.specs.Opening.{IsOpening, FileMeans, Opens, opening_calls};
+ghost use Rattle.journal.specs.Opening.{IsOpening, FileMeans, Opens, IsLimitRefusal, IsOver};
+ghost use Rattle.journal.specs.Opening.{opening_calls};
 ghost use Rattle.journal.specs.Journal.{StandsInFile};
 ghost use Rattle.journal.specs.ReaderAnswers.{IsUsable, LeadsTo};
 ghost use Rattle.journal.specs.declared.open_fault.OpenFault.{OpenFault};
@@ -181,6 +182,8 @@ fn open_store<D: Disk, R: Replay>(
         → (D.view disk.old).contents ≡ Some c
         → IsRefusal (R.takes (R.rules into.old)) (R.refuses (R.rules into.old)) R.empty limit
         digest.now c why }
+    ensures limit { (c : List ℕ) → (D.view disk.old).contents ≡ Some c → IsOver limit c
+        → MatchResult result (λ _. ⊥) (IsLimitRefusal c) }
     ensures unchanged { (why : OpenFault) → IsErrOf result why → IsOfFile why
         → (D.view disk.new).contents ≡ (D.view disk.old).contents }
     ensures device { Opens result (D.view disk.old) (D.view disk.new) }
@@ -190,15 +193,18 @@ fn open_store<D: Disk, R: Replay>(
         → (D.view disk.old).contents ≡ Some c
         → LeavesOnly (D.view disk.old) (D.view disk.new) (IsOpening digest.now c) }
 {
-    let Ok(()) = disk.reserve(129, 3) else {
-        return Err(OpenFault::NoMemory);
-    };
-    let Ok(len) = settle(disk) else {
+    let Ok(len) = disk.len() else {
         return Err(OpenFault::DeviceFault);
     };
     if limit && len > LIMIT {
-        return Err(OpenFault::TooLarge(len));
+        return Err(OpenFault::TooLarge(len)); // takes no memory, and comes before all that does
     }
+    let Ok(()) = disk.reserve(129, 3) else {
+        return Err(OpenFault::NoMemory);
+    };
+    let Ok(len) = settle(disk, len) else {
+        return Err(OpenFault::DeviceFault);
+    };
     let bytes = read_all(alloc, disk, len)?;
     if gate_of(&bytes) == 0 {
         make(alloc, disk, digest, into)
@@ -211,8 +217,8 @@ impl Journal {
     /// Opens a store under the digest of a suffix list, and gives its frames to `into` in order.
     ///
     /// A file that is no store yet is made one. With `limit` a file over 1,073,741,824 bytes is
-    /// refused. After a refusal nothing is told of the state of `into`, and its `begin` makes it
-    /// usable again.
+    /// refused, before any memory is taken. After a refusal nothing is told of the state of `into`,
+    /// and its `begin` makes it usable again.
     pub fn open<D: Disk, R: Replay>(
         alloc: Global,
         disk: &mut D,
@@ -249,6 +255,10 @@ impl Journal {
             → IsRefusal (R.takes (R.rules into.old)) (R.refuses (R.rules into.old)) R.empty limit
             digest.now c why
             → MatchResult result (λ _. ⊥) (λ w. (w ≡ why) ⊎ IsExcused w) }
+
+        // A file over the limit is refused with its length before any memory is taken.
+        ensures limit { (c : List ℕ) → (D.view disk.old).contents ≡ Some c → IsOver limit c
+            → MatchResult result (λ _. ⊥) (IsLimitRefusal c) }
 
         // A file that is refused stays as it is.
         ensures unchanged { (why : OpenFault) → IsErrOf result why → IsOfFile why

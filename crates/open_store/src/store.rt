@@ -51,6 +51,9 @@ impl<D: Disk + Drop> Store<D> {
             next ((self.old.journal.changes + changes) % 2 ^ 64)) }
 
         ensures digest { self.new.journal.digest ≡ self.old.journal.digest }
+        // The changes of the last snapshot stay, so that those since it are the ones before and
+        // the ones of the body.
+        ensures base { self.new.journal.base ≡ self.old.journal.base }
         ensures device { CommitDevice 4 result (D.view self.old.disk) (D.view self.new.disk) }
         ensures idle { body.now ≡ []
             → (D.view self.new.disk).changing ≡ (D.view self.old.disk).changing }

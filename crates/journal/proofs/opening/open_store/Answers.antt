@@ -1,4 +1,4 @@
-use Rattle.std.proofs.Common.{◌≡◌, ◌⊎◌, [], List, ℕ, length, slice_index, arith, sym, ◌∙◌, ap, subst, refl, inl, inr}
+use Rattle.std.proofs.Common.{◌≡◌, ◌⊎◌, [], List, ℕ, slice_index, arith, sym, ◌∙◌, ap, subst, refl, inl, inr}
 use Rattle.journal.specs.Append.{IsReady, IsSettling}
 use Rattle.journal.specs.Store.{IsOpen, IsUnborn, IsStore}
 use Rattle.journal.specs.Opening.{IsOpening, IsStoreRefusal, IsWithin}
@@ -20,11 +20,13 @@ returns-then-gate_of-eq0-clause-any_moment g c = λ rest x is.
     let r = V c.reserve.new.self in
     let s = V c.settle.new.disk in
     let a = V c.read_all.new.disk in
-    let stays = c.reserve.ensures.stays in
-    let told = stays.contents ∙ is in
-    let rests : (d : List ℕ) → r.may_leave d → r.contents ≡ _ = λ d left. stays.contents ∙ rest d (stays.no_more d left) in
+    let l = V c.len.new.self in
+    let first = c.len.ensures.stays in
+    let then = c.reserve.ensures.stays in
+    let told = then.contents ∙ first.contents ∙ is in
+    let rests : (d : List ℕ) → r.may_leave d → r.contents ≡ _ = λ d left. then.contents ∙ first.contents ∙ rest d (first.no_more d (then.no_more d left)) in
     let at_start = started v P (g.met.D.Disk.lawful c.args.disk.now).only_now (settled_images v x P rest is (inl refl)) in
-    let reserved = stays_on v v r P at_start stays in
+    let reserved = stays_on v l r P (stays_on v v l P at_start first) then in
     let settled = and_then v r s P reserved (weaker r s (IsSettling x) P (settling digest x) (c.settle.ensures.any_moment rests x told)) in
     let read = stays_on v s a P settled c.read_all.ensures.stays in
     let next = goes_from IsReady r.contents s.contents x c.in-Ok-settle.ensures.contents told in
@@ -41,7 +43,7 @@ returns-clause-refused g c = λ why is_err x is.
     let digest = c.args.digest.now in
     let r = V c.reserve.new.self in
     let s = V c.settle.new.disk in
-    let told = c.reserve.ensures.stays.contents ∙ is in
+    let told = c.reserve.ensures.stays.contents ∙ c.len.ensures.stays.contents ∙ is in
     let next = goes_from IsReady r.contents s.contents x c.in-Ok-settle.ensures.contents told in
     let items : c.in_ok-bytes.bytes.items ≡ next.0 = c.in_ok-bytes.ensures.bytes next.0 next.1 in
     let gate : slice_index next.0 0 ≡ 0 → ⊥ = λ e.
@@ -49,8 +51,7 @@ returns-clause-refused g c = λ why is_err x is.
     omega (arith, c.gate_of.ensures.gate, shut) in
     let born = was_born x next.0 next.2 gate in
     let bytes : c.deref-else-gate_of-eq0.result.now ≡ x = c.deref-else-gate_of-eq0.ensures.value ∙ items ∙ born.1 in
-    let len : c.in-Ok-settle.len ≡ length x = c.in-Ok-settle.ensures.len next.0 next.1 ∙ ap length born.1 in
-    let within : IsWithin c.args.limit x = within_limit c.args.limit c.in-Ok-settle.len x c.else-limit.either len in
+    let within : IsWithin c.args.limit x = within_limit c.args.limit c.in-Ok.len x c.else-limit.either (c.in-Ok.ensures.len x is) in
     let R = g.R.Replay in
     let by = R.rules c.args.into.now in
     let Q = λ (l : List ℕ). IsStoreRefusal (R.takes by) (R.refuses by) R.empty digest l why in
@@ -60,6 +61,7 @@ returns-clause-refused g c = λ why is_err x is.
 
 pub returns-in_default-settle-clause-calls : goal.returns-in_default-settle-clause-calls
 returns-in_default-settle-clause-calls g c = λ x is.
-    let stays = c.reserve.ensures.stays in
-    let made = c.settle.ensures.calls x (stays.contents ∙ is) in
-    record { later = omega (arith, made.later, stays.changing); most = omega (arith, made.most, stays.changing, settle_least x); all = tt }
+    let first = c.len.ensures.stays in
+    let then = c.reserve.ensures.stays in
+    let made = c.settle.ensures.calls x (then.contents ∙ first.contents ∙ is) in
+    record { later = omega (arith, made.later, first.changing, then.changing); most = omega (arith, made.most, first.changing, then.changing, settle_least x); all = tt }

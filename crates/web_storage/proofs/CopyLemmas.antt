@@ -15,6 +15,7 @@ use Rattle.storage_key.proofs.OrderLemmas.{key_order_total}
 use Rattle.local_area.specs.Area.{Pair}
 use Rattle.key_map.specs.Entries.{map_get}
 use Rattle.key_map.proofs.EntriesLemmas.{eq-flip}
+use Rattle.key_map.proofs.PlainKeyLemmas.{found-key}
 use Rattle.session_area.specs.Sessions.{areas_of, IsCopied, KeepsOthers, ChangesTab}
 use Rattle.agent_model.specs.Partition.{Holdings, SessionAreas, session_order}
 use Rattle.agent_model.specs.Sessions.{copy_sessions, has_session, is_of_tab}
@@ -24,7 +25,7 @@ use Rattle.web_storage.specs.Stored.{sessions_in, without_areas}
 use Rattle.agent_model.specs.Partition.{is_under}
 use Rattle.web_storage.specs.Evicting.{AreUnder, HasNone, is_one_of}
 use Rattle.web_storage.proofs.OrderOfKeys.{order, alike}
-use Rattle.web_storage.proofs.ShedLemmas.{found, found-key}
+use Rattle.web_storage.proofs.ShedLemmas.{found}
 use Rattle.web_storage.proofs.EvictionLemmas.{among_plain}
 use Rattle.web_storage.proofs.SessionsLemmas.{pairs_or, session_at}
 use Rattle.agent_model.proofs.HoldingsLemmas.{session_order_total, session_order_same}
@@ -76,11 +77,11 @@ copied_at under keys from to are copied q = at (key_or_none q to) (key_or_none q
 
     of_key : (key : StorageKey) → found (plain_key key) to ≡ cond (under (plain_key key)) (found (plain_key key) from) None
     of_key key =
-        sym (found-key order alike key to) ∙ copied key
+        sym (found-key plain_key key_order key_order_total order alike key to) ∙ copied key
         ∙ ap (λ b. cond b (map_get order key from) None)
         (among_plain keys key ∙ are (plain_key key))
         ∙ ap (λ o. cond (is_one_of (plain_key key) (map plain_key (keys_of from)) && under (plain_key key))
-        o None) (found-key order alike key from)
+        o None) (found-key plain_key key_order key_order_total order alike key from)
         ∙ one (is_one_of (plain_key key) (map plain_key (keys_of from))) (under (plain_key key))
         (found (plain_key key) from) (not_one_of (plain_key key) from)
 

@@ -12,12 +12,14 @@ use Rattle.unwinding.proofs.FiniteCellsLemmas as cells
 use Rattle.storage_key.specs.Key.{PlainKey, key_order}
 use Rattle.storage_key.specs.Plain.{plain_key}
 use Rattle.storage_key.specs.declared.key.StorageKey.{StorageKey}
+use Rattle.storage_key.proofs.OrderLemmas.{key_order_total}
 use Rattle.local_area.specs.Area.{Pair}
 use Rattle.key_map.specs.Entries.{map_get, map_put, map_remove, map_set}
+use Rattle.key_map.proofs.PlainKeyLemmas.{found-put, found-set, found-removed, found-key}
 use Rattle.session_area.specs.Sessions.{areas_of, session_area, made_area, has_empty, without_empty, ChangesTab, SameAreas, session_pairs}
 use Rattle.agent_model.specs.Partition.{SessionAreas, session_order}
 use Rattle.web_storage.specs.Stored.{sessions_in, without_areas}
-use Rattle.web_storage.proofs.ShedLemmas.{found, found-put, found-set, found-removed, found-key}
+use Rattle.web_storage.proofs.ShedLemmas.{found}
 use Rattle.web_storage.proofs.WriteLemmas.{equal_tie, cond_same}
 use Rattle.web_storage.proofs.SessionsLemmas.{pairs_or, session_at, set_found, without_found}
 use Rattle.agent_model.proofs.HoldingsLemmas.{session_order_total, session_order_same}
@@ -141,7 +143,7 @@ module _ (cmp : StorageKey → StorageKey → Ordering)
   -- the pairs that a tab has under a key are those of the plain key
   pub session_held : (tab : ℕ) (key : StorageKey) (tabs : Tabs)
       → session_pairs cmp tab key tabs ≡ get_cell session_order (sessions_in tabs) (tab, plain_key key)
-  session_held tab key tabs = ap pairs_or (found-key cmp alike key (areas_of tab tabs))
+  session_held tab key tabs = ap pairs_or (found-key plain_key key_order key_order_total cmp alike key (areas_of tab tabs))
       ∙ sym (session_at tab (plain_key key) tabs)
 
   -- an area that is there was written
@@ -151,7 +153,7 @@ module _ (cmp : StorageKey → StorageKey → Ordering)
       → sessions_in new ≡ set_cell session_order (tab, plain_key key) pairs (sessions_in old)
   sessions_set tab key pairs old new there changes =
       sessions_written tab (plain_key key) pairs _ old new changes (λ q.
-      ap pairs_or (found-set cmp alike q key pairs (areas_of tab old) there)
+      ap pairs_or (found-set plain_key key_order key_order_total cmp alike q key pairs (areas_of tab old) there)
       ∙ pairs_cond (eq_by_cmp key_order q (plain_key key)) pairs (found q (areas_of tab old)))
 
   -- where a key has no pairs, none are found in its place
@@ -159,7 +161,7 @@ module _ (cmp : StorageKey → StorageKey → Ordering)
       → cond (eq_by_cmp key_order q (plain_key key)) [] (pairs_or (found q areas)) ≡ pairs_or (found q areas)
   in_place q key areas none =
       ap (λ p. cond (eq_by_cmp key_order q (plain_key key)) p (pairs_or (found q areas)))
-      (sym none ∙ ap pairs_or (found-key cmp alike key areas))
+      (sym none ∙ ap pairs_or (found-key plain_key key_order key_order_total cmp alike key areas))
       ∙ cond_same (λ k. pairs_or (found k areas)) q (plain_key key) (eq_by_cmp key_order q (plain_key key)) refl
 
   -- room for an area
@@ -171,7 +173,7 @@ module _ (cmp : StorageKey → StorageKey → Ordering)
           → pairs_or (found q (cond b areas (map_put cmp key [] areas))) ≡ pairs_or (found q areas)
       at true is = refl
       at false is =
-          ap pairs_or (found-put cmp alike q key [] areas)
+          ap pairs_or (found-put plain_key key_order key_order_total cmp alike q key [] areas)
           ∙ pairs_cond (eq_by_cmp key_order q (plain_key key)) [] (found q areas)
           ∙ in_place q key areas (no_pairs (map_get cmp key areas) is)
 
@@ -183,7 +185,7 @@ module _ (cmp : StorageKey → StorageKey → Ordering)
       at : (b : Bool) → has_empty cmp key areas ≡ b
           → pairs_or (found q (cond b (map_remove cmp key areas) areas)) ≡ pairs_or (found q areas)
       at true is =
-          ap pairs_or (found-removed cmp alike q key areas)
+          ap pairs_or (found-removed plain_key key_order key_order_total cmp alike q key areas)
           ∙ none_pairs (eq_by_cmp key_order q (plain_key key)) (found q areas)
           ∙ in_place q key areas (empty_pairs (map_get cmp key areas) is)
       at false is = refl

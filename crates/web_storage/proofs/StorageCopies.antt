@@ -7,11 +7,12 @@ use Rattle.storage_key.specs.Plain.{plain_key}
 use Rattle.storage_key.specs.declared.key.StorageKey.{StorageKey}
 use Rattle.storage_key.proofs.OrderLemmas.{key_order_total, key_order_same}
 use Rattle.key_map.specs.Entries.{map_get, IsCopy}
+use Rattle.key_map.proofs.PlainKeyLemmas.{plain_of}
 use Rattle.buckets.specs.declared.shed.Bucket.{Bucket}
 use Rattle.buckets.specs.Shed.{is_best_effort, fresh_bucket}
 use Rattle.session_area.specs.Sessions.{areas_of}
 use Rattle.web_storage.specs.Stored.{areas_in, keys_in, sessions_in}
-use Rattle.web_storage.proofs.ShedLemmas.{plain_entries, area_at, mode_at}
+use Rattle.web_storage.proofs.ShedLemmas.{area_at, mode_at}
 use Rattle.web_storage.proofs.WriteLemmas.{same_keys}
 use Rattle.web_storage.proofs.SessionsLemmas.{pairs_or, session_at}
 use Rattle.web_storage.proofs.SessionWrites.{Tabs, same_sessions}
@@ -20,7 +21,7 @@ use Rattle.web_storage.proofs.SessionWrites.{Tabs, same_sessions}
 abbrev pub IsPlainCopy : {V : Type 0} → (es copy : List (StorageKey × V)) → Type 0
 IsPlainCopy es copy = IsCopy (λ key clone. plain_key clone ≡ plain_key key) (λ value clone. clone ≡ value) es copy
 
-plain_copy : {V : Type 0} (es copy : List (StorageKey × V)) → IsPlainCopy es copy → plain_entries copy ≡ plain_entries es
+plain_copy : {V : Type 0} (es copy : List (StorageKey × V)) → IsPlainCopy es copy → plain_of plain_key copy ≡ plain_of plain_key es
 plain_copy [] [] zip = refl
 plain_copy [] (c ∷ cs) zip = absurd zip
 plain_copy (e ∷ es) [] zip = absurd zip

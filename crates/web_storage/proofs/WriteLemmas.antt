@@ -15,12 +15,13 @@ use Rattle.storage_key.specs.declared.key.StorageKey.{StorageKey}
 use Rattle.storage_key.proofs.OrderLemmas.{key_order_total, key_order_same}
 use Rattle.local_area.specs.Area.{Pair}
 use Rattle.key_map.specs.Entries.{map_get, map_put, map_remove, map_set}
+use Rattle.key_map.proofs.PlainKeyLemmas.{found-key, found-put, found-set, found-removed}
 use Rattle.buckets.specs.declared.shed.Bucket.{Bucket}
 use Rattle.buckets.specs.Shed.{is_best_effort, is_fresh, fresh_bucket, persistent_bucket, pairs_at, made, has_fresh, without_fresh, with_pairs, persisted}
 use Rattle.buckets.specs.Shed.{mode_at as mode_at_key, bucket_at as bucket_at_key}
 use Rattle.agent_model.specs.Partition.{Keys}
 use Rattle.web_storage.specs.Stored.{areas_in, keys_in}
-use Rattle.web_storage.proofs.ShedLemmas.{bucket_at, found, found-key, found-put, found-set, found-removed, area_at, mode_at}
+use Rattle.web_storage.proofs.ShedLemmas.{bucket_at, found, area_at, mode_at}
 
 pub equal_tie : (r : Ordering) → is_eq r ≡ true → r ≡ Equal
 equal_tie Less e = cc
@@ -137,25 +138,25 @@ module _ (cmp : StorageKey → StorageKey → Ordering)
   -- the bucket of a key is that of its plain key
   pub bucket_found : (key : StorageKey) (shed : List (StorageKey × Bucket))
       → bucket_at_key cmp key shed ≡ bucket_at (plain_key key) shed
-  bucket_found key shed = ap (λ o. unwrap_or o fresh_bucket) (found-key cmp alike key shed)
+  bucket_found key shed = ap (λ o. unwrap_or o fresh_bucket) (found-key plain_key key_order key_order_total cmp alike key shed)
 
   pub bucket_put : (key : StorageKey) (bucket : Bucket) (shed : List (StorageKey × Bucket))
       → HasBucket (plain_key key) bucket shed (map_put cmp key bucket shed)
   bucket_put key bucket shed = λ q.
-      ap (λ o. unwrap_or o fresh_bucket) (found-put cmp alike q key bucket shed)
+      ap (λ o. unwrap_or o fresh_bucket) (found-put plain_key key_order key_order_total cmp alike q key bucket shed)
       ∙ bucket_cond (eq_by_cmp key_order q (plain_key key)) bucket (found q shed)
 
   pub bucket_set : (key : StorageKey) (bucket : Bucket) (shed : List (StorageKey × Bucket))
       → is_some (map_get cmp key shed) ≡ true
       → HasBucket (plain_key key) bucket shed (map_set cmp key bucket shed)
   bucket_set key bucket shed there = λ q.
-      ap (λ o. unwrap_or o fresh_bucket) (found-set cmp alike q key bucket shed there)
+      ap (λ o. unwrap_or o fresh_bucket) (found-set plain_key key_order key_order_total cmp alike q key bucket shed there)
       ∙ bucket_cond (eq_by_cmp key_order q (plain_key key)) bucket (found q shed)
 
   pub bucket_removed : (key : StorageKey) (shed : List (StorageKey × Bucket))
       → HasBucket (plain_key key) fresh_bucket shed (map_remove cmp key shed)
   bucket_removed key shed = λ q.
-      ap (λ o. unwrap_or o fresh_bucket) (found-removed cmp alike q key shed)
+      ap (λ o. unwrap_or o fresh_bucket) (found-removed plain_key key_order key_order_total cmp alike q key shed)
       ∙ none_cond (eq_by_cmp key_order q (plain_key key)) (found q shed)
 
   missing : (b : Bool) (o : Option Bucket) → is_some o ≡ b → b ≡ false → unwrap_or o fresh_bucket ≡ fresh_bucket
@@ -246,14 +247,14 @@ module _ (cmp : StorageKey → StorageKey → Ordering)
   pub made_there : (key own : StorageKey) (shed : List (StorageKey × Bucket)) → plain_key own ≡ plain_key key
       → is_some (map_get cmp key (made cmp own shed)) ≡ true
   made_there key own shed same =
-      ap is_some (found-key cmp alike key (made cmp own shed)
+      ap is_some (found-key plain_key key_order key_order_total cmp alike key (made cmp own shed)
       ∙ ap (λ q. found q (made cmp own shed)) (sym same)) ∙ at (is_some (map_get cmp own shed)) refl
     where
       at : (b : Bool) → is_some (map_get cmp own shed) ≡ b
           → is_some (found (plain_key own) (cond b shed (map_put cmp own fresh_bucket shed))) ≡ true
-      at true is = ap is_some (sym (found-key cmp alike own shed)) ∙ is
+      at true is = ap is_some (sym (found-key plain_key key_order key_order_total cmp alike own shed)) ∙ is
       at false is =
-          ap is_some (found-put cmp alike (plain_key own) own fresh_bucket shed)
+          ap is_some (found-put plain_key key_order key_order_total cmp alike (plain_key own) own fresh_bucket shed)
           ∙ ap (λ b. is_some (cond b (Some fresh_bucket) (found (plain_key own) shed))) (ties (plain_key own))
 
 -- what holds at Ok and at Err holds

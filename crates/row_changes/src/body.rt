@@ -1,5 +1,5 @@
 //! Reading a body piece by piece.
-ghost use Rattle.std.specs.Prelude.{◌≡◌, IfOk, OnErr, OnOk, drop, option_map, slice_get};
+ghost use Rattle.std.specs.Prelude.{◌≡◌, [], IfOk, None, Ok, OnErr, OnOk, drop, option_map, slice_get};
 ghost use Rattle.row_changes.specs.Body as spec;
 ghost use Rattle.row_changes.specs.Pieces.{plain_piece, plain_progress};
 ghost use Rattle.row_changes.specs.Reading.{change_at};
@@ -69,11 +69,13 @@ impl<'l, 'b> Reader<'l, 'b> {
         }
     }
 
-    /// The next piece, and None behind the last. Its time is linear in the bytes of the piece.
+    /// The next piece, and None behind the last, which takes no memory. Its time is linear in the
+    /// bytes of the piece.
     pub fn next(&mut self, alloc: Global) -> Result<Option<Piece>, NoMemory>
         ensures piece { IfOk result
             (λ piece. option_map plain_piece piece ≡ slice_get self.old 0) }
         ensures rest { OnOk result (self.new ≡ drop 1 self.old) }
+        ensures end { self.old ≡ [] → result ≡ Ok None }
         ensures unchanged { OnErr result (self.new ≡ self.old) }
     {
         if is_over(&self.progress) {

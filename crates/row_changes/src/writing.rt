@@ -1,5 +1,6 @@
 //! Writing row changes.
-ghost use Rattle.std.specs.Prelude.{◌≡◌, ◌<◌, ◌++◌, ◌∷◌, [], IfOk, OnErr, OnOk, Ok, length, map, pos, unwrap_or};
+ghost use Rattle.std.specs.Prelude.{◌≡◌, ◌<◌, ◌++◌, ◌∷◌, ◌^◌, [], IfOk, OnErr, OnOk, Ok, length, map};
+ghost use Rattle.std.specs.Prelude.{pos, unwrap_or};
 ghost use Rattle.std.specs.List.{All};
 ghost use Rattle.access_grants.specs.Plain.{plain_grant};
 ghost use Rattle.cookie_jar.specs.Key.{plain_key as plain_cell};
@@ -281,6 +282,7 @@ fn put_rows(out: &mut Vec<u8>, changes: &[Change]) -> Result<(), NoMemory>
 /// answered as want of memory.
 pub fn write_rows(alloc: Global, changes: &[Change]) -> Result<Vec<u8>, NoMemory>
     ensures bytes { IfOk result (λ out. out.items ≡ rows_bytes (map plain_change changes.now)) }
+    ensures texts { OnOk result (All HasTexts (map plain_change changes.now)) }
 {
     let mut out = Vec::new(alloc);
     put_rows(&mut out, changes)?;
@@ -333,6 +335,8 @@ pub fn append_changes(out: &mut Vec<u8>, changes: &[Change]) -> Result<(), NoMem
 pub fn write_changes(alloc: Global, changes: &[Change]) -> Result<Vec<u8>, NoMemory>
     requires some { 0 < length changes.now }
     ensures bytes { IfOk result (λ out. out.items ≡ changes_bytes (map plain_change changes.now)) }
+    ensures texts { OnOk result (All HasTexts (map plain_change changes.now)) }
+    ensures room { OnOk result (length changes.now < 2 ^ 32) }
 {
     let mut out = Vec::new(alloc);
     append_changes(&mut out, changes)?;

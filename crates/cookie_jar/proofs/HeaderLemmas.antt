@@ -45,7 +45,8 @@ joined_first xs i y text new lt none is so_far pushed =
     pushed ∙ first_is xs i y text none so_far
     ∙ sym (ap (λ ys. joined (map plain_sent ys)) (take_more xs i y lt ∙ ap (λ z. take i xs ++ z ∷ []) (sym is)))
 
-some_there : (cs : List PlainCookie) (p : ℕ) (c : PlainCookie) → Some c ≡ slice_get cs p → take 1 (drop p cs) ≡ c ∷ []
+-- what is read at a place
+pub some_there : (cs : List PlainCookie) (p : ℕ) (c : PlainCookie) → Some c ≡ slice_get cs p → take 1 (drop p cs) ≡ c ∷ []
 some_there [] p c h = absurd (false≢true (sym (ap is_some h)))
 some_there (d ∷ ds) zero c h = ap (λ o. unwrap_or o d ∷ []) (sym h)
 some_there (d ∷ ds) (suc p) c h = some_there ds p c h

@@ -13,3 +13,4 @@ mod OrderLemmas
 mod HeaderLemmas
 mod StandardFacts
 mod StoreLemmas
+mod UsedLemmas

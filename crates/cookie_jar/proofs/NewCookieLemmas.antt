@@ -17,7 +17,7 @@ pub replaced_at : (now : ℤ) (new : PlainCookie) (cs : List PlainCookie) (place
 replaced_at now new cs place here =
     ap (λ o. option_map (λ c. c.creation) (option_filter (λ c. not (is_expired now c)) o)) (ap (slice_get cs) here ∙ sym (find_at (λ c. same new c) cs))
 
-some_map : (o : Option PlainCookie) → is_some (option_map (λ c. c.creation) o) ≡ is_some o
+pub some_map : (o : Option PlainCookie) → is_some (option_map (λ c. c.creation) o) ≡ is_some o
 some_map None = refl
 some_map (Some c) = refl
 

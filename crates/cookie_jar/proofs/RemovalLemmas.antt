@@ -1,19 +1,24 @@
 -- A plan of removals over flags.
 use mathlib.Core.Path.{fun_ext}
-use Rattle.std.proofs.Common.{◌≡◌, ℤ, ℕ, suc, ◌+◌, ◌<◌, ◌≤◌, Bool, cond, not, List, [], ◌∷◌, ◌++◌, map, take, drop, length, get_or, refl, ap, ◌∙◌, sym, arith}
+use Rattle.std.proofs.Common.{◌≡◌, ℤ, ℕ, zero, suc, ◌+◌, ◌<◌, ◌≤◌, Bool, cond, not, List, [], ◌∷◌, ◌++◌, map, take, drop, length, get_or, refl, ap, ◌∙◌, sym, arith}
 use Rattle.std.specs.List.{count_by, list_any, remove, range_with_len}
-use Rattle.std.specs.Prelude.{◌||◌, slice_set}
+use Rattle.std.specs.Prelude.{◌||◌, Some, None, is_some, slice_get, slice_set}
+use Rattle.std.proofs.lemmas.Bool.{false≢true, le-ltb, lt-ltb}
+use Rattle.std.proofs.Math.Bool.{or-false}
+use Rattle.std.proofs.lemmas.Option.{slice_get_within}
 use Rattle.partition_limits.specs.declared.tally.CellKind.{CellKind}
 use Rattle.std.proofs.lemmas.List.Sums.{sum_by-cons, prefix_len-le-length}
 use Rattle.std.proofs.lemmas.List.{take-map, drop-map, take_more, append_assoc, length-map, map-set, map-append}
 use Rattle.cookie_jar.specs.declared.step.JarStep.{JarStep}
 use Rattle.std.proofs.Math.Seq.{drop-cons}
 use Rattle.cookie_jar.specs.Cookie.{PlainCookie, same}
-use Rattle.cookie_jar.specs.Steps.{weigh, put, place_of, place_now, removals, remove_step, put_step}
+use Rattle.cookie_jar.specs.declared.step.JarStep.TheVariants.{Insert, Replace, Remove}
+use Rattle.cookie_jar.specs.Steps.{weigh, put, place_of, place_now, persists_at, rank, removal_at, removals, remove_step, put_step}
 use Rattle.cookie_jar.specs.Lifetime.{is_persistent}
 use Rattle.cookie_jar.specs.Flags.{flag_removal, flag_put}
 use Rattle.cookie_jar.specs.Performed.{after_removals}
 use Rattle.cookie_jar.proofs.CellLemmas.{map-remove}
+use Rattle.cookie_jar.proofs.HeaderLemmas.{some_there}
 use Rattle.cookie_jar.proofs.StepLaws.{among, gone_after, among_after, no_more, put_there, put_last}
 
 -- what is left after some removals
@@ -101,6 +106,28 @@ flag_put_is place cs =
       sym (any_map is_persistent (λ b. b) (take 1 (drop place cs))),
       length-map cs is_persistent,
     ) refl
+
+persists_there : (place : ℕ) (cs : List PlainCookie) (c : PlainCookie) → Some c ≡ slice_get cs place → persists_at place cs ≡ is_persistent c
+persists_there place cs c there = ap (list_any is_persistent) (some_there cs place c there) ∙ or-false (is_persistent c)
+
+past_end : (cs : List PlainCookie) (p : ℕ) → None ≡ slice_get cs p → length cs ≤ p
+past_end [] p h = omega arith
+past_end (c ∷ cs) zero h = absurd (false≢true (ap is_some h))
+past_end (c ∷ cs) (suc p) h = let rest = past_end cs p h in omega (arith, rest)
+
+-- the steps at a place where a cookie is, and at one where none is
+pub remove_there : (place : ℕ) (cs : List PlainCookie) (c : PlainCookie) → Some c ≡ slice_get cs place → Remove place (rank place cs) (is_persistent c) ∷ [] ≡ removal_at place cs
+remove_there place cs c there =
+    ap (λ was. Remove place (rank place cs) was ∷ []) (sym (persists_there place cs c there))
+    ∙ ap (λ b. cond b (remove_step place cs ∷ []) []) (sym (lt-ltb place (length cs) (slice_get_within cs place c (sym there))))
+
+pub put_there_is : (place : ℕ) (cs : List PlainCookie) (c : PlainCookie) → Some c ≡ slice_get cs place → Replace place (rank place cs) (is_persistent c) ≡ put_step place cs
+put_there_is place cs c there =
+    ap (Replace place (rank place cs)) (sym (persists_there place cs c there))
+    ∙ ap (λ b. cond b (Replace place (rank place cs) (persists_at place cs)) (Insert place (rank place cs))) (sym (lt-ltb place (length cs) (slice_get_within cs place c (sym there))))
+
+pub put_past_is : (place : ℕ) (cs : List PlainCookie) → None ≡ slice_get cs place → Insert place (rank place cs) ≡ put_step place cs
+put_past_is place cs none = ap (λ b. cond b (Replace place (rank place cs) (persists_at place cs)) (Insert place (rank place cs))) (sym (le-ltb place (length cs) (past_end cs place none)))
 
 pub rows_there : (kind : CellKind) (now : ℤ) (f : PlainCookie) (cs : List PlainCookie) (place : ℕ) → place ≡ place_of f cs → place < length (map (weigh kind now) cs)
     → slice_set (map (weigh kind now) cs) place (weigh kind now f) ≡ map (weigh kind now) (put f cs)

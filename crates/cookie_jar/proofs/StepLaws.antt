@@ -134,7 +134,7 @@ pub no_more : (b : Bool) → (b || false) ≡ b
 no_more true = refl
 no_more false = refl
 
-none_gone : {X : Type 0} (n : ℕ) (xs : List X) → others_from n [] xs ≡ xs
+pub none_gone : {X : Type 0} (n : ℕ) (xs : List X) → others_from n [] xs ≡ xs
 none_gone n [] = refl
 none_gone n (x ∷ xs) = ap (λ r. x ∷ r) (none_gone (n + 1) xs)
 

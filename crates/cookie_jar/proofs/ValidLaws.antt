@@ -55,14 +55,14 @@ filter_sum_le f (c ∷ cs) = rw (sum_by-cons f c cs) (at (is_persistent c) (filt
     at true ih = rw (sum_by-cons f c (filter is_persistent cs)) (omega (arith, ih))
     at false ih = omega (arith, ih)
 
-map_sum : (f : PlainCookie → ℕ) → ((c : PlainCookie) → f (kept_cookie c) ≡ f c) → (cs : List PlainCookie) → sum_by f (map kept_cookie cs) ≡ sum_by f cs
+pub map_sum : (f : PlainCookie → ℕ) → ((c : PlainCookie) → f (kept_cookie c) ≡ f c) → (cs : List PlainCookie) → sum_by f (map kept_cookie cs) ≡ sum_by f cs
 map_sum f h [] = refl
 map_sum f h (c ∷ cs) = let e = map_sum f h cs in let one = h c in rw (sum_by-cons f (kept_cookie c) (map kept_cookie cs), sum_by-cons f c cs) (omega (arith, e, one))
 
 kept_sum_le : (f : PlainCookie → ℕ) → ((c : PlainCookie) → f (kept_cookie c) ≡ f c) → (cs : List PlainCookie) → sum_by f (persistent_part cs) ≤ sum_by f cs
 kept_sum_le f h cs = omega (arith, map_sum f h (persistent cs), filter_sum_le f cs)
 
-counted_kept : (kind : CellKind) (c : PlainCookie) → counted kind (kept_cookie c) ≡ counted kind c
+pub counted_kept : (kind : CellKind) (c : PlainCookie) → counted kind (kept_cookie c) ≡ counted kind c
 counted_kept Own c = refl
 counted_kept Partition c = refl
 

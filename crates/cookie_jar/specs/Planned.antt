@@ -1,13 +1,15 @@
 -- What storing the cookie of a text does to a cell, or why the cookie is dropped.
 -- Source: RFC 6265bis, "Storage Model".
 -- Our own choice: nothing is done to the cell of a dropped cookie.
-use Rattle.std.specs.Prelude.{◌≡◌, ℕ, ℤ, ◌≤◌, List, Option, Some, None, Result, Ok, Err}
+use Rattle.std.specs.Prelude.{◌≡◌, ℕ, ℤ, ◌≤◌, List, [], ◌∷◌, Option, Some, None, option_map}
+use Rattle.std.specs.Prelude.{Result, Ok, Err}
 use Rattle.suffix_list.specs.Suffix.{Rule}
 use Rattle.setcookie_parse.specs.SetCookie.{CookieText, pair_limit}
 use Rattle.partition_limits.specs.declared.tally.CellKind.{CellKind}
 use Rattle.cookie_jar.specs.declared.cause.CookieDrop.{CookieDrop}
 use Rattle.cookie_jar.specs.declared.plan.StoredKind.{StoredKind}
 use Rattle.cookie_jar.specs.declared.step.JarStep.{JarStep}
+use Rattle.cookie_jar.specs.declared.step.JarStep.TheVariants.{Replace}
 use Rattle.cookie_jar.specs.Access.{PlainAccess}
 use Rattle.cookie_jar.specs.Cookie.{PlainCookie, PlainJar, copies, pair_bytes}
 use Rattle.cookie_jar.specs.Drops.{dropped, first_drop, later_rows}
@@ -56,6 +58,15 @@ abbrev pub IsPlanFor : PlainJar → PlainPlan → Type 0
 IsPlanFor jar plan =
     (now : ℤ) × (plan.steps ≡ steps jar.kind now plan.fresh jar.cookies)
     × (pair_bytes plan.fresh ≤ pair_limit) × ((c : PlainCookie) → copies c jar.cookies ≤ 1)
+
+-- the place at which steps replace a cookie, where they do that alone
+abbrev pub place_replaced : List JarStep → Option ℕ
+place_replaced (Replace place rank was ∷ []) = Some place
+place_replaced _ = None
+
+-- the place and the cookie of a plan that replaces one cookie, and does that alone
+abbrev pub replacement_of : PlainPlan → Option (ℕ × PlainCookie)
+replacement_of plan = option_map (λ place. (place, plan.fresh)) (place_replaced plan.steps)
 
 -- what a store answers: its kind and its steps
 pub record PlainStored : Type 0 where

@@ -1,5 +1,5 @@
 //! Cookies, with texts of their own and borrowed ones.
-ghost use Rattle.std.specs.Prelude.{◌≡◌, ◌≤◌, IfOk, map, option_map, slice_get};
+ghost use Rattle.std.specs.Prelude.{◌≡◌, ◌≤◌, IfOk, bytes_eq, map, option_map, slice_get};
 ghost use Rattle.cookie_jar.specs.Cookie as spec;
 ghost use Rattle.cookie_jar.specs.Borrowed.{plain_borrowed};
 ghost use Rattle.cookie_jar.specs.Lifetime as spec_of;
@@ -119,10 +119,35 @@ impl BorrowedCookie<'_> {
 pub fn is_same(new: &BorrowedCookie<'_>, cookie: &Cookie) -> bool
     ensures { result ≡ spec.same (plain_borrowed new.now) (plain_cookie cookie.now) }
 {
-    new.name == cookie.texts.name.as_str()
-        && new.domain == cookie.texts.domain.as_str()
+    is_equal(new.name, cookie.texts.name.as_str())
+        && is_equal(new.domain, cookie.texts.domain.as_str())
         && new.host_only == cookie.host_only
-        && new.path == cookie.texts.path.as_str()
+        && is_equal(new.path, cookie.texts.path.as_str())
+}
+
+/// Whether two texts are equal. Names and domains are mostly short, and short texts are compared
+/// fastest byte by byte.
+pub fn is_equal(a: &str, b: &str) -> bool
+    ensures { result ≡ bytes_eq a.now b.now }
+{
+    if a.len() > 32 {
+        return a == b;
+    }
+    have_equal_bytes(a.as_bytes(), b.as_bytes())
+}
+
+fn have_equal_bytes(a: &[u8], b: &[u8]) -> bool
+    ensures { result ≡ bytes_eq a.now b.now }
+{
+    if a.len() != b.len() {
+        return false;
+    }
+    for i in 0..a.len() {
+        if a[i] != b[i] {
+            return false;
+        }
+    }
+    true
 }
 
 pub fn cookie_at(cookies: &[Cookie], place: usize) -> Option<&Cookie>

@@ -153,10 +153,13 @@ impl Jar {
     }
 }
 
-// Copies of cookies, with room for one more.
+// Copies of cookies, with room for one more. Where there are none, no memory is taken.
 fn copies_of(alloc: Global, cookies: &[Cookie]) -> Result<Vec<Cookie>, NoMemory>
     ensures { IfOk result (λ v. map plain_cookie v.items ≡ map plain_cookie cookies.now) }
 {
+    if cookies.is_empty() {
+        return Ok(Vec::new(alloc));
+    }
     let mut copies = Vec::with_capacity(alloc, cookies.len().saturating_add(1))?;
     for cookie in cookies {
         let Ok(()) = copies.push(cookie.copy()?) else {

@@ -1,6 +1,7 @@
 //! What storing a cookie does, before it is done.
-ghost use Rattle.std.specs.Prelude.{◌≡◌, ◌≤◌, ◌+◌, ◌⊎◌, Ok, true, false, is_some, IfOk};
-ghost use Rattle.std.specs.Prelude.{IsErrOf, IsOk, MatchResult, length, map, option_copied};
+ghost use Rattle.std.specs.Prelude.{◌≡◌, ◌≤◌, ◌+◌, ◌⊎◌, ℕ, ℤ, List, Ok, true, false, is_some};
+ghost use Rattle.std.specs.Prelude.{IfOk, IfSome, IsErrOf, IsOk, MatchResult, length, map};
+ghost use Rattle.std.specs.Prelude.{option_copied, option_map};
 ghost use Rattle.agent_base.specs.Answers.{Answers, Decides};
 ghost use Rattle.setcookie_parse.specs.Plain.{plain_text};
 ghost use Rattle.setcookie_parse.specs.SetCookie.{pair_limit};
@@ -8,8 +9,10 @@ ghost use Rattle.cookie_jar.specs.Cookie.{IsCell, pair_bytes};
 ghost use Rattle.cookie_jar.specs.Borrowed.{plain_borrowed};
 ghost use Rattle.cookie_jar.specs.Drops.{is_not_ascii_domain};
 ghost use Rattle.cookie_jar.specs.NewCookie.{kind_with};
+ghost use Rattle.cookie_jar.specs.Persistent.{RowReplace, row_fits};
 ghost use Rattle.cookie_jar.specs.Planned as spec;
 ghost use Rattle.cookie_jar.specs.Plain.{plain_access, plain_cookie};
+ghost use Rattle.cookie_jar.specs.Sending.{marked};
 
 use crate::access::Access;
 use crate::cause::CookieDrop;
@@ -80,6 +83,17 @@ impl Plan {
         &self.fresh
     }
 
+    /// The place and the cookie, where the plan replaces one cookie and does that alone.
+    pub fn into_replacement(self) -> Option<(usize, Cookie)>
+        ensures value { option_map (λ r. (r.0, plain_cookie r.1)) result
+            ≡ spec.replacement_of self }
+    {
+        match self.steps.as_slice() {
+            [JarStep::Replace { place, .. }] => Some((*place, self.fresh)),
+            _ => None,
+        }
+    }
+
     /// The same plan. Its cookie shares the texts.
     pub fn copy(&self, alloc: Global) -> Result<Plan, NoMemory>
         ensures same { IfOk result (λ p. p ≡ self.now) }
@@ -95,7 +109,8 @@ impl Plan {
 impl Jar {
     /// What storing the cookie of a text does to this cell, which is that of the destination, or an
     /// empty one if there is none. A drop is told before any memory is taken but that of a Domain
-    /// in lower case.
+    /// in lower case. A plan that replaces one cookie, and does that alone, stays the plan where
+    /// cookies of the cell are marked before.
     pub fn plan(
         &self,
         alloc: Global,
@@ -113,6 +128,11 @@ impl Jar {
             ⊎ IsOk (spec.planned list.now.rules (plain_text text.now) (plain_access access.now)
             self.now.kind now self.now.cookies) }
         ensures fit { IfOk result (λ p. spec.IsPlanFor self.now p) }
+        ensures replaced { IfOk result (λ p. IfSome (spec.replacement_of p) (λ r.
+            (places : List ℕ) (used : ℤ) → let cookies = marked places used self.now.cookies in
+            (spec.planned list.now.rules (plain_text text.now) (plain_access access.now)
+            self.now.kind now cookies ≡ Ok p)
+            × (row_fits self.now.kind cookies (RowReplace r.0 r.1) ≡ true))) }
     {
         if is_not_ascii_domain(text) {
             return Err(CookieDrop::NonAsciiDomain);

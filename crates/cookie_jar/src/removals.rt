@@ -1,13 +1,13 @@
 //! The steps that remove the cookies which go, and the step that puts the new one.
 ghost use Rattle.std.specs.Prelude.{◌≡◌, ◌==◌, ◌++◌, ◌≤◌, [], ◌∷◌, IfOk, length, map, take};
-ghost use Rattle.std.specs.List.{list_any, remove};
+ghost use Rattle.std.specs.List.{count_by, list_any, remove};
 ghost use Rattle.cookie_jar.specs.Flags as flagged;
 ghost use Rattle.cookie_jar.specs.Lifetime.{is_persistent};
 ghost use Rattle.cookie_jar.specs.Performed.{after_removals};
 ghost use Rattle.cookie_jar.specs.Steps as spec;
 ghost use Rattle.cookie_jar.specs.Plain.{plain_cookie};
 
-use crate::cookie::Cookie;
+use crate::cookie::{Cookie, cookie_at};
 use crate::step::JarStep;
 use std::alloc::{AllocError, Global};
 
@@ -37,8 +37,35 @@ fn put_alone(alloc: Global, cookies: &[Cookie], place: usize) -> Result<Vec<JarS
     ensures { IfOk result (λ v. v.items
         ≡ spec.put_step place (map plain_cookie cookies.now) ∷ []) }
 {
-    let flags = persistent_flags(alloc, cookies)?;
-    Vec::from_slice(alloc, &[put_step(&flags, place)])
+    let rank = persistent_before(cookies, place);
+    let step = match cookie_at(cookies, place) {
+        Some(old) => JarStep::Replace {
+            place,
+            rank,
+            was_persistent: lasts(old),
+        },
+        None => JarStep::Insert { place, rank },
+    };
+    Vec::from_slice(alloc, &[step])
+}
+
+// The number of persistent cookies before a place.
+fn persistent_before(cookies: &[Cookie], place: usize) -> usize
+    ensures { result ≡ spec.rank place (map plain_cookie cookies.now) }
+{
+    count_persistent(&cookies[..place.min(cookies.len())])
+}
+
+fn count_persistent(cookies: &[Cookie]) -> usize
+    ensures { result ≡ count_by (λ c. is_persistent (plain_cookie c)) cookies.now }
+{
+    cookies.iter().filter(|c| lasts(c)).count()
+}
+
+fn lasts(cookie: &Cookie) -> bool
+    ensures { result ≡ is_persistent (plain_cookie cookie.now) }
+{
+    cookie.expiry.is_some()
 }
 
 /// The removal of the cookie at a place alone, if one is there.
@@ -50,11 +77,17 @@ pub fn removal_alone(
     ensures { IfOk result (λ v. v.items
         ≡ spec.removal_at place (map plain_cookie cookies.now)) }
 {
-    if place >= cookies.len() {
-        return Ok(Vec::new(alloc));
+    match cookie_at(cookies, place) {
+        None => Ok(Vec::new(alloc)),
+        Some(old) => Vec::from_slice(
+            alloc,
+            &[JarStep::Remove {
+                place,
+                rank: persistent_before(cookies, place),
+                was_persistent: lasts(old),
+            }],
+        ),
     }
-    let flags = persistent_flags(alloc, cookies)?;
-    Vec::from_slice(alloc, &[remove_step(&flags, place)])
 }
 
 fn place_now(gone: &[usize], place: usize) -> usize

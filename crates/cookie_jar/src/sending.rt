@@ -8,7 +8,7 @@ ghost use Rattle.cookie_jar.specs.Sending as spec;
 ghost use Rattle.cookie_jar.specs.Plain.{plain_access, plain_cookie};
 
 use crate::access::Access;
-use crate::cookie::{Cookie, is_expired};
+use crate::cookie::{Cookie, is_equal, is_expired};
 use crate::jar::Jar;
 use agent_base::NoMemory;
 use cookie_match::{domain_matches, path_matches};
@@ -107,7 +107,7 @@ fn is_of_host(access: &Access<'_>, cookie: &Cookie) -> bool
     ensures { result ≡ spec.is_of_host (plain_access access.now) (plain_cookie cookie.now) }
 {
     if cookie.host_only {
-        access.host == cookie.texts.domain.as_str()
+        is_equal(access.host, cookie.texts.domain.as_str())
     } else {
         domain_matches(access.ip, access.host, cookie.texts.domain.as_str())
     }

@@ -10,6 +10,7 @@ use Rattle.cookie_jar.specs.Planned as spec
 use Rattle.cookie_jar.specs.Plain.{plain_access, plain_cookie}
 use Rattle.agent_base.proofs.Logic.{answers_decided}
 use Rattle.cookie_jar.proofs.PlanLemmas.{plan_fits, planned_is, planned_sure}
+use Rattle.cookie_jar.proofs.UsedLemmas.{plan_used}
 use Rattle.cookie_jar.proofs.jar.Jar.plan.Goals as goal
 use Rattle.cookie_jar.proofs.jar.Jar.plan.Goals.{Joined-lower}
 
@@ -40,4 +41,9 @@ returns-clause-memory c is =
 pub returns-clause-fit : goal.returns-clause-fit
 returns-clause-fit c =
     plan_fits c.args.list.now.rules (plain_text c.args.text.now) (plain_access c.args.access.now) c.args.self.now c.args.now c.planned_with.result c.requires.pair
+    (λ x. subst (λ (j : PlainJar). copies x j.cookies ≤ 1) c.self.view_is (c.self.invariant.distinct x)) (returns-clause-answer c)
+
+pub returns-clause-replaced : goal.returns-clause-replaced
+returns-clause-replaced c =
+    plan_used c.args.list.now.rules (plain_text c.args.text.now) (plain_access c.args.access.now) c.args.self.now c.args.now c.planned_with.result c.requires.pair
     (λ x. subst (λ (j : PlainJar). copies x j.cookies ≤ 1) c.self.view_is (c.self.invariant.distinct x)) (returns-clause-answer c)

@@ -17,7 +17,7 @@ use Rattle.agent_model.proofs.PartitionedLemmas.{partitioned_order_total, partit
 use Rattle.web_cookies.specs.Stored.{Entries, shared_in, partitioned_in, with_shared, with_partitioned}
 use Rattle.web_cookies.specs.Cells.{cell_key, cell_order, cookies_at, cookies_of, jar_at}
 use Rattle.web_cookies.proofs.OrderOfCells.{alike, cell_order_total, equal_keys, order, own_tie}
-use Rattle.web_cookies.proofs.PlainKeyLemmas as plain
+use Rattle.key_map.proofs.PlainKeyLemmas as plain
 
 pub cookies_cond : (b : Bool) (x : PlainJar) (y : Option PlainJar) → cookies_of (cond b (Some x) y) ≡ cond b x.cookies (cookies_of y)
 cookies_cond true x y = refl

@@ -1,6 +1,5 @@
 -- The order of keys, and what entries hold by plain keys.
 pub mod OrderOfCells
-pub mod PlainKeyLemmas
 pub mod CellLemmas
 pub mod ChangeLemmas
 -- What changes leave, and what was prepared for an effect.
@@ -10,6 +9,7 @@ pub mod PreparedLemmas
 -- Texts that are stored.
 pub mod StepRows
 pub mod TextLemmas
+mod InPlaceLemmas
 -- Cookies at places of cells.
 mod LimitLemmas
 pub mod RowsLemmas

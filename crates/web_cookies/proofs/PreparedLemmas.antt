@@ -1,8 +1,9 @@
 -- What is prepared does to the cookies what the effect does.
 use Rattle.std.proofs.Common.{◌≡◌, ℕ, Bool, true, false, cond, List, map, Option, Some, None, pos, refl, sym, ap, subst, ◌∙◌}
-use Rattle.std.specs.Prelude.{IfSome, is_some, ◌==◌, ◌&&◌, length, []}
+use Rattle.std.specs.Prelude.{IfSome, is_some, ◌==◌, ◌&&◌, length}
 use Rattle.std.specs.Ordering.{eq_by_cmp}
 use Rattle.key_map.specs.Entries.{map_get, map_put, map_set}
+use Rattle.partition_limits.specs.declared.tally.CellKind.TheVariants as kind
 use Rattle.suffix_list.specs.Suffix.{Rule}
 use Rattle.cookie_jar.specs.declared.key.CellKey.{CellKey}
 use Rattle.cookie_jar.specs.Cookie.{PlainJar}
@@ -28,7 +29,7 @@ use Rattle.web_cookies.specs.declared.change.Becomes.TheVariants.{Marked, Stored
 use Rattle.web_cookies.specs.CellsOfUse.{CanBeDone, HasPlaceIf, HoldSame, IsChange, KeepKeys, LeavesBoth, cookies_if, found, is_key, left_at, own_key, partition_key}
 use Rattle.web_cookies.specs.declared.prepared.Prepared.{Prepared}
 use Rattle.web_cookies.proofs.OrderOfCells.{alike, cell_order_total, equal_keys, order, own_tie}
-use Rattle.web_cookies.proofs.PlainKeyLemmas as plain
+use Rattle.key_map.proofs.PlainKeyLemmas as plain
 use Rattle.web_cookies.proofs.LeftLemmas.{done_leaves, found_is, found_same}
 use Rattle.web_cookies.proofs.HeaderLemmas.{header_is}
 
@@ -83,56 +84,45 @@ module _ (rules : List Rule) (how : CookieUse) (entries : Entries) (prepared : P
       at true = refl
       at false = refl
 
-  -- both cells become those of jars
-  pub stored_left : (both : BothCells)
-      → IsChange (own_key rules how) (λ cookies. both.own) prepared.own
-      → IsChange (Some (partition_key rules how)) (λ cookies. both.partition) (Some prepared.partition)
-      → LeavesBoth rules how both entries prepared
-  stored_left both own partition = λ key.
-      partition key (changed_if prepared.own key (cookies_at key entries))
-      ∙ ap (λ r. cond (eq_by_cmp cell_order key (partition_key rules how)) both.partition r) (own key (cookies_at key entries))
+  -- both cells become what these make of them
+  module _ (own_makes partition_makes : Cookies → Cookies)
+      (own : IsChange (own_key rules how) own_makes prepared.own)
+      (partition : IsChange (Some (partition_key rules how)) partition_makes (Some prepared.partition)) where
+    abbrev made : BothCells
+    made = record { own = own_makes (found rules how entries).own; partition = partition_makes (found rules how entries).partition }
 
-  -- cookies are marked in both cells
-  module _ (now : ℕ) (own_at partition_at : List ℕ)
-      (own : IsChange (own_key rules how) (marked own_at (pos now)) prepared.own)
-      (partition : IsChange (Some (partition_key rules how)) (marked partition_at (pos now)) (Some prepared.partition))
-      (are_own : own_at ≡ own_places now how (found rules how entries))
-      (are_partition : partition_at ≡ partition_places now how (found rules how entries)) where
     abbrev after : PlainKey → Cookies
     after key = cookies_after prepared key (cookies_at key entries)
 
     abbrev wanted : PlainKey → Cookies
-    wanted key = left_at rules how (both_marked now how (found rules how entries)) key (cookies_at key entries)
+    wanted key = left_at rules how made key (cookies_at key entries)
 
     at_partition : after (partition_key rules how) ≡ wanted (partition_key rules how)
     at_partition =
         let key = partition_key rules how in
         let cookies = cookies_at key entries in
         partition key (changed_if prepared.own key cookies)
-        ∙ ap (λ b. cond b (marked partition_at (pos now) (changed_if prepared.own key cookies)) (changed_if prepared.own key cookies)) (own_tie key)
-        ∙ ap (marked partition_at (pos now)) (own key cookies ∙ ap (λ b. cond b (marked own_at (pos now) cookies) cookies) not_own)
-        ∙ ap (λ places. marked places (pos now) cookies) are_partition
-        ∙ sym (ap (λ b. cond b (both_marked now how (found rules how entries)).partition (cond (is_key key (own_key rules how)) (both_marked now how (found rules how entries)).own cookies)) (own_tie key))
+        ∙ ap (λ b. cond b (partition_makes (changed_if prepared.own key cookies)) (changed_if prepared.own key cookies)) (own_tie key)
+        ∙ ap partition_makes (own key cookies ∙ ap (λ b. cond b (own_makes cookies) cookies) not_own)
+        ∙ sym (ap (λ b. cond b made.partition (cond (is_key key (own_key rules how)) made.own cookies)) (own_tie key))
 
     own_cookies : (key : PlainKey) (own : Option PlainKey) (b : Bool) → is_key key own ≡ b
-        → cond b (marked own_at (pos now) (cookies_at key entries)) (cookies_at key entries)
-        ≡ cond b (marked own_at (pos now) (cookies_if own entries)) (cookies_at key entries)
+        → cond b (own_makes (cookies_at key entries)) (cookies_at key entries) ≡ cond b (own_makes (cookies_if own entries)) (cookies_at key entries)
     own_cookies key own false is = refl
     own_cookies key None true is = cc
-    own_cookies key (Some other) true is = ap (λ k. marked own_at (pos now) (cookies_at k entries)) (equal_keys key other is)
+    own_cookies key (Some other) true is = ap (λ k. own_makes (cookies_at k entries)) (equal_keys key other is)
 
     elsewhere : (key : PlainKey) → eq_by_cmp cell_order key (partition_key rules how) ≡ false → after key ≡ wanted key
     elsewhere key apart =
         let cookies = cookies_at key entries in
         partition key (changed_if prepared.own key cookies)
-        ∙ ap (λ b. cond b (marked partition_at (pos now) (changed_if prepared.own key cookies)) (changed_if prepared.own key cookies)) apart
+        ∙ ap (λ b. cond b (partition_makes (changed_if prepared.own key cookies)) (changed_if prepared.own key cookies)) apart
         ∙ own key cookies
         ∙ own_cookies key (own_key rules how) (is_key key (own_key rules how)) refl
-        ∙ ap (λ places. cond (is_key key (own_key rules how)) (marked places (pos now) (cookies_if (own_key rules how) entries)) cookies) are_own
-        ∙ sym (ap (λ b. cond b (both_marked now how (found rules how entries)).partition (cond (is_key key (own_key rules how)) (both_marked now how (found rules how entries)).own cookies)) apart)
+        ∙ sym (ap (λ b. cond b made.partition (cond (is_key key (own_key rules how)) made.own cookies)) apart)
 
-    pub marked_left : LeavesBoth rules how (both_marked now how (found rules how entries)) entries prepared
-    marked_left = λ key. at key (eq_by_cmp cell_order key (partition_key rules how)) refl
+    pub made_left : LeavesBoth rules how made entries prepared
+    made_left = λ key. at key (eq_by_cmp cell_order key (partition_key rules how)) refl
       where
         at : (key : PlainKey) (b : Bool) → eq_by_cmp cell_order key (partition_key rules how) ≡ b → after key ≡ wanted key
         at key true tie = subst (λ k. after k ≡ wanted k) (sym (equal_keys key (partition_key rules how) tie)) at_partition
@@ -141,7 +131,7 @@ module _ (rules : List Rule) (how : CookieUse) (entries : Entries) (prepared : P
 -- ---- what was prepared is done
 
 place_kept : (key : PlainKey) (becomes : Becomes) (old mid : Entries) → KeepKeys old mid → HasPlace key old becomes → HasPlace key mid becomes
-place_kept key (Marked places now) old mid kept place = tt
+place_kept key (Marked places now new) old mid kept place = tt
 place_kept key (Stored jar) old mid kept place = kept key place
 
 -- both changes, one after the other
@@ -202,33 +192,6 @@ module _ (rules : List Rule) (now : ℕ) (how : CookieUse) where
       ∙ (λ i. leaves rules how (stores.0 i) stored.changes (Load (sym tells i) (stores.1 i)) (shared_in new) (held_with new held))
       ∙ ap (λ b. leaves rules how after stored.changes b (shared_in new) (held_with new held)) (sym is_body))
 
-  -- a request whose response stores nothing
-  pub marking_prepared : (entries : Entries) (head : List HeadField) (prepared : Prepared) (own : Option PlainKey) (partition : PlainKey)
-      (own_at partition_at : List ℕ) (header : Option (List ℕ))
-      → own ≡ own_key rules how → partition ≡ partition_key rules how
-      → IsChange own (marked own_at (pos now)) prepared.own
-      → IsChange (Some partition) (marked partition_at (pos now)) (Some prepared.partition)
-      → own_at ≡ own_places now how (found rules how entries) → partition_at ≡ partition_places now how (found rules how entries)
-      → CanBeDone prepared entries
-      → header ≡ header_text (sent now how (found rules how entries))
-      → body_of prepared.body ≡ Load header []
-      → prepared.rows.items ≡ []
-      → cookie_texts head ≡ []
-      → Prepares (request rules now how head) entries prepared
-  marking_prepared entries head prepared own partition own_at partition_at header is_own is_partition owns partitions are_own are_partition can tells is_body no_rows none =
-      request_prepared entries entries head prepared (both_marked now how (found rules how entries)) (both_marked now how (found rules how entries)) header []
-      (λ key. refl) refl (
-        ap (λ texts. (store_texts rules now how (both_marked now how (found rules how entries)) texts).both) none,
-        ap (λ texts. (store_texts rules now how (both_marked now how (found rules how entries)) texts).words) none,
-      )
-      (ap (map plain_change) no_rows ∙ sym (ap (λ texts. (store_texts rules now how (both_marked now how (found rules how entries)) texts).changes) none))
-      tells is_body
-      (marked_left rules how entries prepared now own_at partition_at
-      (subst (λ key. IsChange key (marked own_at (pos now)) prepared.own) is_own owns)
-      (subst (λ key. IsChange (Some key) (marked partition_at (pos now)) (Some prepared.partition)) is_partition partitions)
-      are_own are_partition)
-      can
-
   -- a script that sets a cookie
   pub set_prepared : (old new : Entries) (text : List ℕ) (prepared : Prepared) (after : BothCells) (word : List ℕ)
       → HoldSame old new
@@ -252,6 +215,14 @@ module _ (rules : List Rule) (now : ℕ) (how : CookieUse) where
     held = sym (ap (λ done. done.held) (read_is rules now how entries held));
     body = ap Cookie is ∙ sym (ap (λ done. done.body) (read_is rules now how entries held));
   }
+
+-- the key of an unpartitioned cell
+pub own_kind : (rules : List Rule) (how : CookieUse) (key : Option PlainKey) → key ≡ own_key rules how → IfSome key (λ k. kind_of k ≡ kind.Own)
+own_kind rules how key is = subst (λ o. IfSome o (λ k. kind_of k ≡ kind.Own)) (sym is) (at (uses_own how))
+  where
+    at : (b : Bool) → IfSome (cond b (Some (OwnCell (cookie_domain rules how))) None) (λ k. kind_of k ≡ kind.Own)
+    at true = refl
+    at false = tt
 
 -- marks have a place wherever their key is
 pub marks_place : (key : Option PlainKey) (entries : Entries) (becomes : Becomes) → ((k : PlainKey) → HasPlace k entries becomes) → HasPlaceIf key entries becomes

@@ -18,10 +18,11 @@ use Rattle.web_cookies.specs.Cells.{HaveKinds, cell_key, cell_order, cookies_at,
 use Rattle.web_cookies.specs.CellsOfUse.{HoldSame}
 use Rattle.web_cookies.specs.Rows.{HasPlace, IsRowDone, cookies_after_row}
 use Rattle.web_cookies.proofs.OrderOfCells.{alike, cell_order_total, equal_keys, order, own_tie}
-use Rattle.web_cookies.proofs.PlainKeyLemmas.{found-key, found-set}
+use Rattle.key_map.proofs.PlainKeyLemmas.{found-key, found-set}
 use Rattle.web_cookies.proofs.CellLemmas.{partitioned_at, partitioned_with, shared_at, shared_with}
 use Rattle.web_cookies.proofs.ChangeLemmas.{change_set}
 use Rattle.web_cookies.proofs.LeftLemmas.{partitioned_same, shared_same}
+use Rattle.web_cookies.proofs.PreparedLemmas.{kinds_set}
 
 module _ (cell : PlainKey) (row : CookieRow) (old new : Entries) where
   -- each key has what the change leaves there
@@ -71,10 +72,11 @@ place_set key entries jar new there room =
     subst (λ o. MatchOption o ⊥ (λ j. 0 < j.spare)) (sym found) (omega (arith, room))
 
 -- where a change is not valid, and the cookies are none, none changes
-pub row_none : (key : CellKey) (row : CookieRow) (entries : Entries) → map_get order key entries ≡ None → row_fits (kind_of (plain_key key)) [] row ≡ false
-    → IsRowDone (plain_key key) row entries entries false
-row_none key row entries none fails =
-    row_done (plain_key key) row entries entries false (sym fits) (λ q. at q (eq_by_cmp cell_order q (plain_key key)) refl)
+pub row_none : (key : CellKey) (row : CookieRow) (entries after : Entries) → after ≡ entries → map_get order key entries ≡ None
+    → row_fits (kind_of (plain_key key)) [] row ≡ false → IsRowDone (plain_key key) row entries after false
+row_none key row entries after same none fails =
+    subst (λ es. IsRowDone (plain_key key) row entries es false) (sym same)
+    (row_done (plain_key key) row entries entries false (sym fits) (λ q. at q (eq_by_cmp cell_order q (plain_key key)) refl))
   where
     empty : cookies_at (plain_key key) entries ≡ []
     empty = cookies_there key entries None none
@@ -89,41 +91,54 @@ row_none key row entries none fails =
         ∙ sym (ap (λ b. cond b (row_edit (cookies_at (plain_key key) entries) row) (cookies_at (plain_key key) entries)) fits)
     at q false apart = refl
 
--- a jar that is there is left as the change leaves it
-module _ (key : CellKey) (row : CookieRow) (entries : Entries) (jar new : PlainJar) (kinds : HaveKinds entries) (there : map_get order key entries ≡ Some jar) where
-  row_at : apply_row jar.kind jar.cookies row ≡ cookies_after_row (plain_key key) row entries
-  row_at =
-      ap (λ kind. apply_row kind jar.cookies row) (kind_there key entries jar kinds there)
-      ∙ ap (λ cs. apply_row (kind_of (plain_key key)) cs row) (sym (cookies_there key entries (Some jar) there))
+-- a jar that is there
+module _ (key : CellKey) (entries : Entries) (jar : PlainJar) (there : Some jar ≡ map_get order key entries) where
+  module _ (row : CookieRow) (kinds : HaveKinds entries) where
+    fits_there : row_fits jar.kind jar.cookies row ≡ row_fits (kind_of (plain_key key)) (cookies_at (plain_key key) entries) row
+    fits_there =
+        ap (λ kind. row_fits kind jar.cookies row) (kind_there key entries jar kinds (sym there))
+        ∙ ap (λ cs. row_fits (kind_of (plain_key key)) cs row) (sym (cookies_there key entries (Some jar) (sym there)))
 
-  pub row_set : (done : Bool) → done ≡ row_fits jar.kind jar.cookies row → new.cookies ≡ apply_row jar.kind jar.cookies row
-      → IsRowDone (plain_key key) row entries (map_set order key new entries) done
-  row_set done valid is =
-      row_done (plain_key key) row entries (map_set order key new entries) done
-      (valid ∙ ap (λ kind. row_fits kind jar.cookies row) (kind_there key entries jar kinds there)
-      ∙ ap (λ cs. row_fits (kind_of (plain_key key)) cs row) (sym (cookies_there key entries (Some jar) there)))
-      (λ q. change_set key (Stored new) entries jar new there refl q
-      ∙ ap (λ cs. cond (eq_by_cmp cell_order q (plain_key key)) cs (cookies_at q entries)) (is ∙ row_at))
+    row_at : apply_row jar.kind jar.cookies row ≡ cookies_after_row (plain_key key) row entries
+    row_at =
+        ap (λ kind. apply_row kind jar.cookies row) (kind_there key entries jar kinds (sym there))
+        ∙ ap (λ cs. apply_row (kind_of (plain_key key)) cs row) (sym (cookies_there key entries (Some jar) (sym there)))
 
-  pub row_set_ok : {E : Type 0} (r : Result Bool E) → IfOk r (λ done. done ≡ row_fits jar.kind jar.cookies row)
-      → OnOk r (new.cookies ≡ apply_row jar.kind jar.cookies row)
-      → IfOk r (λ done. IsRowDone (plain_key key) row entries (map_set order key new entries) done)
-  row_set_ok (Ok done) valid is = row_set done valid is
-  row_set_ok (Err why) valid is = tt
+    -- what does not fit the cell does not fit it
+    pub refused_there : row_fits (kind_of (plain_key key)) (cookies_at (plain_key key) entries) row ≡ false → row_fits jar.kind jar.cookies row ≡ false
+    refused_there fails = fits_there ∙ fails
 
-  pub refused_there : row_fits (kind_of (plain_key key)) (cookies_at (plain_key key) entries) row ≡ false → row_fits jar.kind jar.cookies row ≡ false
-  refused_there fails =
-      ap (λ kind. row_fits kind jar.cookies row) (kind_there key entries jar kinds there)
-      ∙ ap (λ cs. row_fits (kind_of (plain_key key)) cs row) (sym (cookies_there key entries (Some jar) there))
-      ∙ fails
+  -- another is written in its place
+  module _ (new : PlainJar) (after : Entries) (is : after ≡ map_set order key new entries) where
+    -- jars stay of the kind of their key where it is of the same kind
+    pub kinds_written : HaveKinds entries → new.kind ≡ jar.kind → HaveKinds after
+    kinds_written kinds same =
+        subst HaveKinds (sym is) (kinds_set key new entries kinds (same ∙ kind_there key entries jar kinds (sym there)) (ap is_some (sym there)))
 
-  -- a jar that keeps its cookies leaves each cell
-  pub kept_set : new.cookies ≡ jar.cookies → HoldSame entries (map_set order key new entries)
-  kept_set is q = change_set key (Stored new) entries jar new there refl q ∙ at (eq_by_cmp cell_order q (plain_key key)) refl
-    where
-      at : (b : Bool) → eq_by_cmp cell_order q (plain_key key) ≡ b → cond b new.cookies (cookies_at q entries) ≡ cookies_at q entries
-      at true tie = is ∙ sym (cookies_there key entries (Some jar) there) ∙ ap (λ k. cookies_at k entries) (sym (equal_keys q (plain_key key) tie))
-      at false apart = refl
+    -- where it has the same cookies, each cell has what it had before room was made
+    pub kept_written : HaveKinds entries → (before made : Entries) → new.cookies ≡ jar.cookies → entries ≡ made → HoldSame before made → HoldSame before after
+    kept_written kinds before made kept seen same q =
+        ap (cookies_at q) is ∙ change_set key (Stored new) entries jar new (sym there) kinds refl q ∙ at (eq_by_cmp cell_order q (plain_key key)) refl
+        ∙ ap (cookies_at q) seen ∙ same q
+      where
+        at : (b : Bool) → eq_by_cmp cell_order q (plain_key key) ≡ b → cond b new.cookies (cookies_at q entries) ≡ cookies_at q entries
+        at true tie = kept ∙ sym (cookies_there key entries (Some jar) (sym there)) ∙ ap (λ k. cookies_at k entries) (sym (equal_keys q (plain_key key) tie))
+        at false apart = refl
+
+    -- where a change makes its cookies, it is done in the cell
+    pub row_written : (row : CookieRow) → HaveKinds entries → (done : Bool) → done ≡ row_fits jar.kind jar.cookies row
+        → new.cookies ≡ apply_row jar.kind jar.cookies row → IsRowDone (plain_key key) row entries after done
+    row_written row kinds done valid edited =
+        subst (λ es. IsRowDone (plain_key key) row entries es done) (sym is)
+        (row_done (plain_key key) row entries (map_set order key new entries) done (valid ∙ fits_there row kinds)
+        (λ q. change_set key (Stored new) entries jar new (sym there) kinds refl q
+        ∙ ap (λ cs. cond (eq_by_cmp cell_order q (plain_key key)) cs (cookies_at q entries)) (edited ∙ row_at row kinds)))
+
+    pub row_written_ok : {E : Type 0} (row : CookieRow) → HaveKinds entries → (r : Result Bool E)
+        → IfOk r (λ done. done ≡ row_fits jar.kind jar.cookies row) → OnOk r (new.cookies ≡ apply_row jar.kind jar.cookies row)
+        → IfOk r (λ done. IsRowDone (plain_key key) row entries after done)
+    row_written_ok row kinds (Ok done) valid edited = row_written row kinds done valid edited
+    row_written_ok row kinds (Err why) valid edited = tt
 
 -- a change of cookies that are the same
 pub row_same : (cell : PlainKey) (row : CookieRow) (old mid new : Entries) (done : Bool) → HoldSame old mid → IsRowDone cell row mid new done → IsRowDone cell row old new done

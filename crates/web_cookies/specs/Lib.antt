@@ -8,4 +8,5 @@ pub mod Rows
 pub mod Listed
 -- What private functions compute. No public clause rests on it.
 pub mod CellsOfUse
+pub mod InPlace
 pub mod Words

@@ -10,7 +10,7 @@ use Rattle.row_changes.specs.Plain.{plain_change}
 use Rattle.agent_model.specs.Effects.{Effect}
 use Rattle.agent_model.specs.Partition.{Holdings}
 use Rattle.web_cookies.specs.Stored.{Entries, IsDoneBy, held_with, shared_in}
-use Rattle.web_cookies.specs.Cells.{cell_order, cookies_at, jar_at}
+use Rattle.web_cookies.specs.Cells.{cell_order, cookies_at, jar_at, kind_of}
 use Rattle.web_cookies.specs.Becoming.{becomes_of}
 use Rattle.web_cookies.specs.declared.change.Becomes.{Becomes}
 use Rattle.web_cookies.specs.declared.change.Becomes.TheVariants.{Marked, Stored}
@@ -19,7 +19,7 @@ use Rattle.web_cookies.specs.declared.prepared.Prepared.{Prepared}
 
 -- there is a place for what a cell becomes
 abbrev pub HasPlace : PlainKey → Entries → Becomes → Type 0
-HasPlace key entries (Marked places now) = ⊤
+HasPlace key entries (Marked places now new) = ⊤
 HasPlace key entries (Stored jar) = is_some (jar_at key entries) ≡ true
 
 -- a change can be done to these cookies
@@ -29,7 +29,8 @@ IsReady change entries = HasPlace (plain_key change.key) entries change.becomes
 -- the cookies of a key, once a cell was changed
 abbrev pub changed : CellChange → PlainKey → Cookies → Cookies
 changed change key cookies =
-    if eq_by_cmp cell_order key (plain_key change.key) then becomes_of change.becomes cookies
+    if eq_by_cmp cell_order key (plain_key change.key)
+    then becomes_of (kind_of (plain_key change.key)) change.becomes cookies
     else cookies
 
 -- a change that there may be can be done

@@ -280,7 +280,8 @@ pub fn has_cookies(head: &[HeadField]) -> bool
     head.iter().any(|field| is_set_cookie(field))
 }
 
-fn is_set_cookie(field: &HeadField) -> bool
+/// Whether a field has a Set-Cookie text.
+pub fn is_set_cookie(field: &HeadField) -> bool
     ensures { result ≡ same_in_any_case (head_field_of field.now).name (codes "Set-Cookie") }
 {
     field.name.as_str().eq_ignore_ascii_case("Set-Cookie")

@@ -15,11 +15,11 @@ ghost use Rattle.web_cookies.specs.Cells.{cookies_at, jar_at, kind_of};
 ghost use Rattle.web_cookies.specs.Prepared.{Prepares, IsReady, IsReadyIf, changed, changed_if};
 ghost use Rattle.web_cookies.specs.CellsOfUse.{AreKeysOf, HasKey, HoldSame, IsSending, KeepKeys, cookies_if, found};
 
-use crate::both::{BothJars, has_cookies};
-use crate::change::{CellChange, write};
+use crate::both::BothJars;
+use crate::change::{CellChange, is_nothing, write};
 use crate::cookie_use::CookieUse;
 use crate::keys::{UseKeys, keys_of};
-use crate::prepared::{Prepared, marking, storing};
+use crate::prepared::{Prepared, marking, setting, storing};
 use crate::sending::{Sending, chosen, header_value};
 use agent_base::NoMemory;
 use cookie_jar::{CellKey, Jar};
@@ -65,8 +65,8 @@ impl Cookies {
     /// What a request makes of the cookies: its own are chosen and marked as used, and then the
     /// texts of its response are stored. Changes no cookie.
     ///
-    /// Where the response has no Set-Cookie text, no jar is copied. Each call takes the memory of
-    /// the keys of both cells.
+    /// Where the response has no Set-Cookie text, or one alone that replaces a cookie and does no
+    /// more, no jar is copied. Each call takes the memory of the keys of both cells.
     pub fn prepare(
         &mut self,
         alloc: Global,
@@ -83,12 +83,12 @@ impl Cookies {
             prepared) }
     {
         let keys = keys_of(alloc, list, how)?;
-        if has_cookies(head) {
-            self.prepare_storing(alloc, list, now, how, head, keys)
-        } else {
-            let sending = self.sending(alloc, list, now, how, &keys)?;
-            Ok(marking(alloc, now, keys, sending))
-        }
+        let in_place = self.texts_in_place(alloc, list, now, how, &keys, head)?;
+        let Some((stored, words)) = in_place else {
+            return self.prepare_storing(alloc, list, now, how, head, keys);
+        };
+        let sending = self.sending(alloc, list, now, how, &keys)?;
+        Ok(marking(now, keys, sending, stored, words))
     }
 
     /// Does what was prepared for these cookies as they stand. Takes no memory.
@@ -109,7 +109,8 @@ impl Cookies {
 
     /// What a script that sets a cookie makes of the cookies. Changes no cookie.
     ///
-    /// Each call copies the jars of both cells.
+    /// Where the text replaces a cookie and does no more, no jar is copied, and else those of both
+    /// cells.
     pub fn prepare_set(
         &mut self,
         alloc: Global,
@@ -125,6 +126,10 @@ impl Cookies {
             (set_cookie_by list.now.rules now (plain_use how.now) text.now) self.new prepared) }
     {
         let keys = keys_of(alloc, list, how)?;
+        let in_place = self.text_in_place(alloc, list, now, how, &keys, text)?;
+        if let Some((stored, word)) = in_place {
+            return Ok(setting(alloc, keys, stored, word));
+        }
         let mut both = self.copies(alloc, list, how, &keys)?;
         let mut rows = Vec::new(alloc);
         let word = both.store(alloc, list, now, how, &keys, text, &mut rows)?;
@@ -321,6 +326,9 @@ impl Cookies {
         ensures kept { KeepKeys self.old self.new }
     {
         let CellChange { key, becomes } = change;
+        if is_nothing(&becomes) {
+            return;
+        }
         let Some(jar) = self.cells.get_mut(&key) else {
             return;
         };

@@ -9,6 +9,7 @@ mod both;
 mod change;
 mod cookie_use;
 mod cookies;
+mod in_place;
 mod keys;
 mod listing;
 mod prepared;

@@ -121,7 +121,7 @@ fn insert_in(jar: &mut Jar, place: usize, cookie: Cookie) -> Result<bool, NoMemo
     Ok(true)
 }
 
-fn replace_in(jar: &mut Jar, place: usize, cookie: Cookie) -> bool
+pub fn replace_in(jar: &mut Jar, place: usize, cookie: Cookie) -> bool
     ensures valid { let row = RowReplace place (plain_cookie cookie) in
         result ≡ row_fits jar.old.kind jar.old.cookies row }
     ensures cookies { let row = RowReplace place (plain_cookie cookie) in

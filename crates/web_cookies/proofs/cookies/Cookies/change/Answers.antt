@@ -26,7 +26,7 @@ pub returns-clause-changed : goal.returns-clause-changed
 returns-clause-changed c = rw (← c.self.view_is) (λ ready q.
     let is = rw c.in-Some.is at (c.get_mut.follows.holds c.write.new.jar) in
     ap (cookies_at q) is
-    ∙ change_set c.args.change.key c.args.change.becomes c.self.inside.cells c.in-Some.jar.now c.write.new.jar (sym c.in-Some.ensures.value) c.write.ensures.cookies q)
+    ∙ change_set c.args.change.key c.args.change.becomes c.self.inside.cells c.in-Some.jar.now c.write.new.jar (sym c.in-Some.ensures.value) c.self.invariant c.write.ensures.cookies q)
 
 pub returns-clause-kept : goal.returns-clause-kept
 returns-clause-kept c = rw (← c.self.view_is) (λ q has.

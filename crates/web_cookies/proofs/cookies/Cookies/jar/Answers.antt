@@ -3,7 +3,7 @@ use Rattle.std.proofs.Common.{◌∙◌}
 use Rattle.cookie_jar.specs.Key.{plain_key}
 use Rattle.web_cookies.specs.Cells.{cell_order}
 use Rattle.web_cookies.proofs.OrderOfCells.{alike, cell_order_total, order}
-use Rattle.web_cookies.proofs.PlainKeyLemmas.{found-key}
+use Rattle.key_map.proofs.PlainKeyLemmas.{found-key}
 use Rattle.web_cookies.proofs.RowsLemmas.{lent_cookies, lent_kind}
 use Rattle.web_cookies.proofs.cookies.Cookies.jar.Goals as goal
 

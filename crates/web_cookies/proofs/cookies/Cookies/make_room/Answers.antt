@@ -5,7 +5,7 @@ use Rattle.std.proofs.lemmas.Result.{on_ok_weaker, on_err_weaker}
 use Rattle.cookie_jar.specs.Key.{plain_key}
 use Rattle.web_cookies.specs.Cells.{HaveKinds, cell_order, cookies_at, jar_at, kind_of}
 use Rattle.web_cookies.proofs.OrderOfCells.{alike, cell_order_total, order}
-use Rattle.web_cookies.proofs.PlainKeyLemmas.{found-key}
+use Rattle.key_map.proofs.PlainKeyLemmas.{found-key}
 use Rattle.web_cookies.proofs.CellLemmas.{either_way, room_kept, room_same, room_there}
 use Rattle.web_cookies.proofs.PreparedLemmas.{kinds_put}
 use Rattle.web_cookies.proofs.RowsLemmas.{at_key}

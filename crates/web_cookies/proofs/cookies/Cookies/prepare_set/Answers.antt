@@ -1,12 +1,16 @@
--- The text is stored in copies of both cells.
+-- The text is stored in place, or in copies of both cells.
 use Rattle.std.proofs.Common.{◌++◌, map, ap, ◌∙◌, subst}
+use Rattle.std.specs.Prelude.{IfSome, option_map}
+use Rattle.cookie_jar.specs.Key.{plain_key}
+use Rattle.web_cookies.specs.CellsOfUse.{found}
+use Rattle.web_cookies.specs.InPlace.{IsInPlace}
 use Rattle.reply_lines.specs.Plain.{body_of}
 use Rattle.row_changes.specs.Plain.{plain_change}
 use Rattle.agent_model.specs.CookieStore.{store_text}
 use Rattle.web_cookies.specs.Uses.{plain_use}
 use Rattle.web_cookies.specs.Words.{IsStored}
 use Rattle.web_cookies.proofs.LeftLemmas.{shared_same, partitioned_same}
-use Rattle.web_cookies.proofs.PreparedLemmas.{set_prepared}
+use Rattle.web_cookies.proofs.PreparedLemmas.{own_kind, set_prepared}
 use Rattle.web_cookies.proofs.cookies.Cookies.prepare_set.Goals as goal
 
 pub returns-in_err-both-clause-shared : goal.returns-in_err-both-clause-shared
@@ -42,3 +46,14 @@ returns-clause-prepared c =
     (ap body_of c.storing.ensures.body)
     (c.storing.ensures.left rules how mid c.in_ok-keys.ensures.keys)
     (c.storing.ensures.ready mid c.in_ok-both.ensures.own c.in_ok-both.ensures.partition)
+
+pub setting-requires-clause-own : goal.setting-requires-clause-own
+setting-requires-clause-own c = own_kind c.args.list.now.rules (plain_use c.args.how.now) (option_map plain_key c.in_ok-keys.keys.own) c.in_ok-keys.ensures.keys.own
+
+pub returns-in-Some-clause-prepared : goal.returns-in-Some-clause-prepared
+returns-in-Some-clause-prepared c =
+    let rules = c.args.list.now.rules in
+    let now = c.args.now in
+    let how = plain_use c.args.how.now in
+    c.setting.ensures.prepared rules now how c.args.text.now c.args.self.now c.in_ok-keys.ensures.keys
+    (subst (λ o. IfSome o (λ r. IsInPlace (λ both. store_text rules now how both c.args.text.now) (found rules how c.args.self.now) r.0 r.1.now)) c.in-Some.is c.in_ok-in_place.ensures.stored)

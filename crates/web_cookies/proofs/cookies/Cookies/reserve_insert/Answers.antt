@@ -1,15 +1,11 @@
 -- A jar that is there, or was made, keeps its cookies.
 use Rattle.std.proofs.Common.{ap, sym, subst, ◌∙◌}
-use Rattle.std.specs.Prelude.{is_some}
 use Rattle.std.proofs.lemmas.Result.{on_ok_weaker}
 use Rattle.cookie_jar.specs.Key.{plain_key}
-use Rattle.cookie_jar.specs.Persistent.{RowRemove}
 use Rattle.web_cookies.specs.Stored.{partitioned_in, shared_in}
-use Rattle.web_cookies.specs.Cells.{HaveKinds}
 use Rattle.web_cookies.specs.Rows.{HasPlace}
 use Rattle.web_cookies.proofs.LeftLemmas.{partitioned_same, shared_same}
-use Rattle.web_cookies.proofs.PreparedLemmas.{kinds_set}
-use Rattle.web_cookies.proofs.RowsLemmas.{kept_set, kind_there, place_set}
+use Rattle.web_cookies.proofs.RowsLemmas.{kept_written, kinds_written, place_set}
 use Rattle.web_cookies.proofs.cookies.Cookies.reserve_insert.Goals as goal
 
 pub returns-in_err-make_room-clause-shared : goal.returns-in_err-make_room-clause-shared
@@ -27,26 +23,22 @@ returns-in_default-clause-partitioned c =
 
 pub invariant_of-self-2 : goal.invariant_of-self-2
 invariant_of-self-2 c =
-    let there = sym c.in-Some.ensures.value in
     let is = rw c.in-Some.is at (c.get_mut.follows.holds c.reserve.new.self) in
-    subst HaveKinds (sym is)
-    (kinds_set c.args.cell.now c.reserve.new.self c.self.inside.cells c.self.invariant
-    (c.reserve.ensures.kind ∙ kind_there c.args.cell.now c.self.inside.cells c.in-Some.jar.now c.self.invariant there)
-    (ap is_some there))
+    kinds_written c.args.cell.now c.self.inside.cells c.in-Some.jar.now c.in-Some.ensures.value c.reserve.new.self _ is c.self.invariant c.reserve.ensures.kind
 
 pub returns-clause-shared : goal.returns-clause-shared
 returns-clause-shared c =
     let is = rw c.in-Some.is at (c.get_mut.follows.holds c.reserve.new.self) in
-    ap shared_in is
-    ∙ shared_same c.self.inside.cells _ (kept_set c.args.cell.now (RowRemove 0) c.self.inside.cells c.in-Some.jar.now c.reserve.new.self c.self.invariant (sym c.in-Some.ensures.value) c.reserve.ensures.cookies)
-    ∙ ap shared_in c.self.view_is ∙ shared_same c.args.self.now c.make_room.new.self c.make_room.ensures.same
+    shared_same c.args.self.now _
+    (kept_written c.args.cell.now c.self.inside.cells c.in-Some.jar.now c.in-Some.ensures.value c.reserve.new.self _ is c.self.invariant
+    c.args.self.now c.make_room.new.self c.reserve.ensures.cookies c.self.view_is c.make_room.ensures.same)
 
 pub returns-clause-partitioned : goal.returns-clause-partitioned
 returns-clause-partitioned c =
     let is = rw c.in-Some.is at (c.get_mut.follows.holds c.reserve.new.self) in
-    ap partitioned_in is
-    ∙ partitioned_same c.self.inside.cells _ (kept_set c.args.cell.now (RowRemove 0) c.self.inside.cells c.in-Some.jar.now c.reserve.new.self c.self.invariant (sym c.in-Some.ensures.value) c.reserve.ensures.cookies)
-    ∙ ap partitioned_in c.self.view_is ∙ partitioned_same c.args.self.now c.make_room.new.self c.make_room.ensures.same
+    partitioned_same c.args.self.now _
+    (kept_written c.args.cell.now c.self.inside.cells c.in-Some.jar.now c.in-Some.ensures.value c.reserve.new.self _ is c.self.invariant
+    c.args.self.now c.make_room.new.self c.reserve.ensures.cookies c.self.view_is c.make_room.ensures.same)
 
 pub returns-clause-ready : goal.returns-clause-ready
 returns-clause-ready c =

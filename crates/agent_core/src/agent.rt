@@ -6,7 +6,7 @@ ghost use Rattle.unwinding.specs.CourseSteps.{reopened};
 ghost use Rattle.agent_base.specs.Counts.{Rose};
 ghost use Rattle.disk_model.specs.Disk.{HasFailed, IsPowered, IsSettled, LeavesOnly, Makes};
 ghost use Rattle.journal.specs.Opening.{FileMeans, HasNoFault, IsExcused, IsOfFile, IsOpening};
-ghost use Rattle.journal.specs.Opening.{IsRefusal, opening_calls};
+ghost use Rattle.journal.specs.Opening.{IsLimitRefusal, IsOver, IsRefusal, opening_calls};
 ghost use Rattle.journal.specs.declared.open_fault.OpenFault.{OpenFault};
 ghost use Rattle.script_actions.specs.Plain.{action_of};
 ghost use Rattle.agent_model.specs.Lines.{Rest, no_places};
@@ -203,6 +203,8 @@ impl<'l, D: Disk + Drop> Agent<'l, D> {
             → IsRefusal (Takes list.now.rules) (Refuses list.now.rules) nothing_saved true
             list.now.digest c why
             → MatchResult result (λ _. ⊥) (λ r. (r.why ≡ why) ⊎ IsExcused r.why) }
+        ensures limit { (c : List ℕ) → (D.view disk).contents ≡ Some c → IsOver true c
+            → MatchResult result (λ _. ⊥) (λ r. IsLimitRefusal c r.why) }
         ensures unchanged { IfErr result (λ r. IsOfFile r.why
             → (D.view r.disk).contents ≡ (D.view disk).contents) }
         ensures tells { MatchResult result

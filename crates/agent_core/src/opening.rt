@@ -3,7 +3,7 @@ ghost use Rattle.std.specs.Prelude.{◌≡◌, ◌⊎◌, ℕ, IfErr, IfOk, IsEr
 ghost use Rattle.std.specs.Prelude.{true};
 ghost use Rattle.disk_model.specs.Disk.{IsSettled, LeavesOnly, Makes};
 ghost use Rattle.journal.specs.Opening.{FileMeans, IsExcused, IsOfFile, IsOpening, IsRefusal};
-ghost use Rattle.journal.specs.Opening.{IsWithin, Opens, opening_calls};
+ghost use Rattle.journal.specs.Opening.{IsLimitRefusal, IsOver, IsWithin, Opens, opening_calls};
 ghost use Rattle.journal.specs.declared.open_fault.OpenFault.{OpenFault};
 ghost use Rattle.open_store.specs.Reopens.{IsReopening, LeavesAnew, Reopens};
 ghost use Rattle.durable_model.specs.Saved.{Saved, nothing_saved};
@@ -43,6 +43,8 @@ pub fn open<D: Disk>(alloc: Global, disk: &mut D, list: &SuffixList) -> Result<O
         → IsRefusal (Takes list.now.rules) (Refuses list.now.rules) nothing_saved true
         list.now.digest c why
         → MatchResult result (λ _. ⊥) (λ w. (w ≡ why) ⊎ IsExcused w) }
+    ensures limit { (c : List ℕ) → (D.view disk.old).contents ≡ Some c → IsOver true c
+        → MatchResult result (λ _. ⊥) (IsLimitRefusal c) }
     ensures unchanged { (why : OpenFault) → IsErrOf result why → IsOfFile why
         → (D.view disk.new).contents ≡ (D.view disk.old).contents }
     ensures device { Opens result (D.view disk.old) (D.view disk.new) }

@@ -43,6 +43,7 @@ module _ {T : Type 0} (list : RuleList) (old new : View) where
   opened_as (Ok x) o = record {
     refused = λ why is. absurd (given_is tt why is);
     exactly = o.exactly;
+    limit = o.limit;
     excused = λ c d n told within means. tt;
     unchanged = λ why is. absurd (given_is tt why is);
     kept = o.kept;
@@ -54,6 +55,7 @@ module _ {T : Type 0} (list : RuleList) (old new : View) where
   opened_as (Err why) o = record {
     refused = λ again is. o.refused again (refusal_is why again (opened {T = T} (Err why)) (Err why) refl refl is);
     exactly = o.exactly;
+    limit = o.limit;
     excused = o.excused;
     unchanged = λ again is. o.unchanged again (refusal_is why again (opened {T = T} (Err why)) (Err why) refl refl is);
     kept = o.kept;

@@ -5,8 +5,8 @@
 use Rattle.std.specs.Prelude.{◌≡◌, ◌⊎◌, ◌<◌, ℕ, List, length, true, Some, Result, Ok, Err}
 use Rattle.std.specs.Prelude.{IfErr, IsErrOf, MatchResult, OnOk}
 use Rattle.disk_model.specs.Disk.{IsSettled, LeavesOnly, Makes, View}
-use Rattle.journal.specs.Opening.{FileMeans, IsExcused, IsOfFile, IsOpening, IsRefusal, IsWithin}
-use Rattle.journal.specs.Opening.{Opens, opening_calls}
+use Rattle.journal.specs.Opening.{FileMeans, IsExcused, IsLimitRefusal, IsOfFile, IsOpening}
+use Rattle.journal.specs.Opening.{IsOver, IsRefusal, IsWithin, Opens, opening_calls}
 use Rattle.journal.specs.Store.{IsOpen}
 use Rattle.journal.specs.declared.open_fault.OpenFault.{OpenFault}
 use Rattle.suffix_list.specs.ListText.{RuleList}
@@ -40,6 +40,9 @@ pub record OpensStore {T : Type 0} (list : RuleList) (old new : View) (result : 
       → IsCause list c why
   pub exactly : (why : OpenFault) (c : List ℕ) → old.contents ≡ Some c → IsOfFile why
       → IsCause list c why → MatchResult result (λ _. ⊥) (λ w. (w ≡ why) ⊎ IsExcused w)
+  -- one over the limit is told with its length, and never as want of memory
+  pub limit : (c : List ℕ) → old.contents ≡ Some c → IsOver true c
+      → MatchResult result (λ _. ⊥) (IsLimitRefusal c)
   -- a file that stands for a state is opened, but for want of memory and device faults
   pub excused : (c : List ℕ) (d : Saved) (n : ℕ) → old.contents ≡ Some c → IsWithin true c
       → FileMeans (Takes list.rules) nothing_saved list.digest c d n → IfErr result IsExcused

@@ -1,9 +1,10 @@
 //! Requests: which use of cookies each kind is, and what is prepared for it.
-ghost use Rattle.std.specs.Prelude.{◌≡◌, ◌≤◌, OnOk, Some, false, map, true};
+ghost use Rattle.std.specs.Prelude.{◌≡◌, ◌≤◌, IfOk, IsTrue, OnOk, Some, false, map, true};
 ghost use Rattle.origin_site.specs.Plain.{plain_address, plain_site};
-ghost use Rattle.origin_site.specs.Site.{PlainSite};
+ghost use Rattle.origin_site.specs.Site.{PlainSite, site_of_address};
 ghost use Rattle.storage_key.specs.Plain.{plain_context, plain_key};
 ghost use Rattle.frame_tree.specs.Document.{PlainDocument};
+ghost use Rattle.frame_tree.specs.Keys.{is_first_at};
 ghost use Rattle.frame_tree.specs.Tree.{chain_of, document_of, has_frame, top_site};
 ghost use Rattle.script_actions.specs.Plain.{head_field_of};
 ghost use Rattle.agent_model.specs.CookieUses as spec;
@@ -23,7 +24,7 @@ use frame_tree::Tab;
 pub use line_events::is_granted_at;
 use line_events::{context_above, target_of};
 use live_state::Live;
-use origin_site::{Address, Site, same_site};
+use origin_site::{Address, Site, domain_of, same_site};
 use script_actions::{HeadField, Method};
 use std::alloc::Global;
 use storage_key::{Context, StorageKey};
@@ -103,11 +104,38 @@ pub fn prepare_below(
         let fields = map head_field_of head.now in
         IsPrepared list.now.rules now how fields cookies.old cookies.new result }
 {
-    let target = target_of(alloc, list, url)?;
-    let first = tab.first_party(frame, &target);
+    let first = is_first(tab, alloc, list, frame, url)?;
     let context = Context { first, bit: !first };
     let how = request_use(tab, url, context, first, method, granted);
     cookies.prepare(alloc, list, now, &how, head)
+}
+
+// Whether a request below a document is first party. Where it is one of the top-level site, that is
+// compared and no other is made.
+fn is_first(
+    tab: &Tab,
+    alloc: Global,
+    list: &SuffixList,
+    frame: u8,
+    url: &Address,
+) -> Result<bool, NoMemory>
+    ensures { IfOk result (λ first. first ≡ is_first_at frame tab.now
+        (site_of_address list.now.rules (plain_address url.now))) }
+{
+    let top = tab.top_site();
+    if is_at(top, list, url) {
+        return Ok(tab.first_party(frame, top));
+    }
+    let target = target_of(alloc, list, url)?;
+    Ok(tab.first_party(frame, &target))
+}
+
+// Whether an address is one of a site.
+fn is_at(site: &Site, list: &SuffixList, url: &Address) -> bool
+    ensures { IsTrue result
+        → plain_site site.now ≡ site_of_address list.now.rules (plain_address url.now) }
+{
+    site.https == url.https && site.host.as_str() == domain_of(url.host.as_str(), url.ip, list)
 }
 
 /// Prepares the load of a frame that goes to another address. Its own document starts it, or its

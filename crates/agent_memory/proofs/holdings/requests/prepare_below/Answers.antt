@@ -1,9 +1,9 @@
 -- The context is by the chain of the document.
-use Rattle.std.proofs.Common.{◌≡◌, false, map, not, ap, ◌∙◌}
+use Rattle.std.proofs.Common.{◌≡◌, false, map, not, ◌∙◌}
 use Rattle.origin_site.specs.Plain.{plain_address}
 use Rattle.script_actions.specs.Plain.{head_field_of}
 use Rattle.storage_key.specs.Context.{is_first_party}
-use Rattle.frame_tree.specs.Keys.{is_first_at, sites}
+use Rattle.frame_tree.specs.Keys.{sites}
 use Rattle.frame_tree.specs.Tree.{chain_of}
 use Rattle.origin_site.specs.Site.{site_of_address}
 use Rattle.agent_model.specs.CookieUses.{is_safe, request_use}
@@ -16,8 +16,8 @@ returns c =
     let rules = c.args.list.now.rules in
     let url = plain_address c.args.url.now in
     let frames = c.args.tab.now in
-    let first : c.first_party-first.result ≡ is_first_party (sites (chain_of c.args.frame frames)) (site_of_address rules url) =
-    c.first_party-first.ensures.first ∙ ap (is_first_at c.args.frame frames) c.in_ok-target.ensures.site
+    let first : c.in_ok-first.first ≡ is_first_party (sites (chain_of c.args.frame frames)) (site_of_address rules url) =
+    c.in_ok-first.ensures
     ∙ first_is c.args.frame frames (site_of_address rules url) c.requires.there in
     record {
       prepared = λ site top.

@@ -4,7 +4,7 @@ use Rattle.std.proofs.lemmas.Bool.{true≢false}
 use Rattle.agent_base.specs.Counts.{Rose}
 use Rattle.agent_base.specs.Streams.{Takes}
 use Rattle.disk_model.specs.Disk.{View}
-use Rattle.journal.specs.Opening.{IsExcused, IsOfFile}
+use Rattle.journal.specs.Opening.{IsExcused, IsLimitRefusal, IsOfFile}
 use Rattle.journal.specs.declared.open_fault.OpenFault.{OpenFault}
 use Rattle.journal.specs.declared.open_fault.OpenFault.TheVariants as fault
 use Rattle.script_actions.specs.Action.{PlainStep}
@@ -20,7 +20,7 @@ use Rattle.store_runs.specs.Calls.{StaysOrRose, Stops, Unsettled, over_run}
 use Rattle.store_runs.specs.Closing.{Closes, EndsWith, HoldsNone, IsEnd}
 use Rattle.store_runs.specs.Courses.{OnCourse, faults_on}
 use Rattle.store_runs.specs.Faults.{RoseBy}
-use Rattle.store_runs.specs.Endings.{IsStoreEnding, TellsPower, WriteCounts, ending_of}
+use Rattle.store_runs.specs.Endings.{IsLimitEnding, IsStoreEnding, TellsPower, WriteCounts, ending_of}
 use Rattle.store_runs.specs.Tidy.{IsTidyAt}
 use Rattle.store_runs.specs.Waiting.{Ended}
 use Rattle.store_runs.specs.declared.ending.Ending.{Ending}
@@ -317,3 +317,9 @@ pub refused_exactly : (found why : OpenFault) → IsOfFile why → (found ≡ wh
     → (ending_of found ≡ Store why) ⊎ ((ending_of found ≡ Device) ⊎ (ending_of found ≡ Memory))
 refused_exactly found why of (inl same) = inl (ap ending_of same ∙ file_ending why of)
 refused_exactly found why of (inr excused) = inr (excused_ending found excused)
+
+-- a file over the limit ends the run by its length, or by a failed call
+pub limit_ends : (why : OpenFault) (ending : Ending) (file : List ℕ) → ending ≡ ending_of why
+    → IsLimitRefusal file why → IsLimitEnding file ending
+limit_ends why ending file is (inl large) = inl (is ∙ ap ending_of large)
+limit_ends why ending file is (inr fault) = inr (is ∙ ap ending_of fault)

@@ -1,7 +1,7 @@
 -- What each ending of a run says of the file, of the agent and of the output.
 -- Source: none.
 -- Our own choice: the endings. Want of memory alone is free.
-use Rattle.std.specs.Prelude.{◌≡◌, ℕ}
+use Rattle.std.specs.Prelude.{◌≡◌, ◌⊎◌, ℕ, List, length}
 use Rattle.agent_base.specs.Counts.{Rose}
 use Rattle.agent_core.specs.declared.agent.Power.{Power}
 use Rattle.agent_core.specs.declared.agent.Power.TheVariants.{Up}
@@ -18,6 +18,11 @@ ending_of fault.NoMemory = Memory
 ending_of (fault.NotAStore offset) = Store (fault.NotAStore offset)
 ending_of (fault.OtherList kept given) = Store (fault.OtherList kept given)
 ending_of (fault.TooLarge len) = Store (fault.TooLarge len)
+
+-- how a run ends over a file that is over the limit of size: by its length, or by a call of the
+-- disk that failed. Neither takes memory, so that want of it is no ending here.
+abbrev pub IsLimitEnding : List ℕ → Ending → Type 0
+IsLimitEnding file ending = (ending ≡ Store (fault.TooLarge (length file))) ⊎ (ending ≡ Device)
 
 -- what is told of a store is a fault of its file
 abbrev pub IsStoreEnding : Ending → Type 0

@@ -7,12 +7,12 @@ ghost use Rattle.agent_core.specs.AgentView.{longest_batch};
 ghost use Rattle.agent_model.specs.Rest.{last_moment};
 ghost use Rattle.disk_model.specs.Schedule.{AreFrom};
 ghost use Rattle.durable_model.specs.Saved.{nothing_saved};
-ghost use Rattle.journal.specs.Opening.{IsOfFile, IsRefusal};
+ghost use Rattle.journal.specs.Opening.{IsOfFile, IsOver, IsRefusal};
 ghost use Rattle.journal.specs.declared.open_fault.OpenFault.{OpenFault};
 ghost use Rattle.row_store.specs.Bodies.{Refuses};
 ghost use Rattle.row_store.specs.Bodies as bodies;
 ghost use Rattle.store_runs.specs.Disks.{WritesInMemory, WritesOn};
-ghost use Rattle.store_runs.specs.Endings.{IsStoreEnding, WriteCounts};
+ghost use Rattle.store_runs.specs.Endings.{IsLimitEnding, IsStoreEnding, WriteCounts};
 ghost use Rattle.store_runs.specs.Steps.{steps_of};
 ghost use Rattle.store_runs.specs.Tidy.{LeavesTidy};
 
@@ -57,6 +57,9 @@ pub fn run_on<D: Disk + Drop, O: Sink>(
         → Takes (O.taken out.old) (O.taken out.new) []
         × ((result.ending ≡ Ending.Store why)
         ⊎ ((result.ending ≡ Ending.Device) ⊎ (result.ending ≡ Ending.Memory))) }
+    // One over the limit of size is told with its length, and never as want of memory.
+    ensures limit { (c : List ℕ) → (D.view disk).contents ≡ Some c → IsOver true c
+        → IsLimitEnding c result.ending }
     // At `Done` no checkpoint is due for the store that is left.
     ensures tidy { (D.view disk).tells ≡ true → result.ending ≡ Ending.Done
         → LeavesTidy options.checkpoint list.now.digest (D.view result.disk).may_leave }

@@ -9,7 +9,7 @@ use Rattle.store_runs.specs.Endings.{IsStoreEnding, WriteCounts}
 use Rattle.store_runs.specs.Steps.{steps_of}
 use Rattle.store_runs.specs.Tidy.{LeavesTidy}
 use Rattle.store_runs.proofs.DiskLemmas.{fails_within, opened_here, opened_writes, opens_past, refused_ends, refused_writes, tidy_under}
-use Rattle.store_runs.proofs.EndLemmas.{refused_device, refused_done, refused_stays, refused_store}
+use Rattle.store_runs.proofs.EndLemmas.{limit_ends, refused_device, refused_done, refused_stays, refused_store}
 use Rattle.store_runs.proofs.disks.run_on.Goals as goal
 
 pub returns-in-Ok-clause-written : goal.returns-in-Ok-clause-written
@@ -41,6 +41,9 @@ returns-in-Ok-clause-written g c = λ told.
 
 pub returns-in-Ok-clause-refused : goal.returns-in-Ok-clause-refused
 returns-in-Ok-clause-refused g c = λ why bytes contents of is. absurd (c.in-Ok.ensures.exactly why bytes contents of is)
+
+pub returns-in-Ok-clause-limit : goal.returns-in-Ok-clause-limit
+returns-in-Ok-clause-limit g c = λ bytes contents over. absurd (c.in-Ok.ensures.limit bytes contents over)
 
 pub returns-in-Ok-clause-device : goal.returns-in-Ok-clause-device
 returns-in-Ok-clause-device g c = λ told device.
@@ -101,6 +104,10 @@ returns-in-Err-clause-refused g c = λ why bytes contents of is. (
   refused_ends c.in-Err.refusal.why why c.refused.result
       c.refused.ensures of (c.in-Err.ensures.exactly why bytes contents of is),
 )
+
+pub returns-in-Err-clause-limit : goal.returns-in-Err-clause-limit
+returns-in-Err-clause-limit g c = λ bytes contents over.
+    limit_ends c.in-Err.refusal.why c.refused.result bytes c.refused.ensures (c.in-Err.ensures.limit bytes contents over)
 
 pub returns-in-Err-clause-store : goal.returns-in-Err-clause-store
 returns-in-Err-clause-store g c = subst IsStoreEnding (sym c.refused.ensures) (refused_store c.in-Err.refusal.why)

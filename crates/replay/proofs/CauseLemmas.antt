@@ -1,14 +1,14 @@
 -- What follows of a list that was read, or was not, for the command that named it.
-use Rattle.std.proofs.Common.{◌≡◌, ◌⊎◌, ℕ, Bool, true, List, Option, Some, None, refl, sym, subst, inl, inr, ◌∙◌, arith}
+use Rattle.std.proofs.Common.{◌≡◌, ◌⊎◌, ℕ, Bool, true, List, Option, Some, None, refl, sym, subst, ap, inl, inr, ◌∙◌, arith}
 use Rattle.std.specs.Prelude.{IfSome, IsOk, Ok}
 use Rattle.agent_base.specs.Counts.{Rose}
 use Rattle.suffix_list.specs.ListText.{RuleList, list_of}
 use Rattle.script_lines.specs.Script.{PlainScript}
 use Rattle.store_runs.specs.declared.ending.Ending.{Ending}
 use Rattle.command_line.specs.Words.{Dump, Replay}
-use Rattle.hosts.specs.Hosts.{LeavesOtherStores, LeavesStores, SameImages, raised}
+use Rattle.hosts.specs.Hosts.{LeavesOtherStores, LeavesOthers, LeavesStores, SameImages, raised}
 use Rattle.replay.specs.BeforeAfter.{BeforeAfter}
-use Rattle.replay.specs.Causes.{DeviceCounts, ListCause, ReadCause, ReadCounts, RoseByStore}
+use Rattle.replay.specs.Causes.{DeviceCounts, ListCause, ListFailed, ReadCause, ReadCounts, RoseByStore}
 use Rattle.replay.specs.Commands.{IsAfterList, StoreCounts}
 use Rattle.replay.specs.Readings.{IsListOf, ScriptCounts}
 use Rattle.replay.specs.Runs.{ListRead, ReadAndRan, ScriptRead, WritesScript, Written}
@@ -126,7 +126,7 @@ dump_device list store tells stores Memory rose = tt
 
 module _ (start batch checkpoint : ℕ) (taken : BeforeAfter (Option (List ℕ))) (counts : BeforeAfter ℕ) (old mid after : Images) (same : SameImages old mid) where
   pub ran_before : (e : Ending) (list : RuleList) (steps : List _) → RanOverStore start batch checkpoint taken counts mid after e list steps → RanOverStore start batch checkpoint taken counts old after e list steps
-  ran_before e list steps ran = record { file = ran.file; found = same.no_more ran.file ran.found; wrote = ran.wrote; refused = ran.refused; tidy = ran.tidy }
+  ran_before e list steps ran = record { file = ran.file; found = same.no_more ran.file ran.found; wrote = ran.wrote; refused = ran.refused; limit = ran.limit; tidy = ran.tidy }
 
   pub stored_before : (tells told : Bool) → told ≡ tells → (e : Ending) (list : RuleList) (script : PlainScript) → RanStored start batch checkpoint taken counts told mid after e list script → RanStored start batch checkpoint taken counts tells old after e list script
   stored_before tells told is e list script ran tell = ran_before e list _ (ran (is ∙ tell))
@@ -137,5 +137,12 @@ others_before path old mid new first then other apart = record {
   no_fewer = λ file is. (then other apart).no_fewer file ((first other).no_fewer file is);
 }
 
-pub others_left : (path : List ℕ) (old new : List ℕ → Images) → LeavesStores old new → LeavesOtherStores path old new
-others_left path old new all other apart = all other
+-- lists that stand as they stood when the list was read
+pub lists_before : (path : List ℕ) (old mid new : List ℕ → Option (List ℕ)) → LeavesOthers path old mid → new ≡ mid → LeavesOthers path old new
+lists_before path old mid new first then other apart = ap (λ lists. lists other) then ∙ first other apart
+
+-- no call failed at a list that was opened
+pub never_failed : {T : Type 0} (reads : BeforeAfter ℕ) → reads.after ≡ reads.before → ListFailed reads → T
+never_failed reads same failed =
+    let never : ⊥ = omega (arith, failed, same) in
+    absurd never

@@ -1,18 +1,23 @@
 -- What a command leaves and answers that memory does not suffice for, and what a self-test does.
-use Rattle.std.proofs.Common.{◌≡◌, ℕ, Bool, List, Option, Some, None, IfSome, IsSome, refl, inl, inr, subst}
+use Rattle.std.proofs.Common.{◌≡◌, ℕ, List, Option, Some, None, IfSome, IsSome, refl, inl, inr, subst}
+use Rattle.std.specs.Prelude.{option_and_then}
 use Rattle.std.proofs.lemmas.Bool.{false≢true}
 use Rattle.agent_base.proofs.Pieces.{takes_none}
+use Rattle.agent_base.specs.declared.sink.Sink.{Ghosts as SinkTells}
+use Rattle.agent_base.specs.declared.source.Source.{Ghosts as SourceTells}
+use Rattle.hosts.specs.declared.host.Host.{Ghosts as HostTells}
 use Rattle.command_line.specs.Words.{PlainCommand, Help, Replay, Twin, Dump, Selftest, TakesMemory}
-use Rattle.hosts.specs.Hosts.{LeavesStores}
 use Rattle.replay.specs.BeforeAfter.{BeforeAfter, from_to}
-use Rattle.replay.specs.Causes.{DeviceCounts, ListCause, ReadCause, ReadCounts, ScriptCause, WriteCounts}
+use Rattle.replay.specs.Causes.{DeviceCounts, LeavesListsBut, ListCause, ReadCause, ReadCounts, ScriptCause, WriteCounts}
 use Rattle.replay.specs.Endings.{CanEnd}
-use Rattle.replay.specs.Commands.{Obeys}
+use Rattle.replay.specs.Commands.{Obeys, told_of}
 use Rattle.replay.specs.Openings.{Images}
 use Rattle.replay.specs.Runs.{WritesSelftest}
+use Rattle.replay.specs.Stores.{LeavesAllBut, Writes}
+use Rattle.replay.specs.Words.{IsNoCommand, NamesSite, list_named, store_named}
 use Rattle.replay.specs.declared.status.Status.{Status}
 use Rattle.replay.specs.declared.status.Status.TheVariants.{Done, Usage, Script, List as ListStatus, Store, Read, Write, Device, Memory}
-use Rattle.replay.proofs.CauseLemmas.{others_left, rose_by_none}
+use Rattle.replay.proofs.CauseLemmas.{rose_by_none}
 
 -- a status other than `Usage`
 abbrev pub IsNotUsage : Status → Type 0
@@ -23,110 +28,28 @@ IsNotUsage status = Unit {0}
 pub no_usage : {T : Type 0} (status : Status) → IsNotUsage status → status ≡ Usage → T
 no_usage status not is = absurd (subst IsNotUsage is not)
 
-pub same_stores : (stores : List ℕ → Images) → LeavesStores stores stores
-same_stores stores path = record { no_more = λ file is. is; no_fewer = λ file is. is }
+-- no store is another one where none changed
+same_stores : (store : Option (List ℕ)) (stores : List ℕ → Images) → LeavesAllBut store stores stores
+same_stores None stores = λ path. record { no_more = λ file is. is; no_fewer = λ file is. is }
+same_stores (Some own) stores = λ path apart. record { no_more = λ file is. is; no_fewer = λ file is. is }
 
-module _ {HostStays ScriptStays : Type 0} (lists : List ℕ → Option (List ℕ)) (tells : Bool) (stores : List ℕ → Images) (left : Option (List ℕ)) (host counts reads script lists_out : ℕ)
-    (host_stays : HostStays) (script_stays : ScriptStays) where
-  -- a command that memory does not suffice for
-  pub obeys_memory : (command : Option PlainCommand) (taken : Option (List ℕ)) (out : ℕ) → IsSome command → IfSome command TakesMemory → Obeys command Memory lists tells stores stores (from_to left left) (from_to taken taken) (from_to host host)
-      (from_to counts counts) (from_to reads reads) (from_to script script) (from_to out out) (from_to lists_out lists_out) None HostStays ScriptStays
-  obeys_memory None taken out some is = absurd (false≢true some)
-  obeys_memory (Some Help) taken out some is = absurd is
-  obeys_memory (Some (Replay list None batch checkpoint start)) taken out some is = record {
-    text = inl (takes_none taken);
-    usage = no_usage Memory tt;
-    no_command = λ none. absurd none;
-    ends = tt;
-    refused = tt;
-    list = tt;
-    read = (rose_by_none (from_to host host) (from_to counts counts) refl refl, refl);
-    read_told = tt;
-    device = tt;
-    write = refl;
-    untouched = λ none. absurd none;
-    unread = λ none. absurd none;
-    closed = refl;
-    store_closed = refl;
-    others = same_stores stores;
-  }
-  obeys_memory (Some (Replay list (Some path) batch checkpoint start)) taken out some is = record {
-    text = inl (takes_none taken);
-    usage = no_usage Memory tt;
-    no_command = λ none. absurd none;
-    ends = tt;
-    refused = tt;
-    list = tt;
-    read = (rose_by_none (from_to host host) (from_to counts counts) refl refl, refl);
-    read_told = tt;
-    device = tt;
-    write = refl;
-    untouched = λ none. absurd none;
-    unread = λ none. absurd none;
-    closed = refl;
-    store_closed = refl;
-    others = others_left path stores stores (same_stores stores);
-  }
-  obeys_memory (Some (Twin site list batch checkpoint start)) taken out some is = record {
-    text = takes_none taken;
-    usage = no_usage Memory tt;
-    no_command = λ none. inr (tt, refl);
-    ends = tt;
-    refused = tt;
-    list = tt;
-    read = (rose_by_none (from_to host host) (from_to counts counts) refl refl, refl);
-    read_told = tt;
-    device = tt;
-    write = refl;
-    untouched = λ none. host_stays;
-    unread = λ none. script_stays;
-    closed = refl;
-    store_closed = refl;
-    others = same_stores stores;
-  }
-  obeys_memory (Some (Dump list path)) taken out some is = record {
-    text = inl (takes_none taken);
-    usage = no_usage Memory tt;
-    no_command = λ none. absurd none;
-    ends = tt;
-    refused = tt;
-    list = tt;
-    read = (rose_by_none (from_to host host) (from_to counts counts) refl refl, refl);
-    read_told = tt;
-    device = tt;
-    write = refl;
-    untouched = λ none. absurd none;
-    unread = λ none. script_stays;
-    closed = refl;
-    store_closed = refl;
-    others = others_left path stores stores (same_stores stores);
-  }
-  obeys_memory (Some (Selftest seed)) taken out some is = record {
-    text = takes_none taken;
-    usage = no_usage Memory tt;
-    no_command = λ none. absurd none;
-    ends = tt;
-    refused = tt;
-    list = tt;
-    read = (rose_by_none (from_to host host) (from_to counts counts) refl refl, refl);
-    read_told = tt;
-    device = tt;
-    write = refl;
-    untouched = λ none. host_stays;
-    unread = λ none. script_stays;
-    closed = refl;
-    store_closed = refl;
-    others = same_stores stores;
-  }
+-- and no list
+same_lists : (named : Option (List ℕ)) (lists : List ℕ → Option (List ℕ)) → LeavesListsBut named lists lists
+same_lists None lists = refl
+same_lists (Some path) lists = λ other apart. refl
 
-  selftest_ended : (seed : ℕ) (status : Status) (taken : BeforeAfter (Option (List ℕ))) (out : BeforeAfter ℕ) → IsNotUsage status → ScriptCause (Some (Selftest seed)) status left → ListCause status None
-      → ReadCounts status (from_to host host) (from_to counts counts) (from_to script script) → ReadCause None status None (from_to host host) (from_to reads reads) (from_to script script) → DeviceCounts (Some (Selftest seed)) tells status (from_to counts counts)
-      → WritesSelftest seed status taken → CanEnd (Some (Selftest seed)) status → WriteCounts status out
-      → Obeys (Some (Selftest seed)) status lists tells stores stores (from_to left left) taken (from_to host host) (from_to counts counts) (from_to reads reads) (from_to script script) out (from_to lists_out lists_out) None HostStays ScriptStays
-  selftest_ended seed status taken out not refused list read read_told device text ends write = record {
+-- a host and the source of a script that a command leaves as they were
+module _ {Hosts Lists Stores Scripts Outs : Type 0} (H : HostTells Hosts Lists Stores) (I : SourceTells Scripts) (O : SinkTells Outs) (host : Hosts) (script : Scripts) (closed : H.store_out host ≡ None) where
+  left_alone : (command : Option PlainCommand) (status : Status) (out : BeforeAfter Outs) → IsNotUsage status
+      → Writes command status (H.lists host) (H.tells_stores host) (H.stores host) (H.stores host) (told_of H.store_faults (from_to host host)) (told_of I.left (from_to script script)) (told_of O.taken out)
+      → (IsNoCommand command → NamesSite command × (status ≡ Memory)) → CanEnd command status → ScriptCause command status (I.left script) → ListCause status (option_and_then (H.lists host) (list_named command))
+      → ReadCounts status (told_of H.faults (from_to host host)) (told_of H.store_faults (from_to host host)) (told_of I.faults (from_to script script))
+      → ReadCause (store_named command) status (option_and_then (H.lists host) (list_named command)) (told_of H.faults (from_to host host)) (told_of H.reads (from_to host host)) (told_of I.faults (from_to script script))
+      → DeviceCounts command (H.tells_stores host) status (told_of H.store_faults (from_to host host)) → WriteCounts status (told_of O.faults out) → Obeys H I O command status (from_to host host) (from_to script script) out
+  left_alone command status out not text no_command ends refused list read read_told device write = record {
     text = text;
     usage = no_usage status not;
-    no_command = λ none. absurd none;
+    no_command = λ none. inr (no_command none);
     ends = ends;
     refused = refused;
     list = list;
@@ -134,22 +57,44 @@ module _ {HostStays ScriptStays : Type 0} (lists : List ℕ → Option (List ℕ
     read_told = read_told;
     device = device;
     write = write;
-    untouched = λ none. host_stays;
-    unread = λ none. script_stays;
+    untouched = λ none. refl;
+    unread = λ none. refl;
+    list_failed = λ failed. refl;
+    lists = same_lists (list_named command) (H.lists host);
     closed = refl;
-    store_closed = refl;
-    others = same_stores stores;
+    store_closed = closed;
+    others = same_stores (store_named command) (H.stores host);
   }
 
+  -- no fault was counted
+  none_rose : ReadCounts Done (told_of H.faults (from_to host host)) (told_of H.store_faults (from_to host host)) (told_of I.faults (from_to script script))
+  none_rose = (rose_by_none (told_of H.faults (from_to host host)) (told_of H.store_faults (from_to host host)) refl refl, refl)
+
+  -- a command that memory does not suffice for, which takes none of the output
+  wanting : (command : Option PlainCommand) (out : Outs) → Writes command Memory (H.lists host) (H.tells_stores host) (H.stores host) (H.stores host) (told_of H.store_faults (from_to host host)) (told_of I.left (from_to script script)) (told_of O.taken (from_to out out))
+      → (IsNoCommand command → NamesSite command) → CanEnd command Memory → ScriptCause command Memory (I.left script) → DeviceCounts command (H.tells_stores host) Memory (told_of H.store_faults (from_to host host))
+      → Obeys H I O command Memory (from_to host host) (from_to script script) (from_to out out)
+  wanting command out text names ends refused device = left_alone command Memory (from_to out out) tt text (λ none. (names none, refl)) ends refused tt none_rose tt device refl
+
+  -- each command but `Help` may want memory
+  pub obeys_memory : (command : Option PlainCommand) (out : Outs) → IsSome command → IfSome command TakesMemory → Obeys H I O command Memory (from_to host host) (from_to script script) (from_to out out)
+  obeys_memory None out some is = absurd (false≢true some)
+  obeys_memory (Some Help) out some is = absurd is
+  obeys_memory (Some (Replay list None batch checkpoint start)) out some is = wanting (Some (Replay list None batch checkpoint start)) out (inl (takes_none (O.taken out))) (λ none. absurd none) tt tt tt
+  obeys_memory (Some (Replay list (Some path) batch checkpoint start)) out some is = wanting (Some (Replay list (Some path) batch checkpoint start)) out (inl (takes_none (O.taken out))) (λ none. absurd none) tt tt tt
+  obeys_memory (Some (Twin site list batch checkpoint start)) out some is = wanting (Some (Twin site list batch checkpoint start)) out (takes_none (O.taken out)) (λ none. tt) tt tt tt
+  obeys_memory (Some (Dump list path)) out some is = wanting (Some (Dump list path)) out (inl (takes_none (O.taken out))) (λ none. absurd none) tt tt tt
+  obeys_memory (Some (Selftest seed)) out some is = wanting (Some (Selftest seed)) out (takes_none (O.taken out)) (λ none. absurd none) tt tt tt
+
   -- a self-test
-  pub obeys_selftest : (seed : ℕ) (status : Status) (taken : BeforeAfter (Option (List ℕ))) (out : BeforeAfter ℕ) → WritesSelftest seed status taken → CanEnd (Some (Selftest seed)) status → WriteCounts status out
-      → Obeys (Some (Selftest seed)) status lists tells stores stores (from_to left left) taken (from_to host host) (from_to counts counts) (from_to reads reads) (from_to script script) out (from_to lists_out lists_out) None HostStays ScriptStays
-  obeys_selftest seed Done taken out text ends write = selftest_ended seed Done taken out tt tt tt (rose_by_none (from_to host host) (from_to counts counts) refl refl, refl) tt tt text ends write
-  obeys_selftest seed Write taken out text ends write = selftest_ended seed Write taken out tt tt tt (rose_by_none (from_to host host) (from_to counts counts) refl refl, refl) tt tt text ends write
-  obeys_selftest seed Memory taken out text ends write = selftest_ended seed Memory taken out tt tt tt (rose_by_none (from_to host host) (from_to counts counts) refl refl, refl) tt tt text ends write
-  obeys_selftest seed Usage taken out text ends write = absurd ends
-  obeys_selftest seed (Script why) taken out text ends write = absurd ends
-  obeys_selftest seed (ListStatus why) taken out text ends write = absurd ends
-  obeys_selftest seed (Store why) taken out text ends write = absurd ends
-  obeys_selftest seed Read taken out text ends write = absurd ends
-  obeys_selftest seed Device taken out text ends write = absurd ends
+  pub obeys_selftest : (seed : ℕ) (status : Status) (out : BeforeAfter Outs) → WritesSelftest seed status (told_of O.taken out) → CanEnd (Some (Selftest seed)) status → WriteCounts status (told_of O.faults out)
+      → Obeys H I O (Some (Selftest seed)) status (from_to host host) (from_to script script) out
+  obeys_selftest seed Done out text ends write = left_alone (Some (Selftest seed)) Done out tt text (λ none. absurd none) ends tt tt none_rose tt tt write
+  obeys_selftest seed Write out text ends write = left_alone (Some (Selftest seed)) Write out tt text (λ none. absurd none) ends tt tt none_rose tt tt write
+  obeys_selftest seed Memory out text ends write = left_alone (Some (Selftest seed)) Memory out tt text (λ none. absurd none) ends tt tt none_rose tt tt write
+  obeys_selftest seed Usage out text ends write = absurd ends
+  obeys_selftest seed (Script why) out text ends write = absurd ends
+  obeys_selftest seed (ListStatus why) out text ends write = absurd ends
+  obeys_selftest seed (Store why) out text ends write = absurd ends
+  obeys_selftest seed Read out text ends write = absurd ends
+  obeys_selftest seed Device out text ends write = absurd ends

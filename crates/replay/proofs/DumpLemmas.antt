@@ -1,29 +1,33 @@
 -- What a dump makes of the store of a path, and leaves and answers.
-use Rattle.std.proofs.Common.{◌≡◌, ◌⊎◌, ℕ, Bool, true, List, [], Option, Some, None, refl, ap, inl, inr, ⊎_elim, ◌∙◌}
+use Rattle.std.proofs.Common.{◌≡◌, ◌⊎◌, ℕ, true, List, [], Option, Some, refl, ap, subst, inl, inr, ⊎_elim, ◌∙◌}
 use Rattle.std.specs.Prelude.{IfErr, MatchResult, Ok, Err, Result}
 use Rattle.agent_base.specs.Streams.{Takes}
+use Rattle.agent_base.specs.declared.sink.Sink.{Ghosts as SinkTells}
+use Rattle.agent_base.specs.declared.source.Source.{Ghosts as SourceTells}
+use Rattle.hosts.specs.declared.host.Host.{Ghosts as HostTells}
 use Rattle.disk_model.specs.Disk.{LeavesOnly, View}
 use Rattle.disk_model.specs.DiskLaws.{IsLawful}
-use Rattle.journal.specs.Opening.{FileMeans, IsExcused, IsOfFile, IsOpening, IsWithin}
+use Rattle.journal.specs.Opening.{FileMeans, IsExcused, IsLimitRefusal, IsOfFile, IsOpening, IsWithin}
 use Rattle.journal.specs.declared.open_fault.OpenFault.{OpenFault}
 use Rattle.journal.specs.declared.open_fault.OpenFault.TheVariants as fault
 use Rattle.suffix_list.specs.ListText.{RuleList}
 use Rattle.command_line.specs.Words.{Dump}
 use Rattle.durable_model.specs.Saved.{IsValid, Saved, nothing_saved}
-use Rattle.hosts.specs.Hosts.{LeavesOtherStores, LeavesStores, SameImages}
+use Rattle.hosts.specs.Hosts.{LeavesOthers, LeavesStores, SameImages}
 use Rattle.row_store.specs.Bodies as bodies
 use Rattle.spelled_model.specs.Rows.{IsReadSaved}
 use Rattle.store_dumps.specs.Dump.{Writes, dump_text}
 use Rattle.store_dumps.specs.Opening.{OpensStore, opening_of}
 use Rattle.store_dumps.specs.declared.fault.DumpFault.{DumpFault}
 use Rattle.store_dumps.specs.declared.fault.DumpFault.TheVariants.{Open, Write, NoMemory}
-use Rattle.store_runs.specs.Endings.{ending_of}
+use Rattle.store_runs.specs.Endings.{IsLimitEnding, ending_of}
 use Rattle.store_runs.specs.declared.ending.Ending.{Ending}
 use Rattle.store_runs.specs.declared.ending.Ending.TheVariants as ending
+use Rattle.store_runs.proofs.EndLemmas.{limit_ends}
 use Rattle.replay.specs.BeforeAfter.{BeforeAfter, from_to}
 use Rattle.replay.specs.Causes.{ReadCounts, WriteCounts}
 use Rattle.replay.specs.Endings.{DumpCanEnd}
-use Rattle.replay.specs.Commands.{HasRun, HostCounts, IsAfterList, Obeys, StoreCounts, dump_ending}
+use Rattle.replay.specs.Commands.{HasRun, HostCounts, IsAfterList, LeavesStoreClosed, Obeys, StoreCounts, dump_ending, told_of}
 use Rattle.replay.specs.Readings.{IsListOf}
 use Rattle.replay.specs.Runs.{ListRead, Written}
 use Rattle.replay.specs.Openings.{Images, IsExcusedEnding, LeavesOpening, Unopened}
@@ -31,7 +35,7 @@ use Rattle.replay.specs.Stores.{DumpedRows, DumpedStore, WritesRows}
 use Rattle.replay.specs.declared.status.Status.{Status}
 use Rattle.replay.specs.declared.status.Status.TheVariants.{Done, Usage, Script, List as ListStatus, Store, Read, Device, Memory}
 use Rattle.replay.specs.declared.status.Status.TheVariants as status
-use Rattle.replay.proofs.CauseLemmas.{dump_device, later_list, list_fine, list_read, others_before, store_read_cause}
+use Rattle.replay.proofs.CauseLemmas.{dump_device, later_list, list_fine, list_read, lists_before, others_before, store_read_cause}
 use Rattle.replay.proofs.CommandLemmas.{IsNotUsage, no_usage}
 use Rattle.replay.proofs.StatusLemmas.{written_weaker}
 
@@ -74,6 +78,12 @@ module _ {T : Type 0} (result : Result T DumpFault) (list : RuleList) (file : Li
   refused_by (Err Write) why of exactly = absurd exactly
   refused_by (Err NoMemory) why of exactly = absurd exactly
 
+  limit_by : (r : Result T DumpFault) → MatchResult (opening_of r) (λ _. ⊥) (IsLimitRefusal file) → IsLimitEnding file (dump_ending r)
+  limit_by (Ok done) limit = absurd limit
+  limit_by (Err (Open why)) limit = limit_ends why (ending_of why) file refl limit
+  limit_by (Err Write) limit = absurd limit
+  limit_by (Err NoMemory) limit = absurd limit
+
   pub dumped : (before after : Images) → before file → SameImages new.may_leave after → IsLawful new → LeavesOnly old new (IsOpening list.digest file)
       → MatchResult (opening_of result) (λ _. (d : Saved) × IsValid d × IsReadSaved list.rules d × Writes (dump_text d) result taken.before taken.after) (λ _. Takes taken.before taken.after [])
       → ((c : List ℕ) (d : Saved) (n : ℕ) → old.contents ≡ Some c → IsWithin true c → FileMeans (bodies.Takes list.rules) nothing_saved list.digest c d n → Writes (dump_text d) result taken.before taken.after)
@@ -84,6 +94,7 @@ module _ {T : Type 0} (result : Result T DumpFault) (list : RuleList) (file : Li
     wrote = wrote_by result opens rows after (λ now is. leaves.each now (lawful.counts_now old.moment now leaves.later (same.no_more now is)));
     rows = λ d n within means. rows_by result (dump_text d) (opens.excused file d n held within means) (written file d n held within means);
     refused = λ why of is. refused_by result why of (opens.exactly why file held of is);
+    limit = λ over. limit_by result (opens.limit file held over);
   }
 
 -- ---- the command
@@ -105,33 +116,43 @@ ran_counts host stores script status ran counts =
     by_run (λ s. HostCounts s host stores → ReadCounts s host stores (from_to script script))
     (λ rose. (rose, refl)) (λ rose. (rose, refl)) (λ rose. (rose, refl)) (λ rose. (rose.0, inl rose.1)) (λ rose. (rose, refl)) (λ why is rose. (rose, refl)) status ran counts
 
-module _ {HostStays ScriptStays : Type 0} (lists : List ℕ → Option (List ℕ)) (path store : List ℕ) (status : Status) (tells : Bool) (old mid new : List ℕ → Images)
-    (left : Option (List ℕ)) (taken : BeforeAfter (Option (List ℕ))) (host counts reads out lists_out : BeforeAfter ℕ) (script : ℕ) (script_stays : ScriptStays) where
-  pub obeys_dump : (list : RuleList) (told : Bool) → IsListOf (lists path) list → LeavesStores old mid → told ≡ tells → lists_out.after ≡ lists_out.before → (store_out : Option (List ℕ)) → store_out ≡ None
-      → Written status taken (λ e. DumpedRows taken told (mid store) (new store) e list) → HasRun status → HostCounts status host counts → StoreCounts status counts → WriteCounts status out → LeavesOtherStores store mid new
-      → Obeys (Some (Dump path store)) status lists tells old new (from_to left left) taken host counts reads (from_to script script) out lists_out store_out HostStays ScriptStays
-  obeys_dump list told read stores is closed store_out store_closed text ran rose device write others =
-      let fine = list_fine (lists path) list read in
-      let same = stores store in
-      let read_counts = ran_counts host counts script status ran rose in
+module _ {Hosts Lists Stores Scripts Outs : Type 0} (H : HostTells Hosts Lists Stores) (I : SourceTells Scripts) (O : SinkTells Outs) (path store : List ℕ) (status : Status) (old mid new : Hosts) (script : Scripts) (out : BeforeAfter Outs) where
+  pub obeys_dump : (list : RuleList) → IsListOf (H.lists old path) list → LeavesStores (H.stores old) (H.stores mid) → H.faults mid ≡ H.faults old → H.store_faults mid ≡ H.store_faults old
+      → H.tells_stores mid ≡ H.tells_stores old → H.lists_out mid ≡ H.lists_out old → LeavesOthers path (H.lists old) (H.lists mid) → LeavesStoreClosed H store (from_to mid new)
+      → Written status (told_of O.taken out) (λ e. DumpedRows (told_of O.taken out) (H.tells_stores mid) (H.stores mid store) (H.stores new store) e list) → HasRun status
+      → HostCounts status (told_of H.faults (from_to mid new)) (told_of H.store_faults (from_to mid new)) → StoreCounts status (told_of H.store_faults (from_to mid new)) → WriteCounts status (told_of O.faults out)
+      → Obeys H I O (Some (Dump path store)) status (from_to old new) (from_to script script) out
+  obeys_dump list read stores still none is closed lists left text ran rose device write =
+      let told = H.lists old path in
+      let taken = told_of O.taken out in
+      let host = told_of H.faults (from_to old new) in
+      let counts = told_of H.store_faults (from_to old new) in
+      let faults = told_of I.faults (from_to script script) in
+      let fine = list_fine told list read in
+      let counted : HostCounts status host counts =
+      subst (λ n. HostCounts status (from_to n (H.faults new)) counts) still (subst (λ n. HostCounts status (told_of H.faults (from_to mid new)) (from_to n (H.store_faults new))) none rose) in
+      let read_counts : ReadCounts status host counts faults = ran_counts host counts (I.faults script) status ran counted in
       record {
-        text = written_weaker status taken (λ e. DumpedRows taken told (mid store) (new store) e list) (λ e. (read : ListRead (lists path)) × DumpedRows taken tells (old store) (new store) e read.list)
-            (λ e dump. (list_read list (lists path) read, λ tell. dumped_before e (dump (is ∙ tell)))) text;
+        text = written_weaker status taken (λ e. DumpedRows taken (H.tells_stores mid) (H.stores mid store) (H.stores new store) e list) (λ e. (read : ListRead told) × DumpedRows taken (H.tells_stores old) (H.stores old store) (H.stores new store) e read.list)
+            (λ e dump. (list_read list told read, λ tell. dumped_before list (stores store) e (dump (is ∙ tell)))) text;
         usage = no_usage status (by_run IsNotUsage tt tt tt tt tt (λ why of. tt) status ran);
         no_command = λ never. absurd never;
         ends = by_run DumpCanEnd tt tt tt tt tt (λ why of. of) status ran;
         refused = tt;
-        list = later_list status (lists path) (by_run IsAfterList tt tt tt tt tt (λ why of. tt) status ran) fine;
+        list = later_list status told (by_run IsAfterList tt tt tt tt tt (λ why of. tt) status ran) fine;
         read = read_counts;
-        read_told = store_read_cause (lists path) fine host reads (from_to script script) store status counts read_counts;
-        device = dump_device path store tells counts status device;
+        read_told = store_read_cause told fine host (told_of H.reads (from_to old new)) faults store status counts read_counts;
+        device = dump_device path store (H.tells_stores old) counts status (subst (λ n. StoreCounts status (from_to n (H.store_faults new))) none device);
         write = write;
         untouched = λ never. absurd never;
-        unread = λ is. script_stays;
-        closed = closed;
-        store_closed = store_closed;
-        others = others_before store old mid new stores others;
+        unread = λ is. refl;
+        list_failed = λ failed. refl;
+        lists = lists_before path (H.lists old) (H.lists mid) (H.lists new) lists left.lists;
+        closed = left.lists_out ∙ closed;
+        store_closed = left.store_out;
+        others = others_before store (H.stores old) (H.stores mid) (H.stores new) stores left.others;
       }
     where
-      dumped_before : (e : Ending) → DumpedStore taken (mid store) (new store) e list → DumpedStore taken (old store) (new store) e list
-      dumped_before e dump = record { file = dump.file; found = (stores store).no_more dump.file dump.found; wrote = dump.wrote; rows = dump.rows; refused = dump.refused }
+      dumped_before : (list : RuleList) → SameImages (H.stores old store) (H.stores mid store) → (e : Ending) → DumpedStore (told_of O.taken out) (H.stores mid store) (H.stores new store) e list
+          → DumpedStore (told_of O.taken out) (H.stores old store) (H.stores new store) e list
+      dumped_before list same e dump = record { file = dump.file; found = same.no_more dump.file dump.found; wrote = dump.wrote; rows = dump.rows; refused = dump.refused; limit = dump.limit }

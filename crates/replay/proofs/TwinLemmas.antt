@@ -1,8 +1,11 @@
 -- What a comparison of two scripts leaves and answers, from what its parts do.
-use Rattle.std.proofs.Common.{◌≡◌, ◌⊎◌, ℕ, Bool, List, Option, Some, None, refl, sym, subst, ap, inl, inr, ◌∙◌}
+use Rattle.std.proofs.Common.{◌≡◌, ◌⊎◌, ℕ, List, Option, Some, None, refl, sym, subst, ap, inl, inr, ◌∙◌}
 use Rattle.std.specs.Prelude.{Err, IfSome, IsOk, Ok}
 use Rattle.std.proofs.lemmas.Bool.{false≢true}
 use Rattle.agent_base.specs.Counts.{Rose}
+use Rattle.agent_base.specs.declared.sink.Sink.{Ghosts as SinkTells}
+use Rattle.agent_base.specs.declared.source.Source.{Ghosts as SourceTells}
+use Rattle.hosts.specs.declared.host.Host.{Ghosts as HostTells}
 use Rattle.origin_site.specs.Site.{PlainSite, site_of_text}
 use Rattle.suffix_list.specs.ListText.{RuleList}
 use Rattle.script_actions.specs.declared.step.Line.{Line}
@@ -14,20 +17,19 @@ use Rattle.script_lines.specs.declared.script.ScriptFault.TheVariants as fault
 use Rattle.script_courses.specs.Twins.{IsTwin, Twin}
 use Rattle.store_runs.specs.Steps.{steps_of}
 use Rattle.command_line.specs.Words as words
-use Rattle.hosts.specs.Hosts.{LeavesStores}
-use Rattle.replay.specs.BeforeAfter.{BeforeAfter}
+use Rattle.hosts.specs.Hosts.{LeavesOthers, LeavesStores}
+use Rattle.replay.specs.BeforeAfter.{BeforeAfter, from_to}
 use Rattle.replay.specs.Causes.{ReadsNoScript, ScriptCauseOf, ScriptFaulty, WriteCounts}
 use Rattle.replay.specs.Endings.{IsOfTwoScripts, TwinCanEnd}
-use Rattle.replay.specs.Commands.{HasCompared, IsAfterList, IsAnswer, Obeys}
+use Rattle.replay.specs.Commands.{HasCompared, IsAfterList, IsAnswer, Obeys, told_of}
 use Rattle.replay.specs.Readings.{IsListOf, ScriptCounts, ScriptRefusal, refusal_status}
-use Rattle.replay.specs.Openings.{Images}
 use Rattle.replay.specs.Runs.{WritesLine, steps_in}
 use Rattle.replay.specs.Twins.{IsAnswered, ScriptsRead, setting_of, twin_line}
 use Rattle.replay.specs.Words.{IsNoSite, IsSite}
 use Rattle.replay.specs.declared.status.Status.{Status}
 use Rattle.replay.specs.declared.status.Status.TheVariants.{Done, Usage, List as ListStatus, Store, Read, Write, Device, Memory}
 use Rattle.replay.specs.declared.status.Status.TheVariants as status
-use Rattle.replay.proofs.CauseLemmas.{later_list, list_fine, list_read, script_read_cause, script_read_counts}
+use Rattle.replay.proofs.CauseLemmas.{later_list, list_fine, list_read, never_failed, script_read_cause, script_read_counts}
 use Rattle.replay.proofs.CommandLemmas.{IsNotUsage, no_usage}
 use Rattle.replay.proofs.ScriptLemmas.{steps_read}
 
@@ -124,29 +126,33 @@ never word site named not = absurd (false≢true (subst IsOk not (is_site word s
 
 -- ---- the command
 
-module _ {HostStays ScriptStays : Type 0} (lists : List ℕ → Option (List ℕ)) (word path : List ℕ) (start batch checkpoint : ℕ) (status : Status) (tells : Bool) (old mid : List ℕ → Images)
-    (host counts reads lists_out : BeforeAfter ℕ) (site : PlainSite) (named : site_of_text word ≡ Ok site) (stores : LeavesStores old mid) (none : counts.after ≡ counts.before) (closed : lists_out.after ≡ lists_out.before)
-    (store_out : Option (List ℕ)) (store_closed : store_out ≡ None) where
+module _ {Hosts Lists Stores Scripts Outs : Type 0} (H : HostTells Hosts Lists Stores) (I : SourceTells Scripts) (O : SinkTells Outs) (word path : List ℕ) (start batch checkpoint : ℕ) (status : Status) (old mid : Hosts)
+    (script : BeforeAfter Scripts) (out : BeforeAfter Outs) (site : PlainSite) (named : site_of_text word ≡ Ok site) where
   -- the scripts were compared under a list that was read, or were to be
-  pub obeys_twin : (left taken : BeforeAfter (Option (List ℕ))) (script out : BeforeAfter ℕ) (list : RuleList) → IsListOf (lists path) list → host.after ≡ host.before
-      → WritesLine status taken (IsAnswer list site start batch left) → HasCompared status → ScriptCauseOf two_of_bytes status left.before → ScriptCounts status script → WriteCounts status out
-      → Obeys (Some (words.Twin word path batch checkpoint start)) status lists tells old mid left taken host counts reads script out lists_out store_out HostStays ScriptStays
-  obeys_twin left taken script out list read still text compared cause script_counts write =
-      let fine = list_fine (lists path) list read in
+  pub obeys_twin : (list : RuleList) → IsListOf (H.lists old path) list → LeavesStores (H.stores old) (H.stores mid) → H.faults mid ≡ H.faults old → H.store_faults mid ≡ H.store_faults old
+      → H.lists_out mid ≡ H.lists_out old → LeavesOthers path (H.lists old) (H.lists mid) → H.reads mid ≡ H.reads old → H.store_out mid ≡ None → WritesLine status (told_of O.taken out) (IsAnswer list site start batch (told_of I.left script)) → HasCompared status
+      → ScriptCauseOf two_of_bytes status (I.left script.before) → ScriptCounts status (told_of I.faults script) → WriteCounts status (told_of O.faults out)
+      → Obeys H I O (Some (words.Twin word path batch checkpoint start)) status (from_to old mid) script out
+  obeys_twin list read stores still none closed lists reads store_closed text compared cause script_counts write =
+      let told = H.lists old path in
+      let left = told_of I.left script in
+      let fine = list_fine told list read in
       record {
-        text = line_weaker status taken (IsAnswer list site start batch left) (IsAnswered word start batch (lists path) left)
-            (λ line (scripts, answer, twin, is). record { site = site; named = named; list = list_read list (lists path) read; scripts = scripts; answer = answer; twin = twin; is = is }) text;
+        text = line_weaker status (told_of O.taken out) (IsAnswer list site start batch left) (IsAnswered word start batch told left)
+            (λ line (scripts, answer, twin, is). record { site = site; named = named; list = list_read list told read; scripts = scripts; answer = answer; twin = twin; is = is }) text;
         usage = no_usage status (by_compared IsNotUsage tt tt tt tt (λ why of. tt) status compared);
         no_command = never word site named;
         ends = by_compared (TwinCanEnd word) (is_site word site named) (is_site word site named) (is_site word site named) tt (λ why of. (is_site word site named, of)) status compared;
         refused = cause;
-        list = later_list status (lists path) (by_compared IsAfterList tt tt tt tt (λ why of. tt) status compared) fine;
-        read = script_read_counts status host counts script still none script_counts;
-        read_told = script_read_cause (lists path) fine host reads script status script_counts;
+        list = later_list status told (by_compared IsAfterList tt tt tt tt (λ why of. tt) status compared) fine;
+        read = script_read_counts status (told_of H.faults (from_to old mid)) (told_of H.store_faults (from_to old mid)) (told_of I.faults script) still none script_counts;
+        read_told = script_read_cause told fine (told_of H.faults (from_to old mid)) (told_of H.reads (from_to old mid)) (told_of I.faults script) status script_counts;
         device = tt;
         write = write;
         untouched = never word site named;
-        unread = by_compared (λ s. ReadsNoScript (Some (words.Twin word path batch checkpoint start)) s → ScriptStays) (never word site named) (never word site named) (never word site named) (never word site named) (λ why of. never word site named) status compared;
+        unread = by_compared (λ s. ReadsNoScript (Some (words.Twin word path batch checkpoint start)) s → script.after ≡ script.before) (never word site named) (never word site named) (never word site named) (never word site named) (λ why of. never word site named) status compared;
+        list_failed = never_failed (told_of H.reads (from_to old mid)) reads;
+        lists = lists;
         closed = closed;
         store_closed = store_closed;
         others = stores;

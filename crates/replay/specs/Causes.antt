@@ -1,7 +1,7 @@
 -- What each status of a run means. Want of memory alone is free.
 -- Source: none.
 -- Our own choice: the statuses, and the order in which words, list, script and store are read.
-use Rattle.std.specs.Prelude.{◌≡◌, ◌⊎◌, ℕ, Bool, true, false, List, Option, Some, None, IfSome, Err}
+use Rattle.std.specs.Prelude.{◌≡◌, ◌⊎◌, ◌<◌, ℕ, Bool, true, false, List, Option, Some, None, IfSome, Err}
 use Rattle.std.specs.Prelude.{IsOk, Result}
 use Rattle.agent_base.specs.Counts.{Rose}
 use Rattle.agent_base.specs.Streams.{Takes, TakesPrefix}
@@ -10,7 +10,7 @@ use Rattle.script_lines.specs.Script.{PlainFault}
 use Rattle.script_lines.specs.Grammar.{script_of_bytes}
 use Rattle.script_lines.specs.TwoScripts.{two_of_bytes}
 use Rattle.script_lines.specs.Plain.{fault_of}
-use Rattle.hosts.specs.Hosts.{raised}
+use Rattle.hosts.specs.Hosts.{LeavesOthers, raised}
 use Rattle.command_line.specs.Words.{PlainCommand, Replay, Twin, Dump}
 use Rattle.replay.specs.BeforeAfter.{BeforeAfter}
 use Rattle.replay.specs.FaultLines.{fault_line}
@@ -128,6 +128,15 @@ ReadsNoScript (Some (Replay list store batch checkpoint start)) status = ⊥
 ReadsNoScript (Some (Twin site list batch checkpoint start)) (ListStatus why) = Unit {0}
 ReadsNoScript (Some (Twin site list batch checkpoint start)) status = IsNoSite site
 ReadsNoScript command status = Unit {0}
+
+-- what a host tells of every list but that of a path stands as it stood
+abbrev pub LeavesListsBut : Option (List ℕ) → (before after : List ℕ → Option (List ℕ)) → Type 0
+LeavesListsBut None before after = after ≡ before
+LeavesListsBut (Some path) before after = LeavesOthers path before after
+
+-- a call failed at a list that was opened
+abbrev pub ListFailed : (reads : BeforeAfter ℕ) → Type 0
+ListFailed reads = reads.before < reads.after
 
 -- ---- standard error
 

@@ -1,8 +1,10 @@
 -- What the parts of a command answer. Only private functions see it.
 -- Source: none.
-use Rattle.std.specs.Prelude.{◌≡◌, ℕ, Bool, option_and_then, List, Option, None, Ok}
+use Rattle.std.specs.Prelude.{◌≡◌, ℕ, option_and_then, List, Option, None, Ok}
 use Rattle.std.specs.Prelude.{◌⊎◌, Err, Result}
 use Rattle.agent_base.specs.Counts.{Rose}
+use Rattle.agent_base.specs.declared.sink.Sink.{Ghosts as SinkTells}
+use Rattle.agent_base.specs.declared.source.Source.{Ghosts as SourceTells}
 use Rattle.suffix_list.specs.ListText.{RuleList}
 use Rattle.origin_site.specs.Site.{PlainSite}
 use Rattle.script_lines.specs.Plain.{fault_of}
@@ -14,16 +16,17 @@ use Rattle.store_runs.specs.Endings.{ending_of}
 use Rattle.store_runs.specs.declared.ending.Ending.{Ending}
 use Rattle.store_runs.specs.declared.ending.Ending.TheVariants as ending
 use Rattle.journal.specs.Opening.{IsOfFile}
+use Rattle.hosts.specs.Hosts.{LeavesOtherStores}
+use Rattle.hosts.specs.declared.host.Host.{Ghosts as HostTells}
 use Rattle.command_line.specs.Words.{PlainCommand}
-use Rattle.replay.specs.BeforeAfter.{BeforeAfter}
+use Rattle.replay.specs.BeforeAfter.{BeforeAfter, from_to}
 use Rattle.replay.specs.Runs.{steps_in}
 use Rattle.replay.specs.Twins.{ScriptsRead, setting_of, twin_line}
 use Rattle.replay.specs.Words.{IsNoCommand, NamesSite, list_named, store_named}
-use Rattle.replay.specs.Openings.{Images}
 use Rattle.replay.specs.Stores.{LeavesAllBut, Writes}
 use Rattle.replay.specs.Causes.{DeviceCounts, ListCause, ReadCause, ReadCounts, ScriptCause}
 use Rattle.replay.specs.Endings.{CanEnd}
-use Rattle.replay.specs.Causes.{OpensNoList, ReadsNoScript}
+use Rattle.replay.specs.Causes.{LeavesListsBut, ListFailed, OpensNoList, ReadsNoScript}
 use Rattle.replay.specs.Endings.{IsOfTwoScripts}
 use Rattle.replay.specs.Causes.{RoseByStore, WriteCounts}
 use Rattle.replay.specs.declared.status.Status.{Status}
@@ -58,6 +61,16 @@ HostCounts _ host stores = RoseByStore host stores
 abbrev pub StoreCounts : Status → (stores : BeforeAfter ℕ) → Type 0
 StoreCounts Device stores = Rose stores.before stores.after
 StoreCounts _ stores = Unit {0}
+
+-- a host after work over the store of a path: no store is out, as many lists as before, and what
+-- is told of lists, of readings of lists that failed and of other stores stands as it stood
+pub record LeavesStoreClosed {Hosts Lists Stores : Type 0} (H : HostTells Hosts Lists Stores)
+    (path : List ℕ) (host : BeforeAfter Hosts) : Type 0 where
+  pub store_out : H.store_out host.after ≡ None
+  pub lists_out : H.lists_out host.after ≡ H.lists_out host.before
+  pub others : LeavesOtherStores path (H.stores host.before) (H.stores host.after)
+  pub reads : H.reads host.after ≡ H.reads host.before
+  pub lists : H.lists host.after ≡ H.lists host.before
 
 -- ---- two scripts
 
@@ -97,27 +110,40 @@ dump_ending (Err dump.NoMemory) = ending.Memory
 
 -- ---- the command
 
--- what a command leaves and answers: all that `run` promises but for standard error
-pub record Obeys (command : Option PlainCommand) (status : Status)
-    (lists : List ℕ → Option (List ℕ)) (tells : Bool) (before after : List ℕ → Images)
-    (left taken : BeforeAfter (Option (List ℕ)))
-    (host stores reads script out lists_out : BeforeAfter ℕ) (store_out : Option (List ℕ))
-    (HostStays ScriptStays : Type 0) : Type 0 where
-  pub text : Writes command status lists tells before after stores left taken
+-- what a value tells before and after
+abbrev pub told_of : {T U : Type 0} → (tells : T → U) → BeforeAfter T → BeforeAfter U
+told_of tells value = from_to (tells value.before) (tells value.after)
+
+-- What a command leaves and answers, by what a host, the source of a script and an output tell
+-- before and after: all that `run` promises but for standard error.
+pub record Obeys {Hosts Lists Stores Scripts Outs : Type 0} (H : HostTells Hosts Lists Stores)
+    (I : SourceTells Scripts) (O : SinkTells Outs) (command : Option PlainCommand) (status : Status)
+    (host : BeforeAfter Hosts) (script : BeforeAfter Scripts) (out : BeforeAfter Outs)
+    : Type 0 where
+  pub text : Writes command status (H.lists host.before) (H.tells_stores host.before)
+      (H.stores host.before) (H.stores host.after) (told_of H.store_faults host)
+      (told_of I.left script) (told_of O.taken out)
   pub usage : status ≡ Usage → IsNoCommand command
   pub no_command :
       IsNoCommand command → (status ≡ Usage) ⊎ (NamesSite command × (status ≡ Memory))
   pub ends : CanEnd command status
-  pub refused : ScriptCause command status left.before
-  pub list : ListCause status (option_and_then lists (list_named command))
-  pub read : ReadCounts status host stores script
+  pub refused : ScriptCause command status (I.left script.before)
+  pub list : ListCause status (option_and_then (H.lists host.before) (list_named command))
+  pub read :
+      ReadCounts status (told_of H.faults host) (told_of H.store_faults host)
+      (told_of I.faults script)
   pub read_told :
-      ReadCause (store_named command) status (option_and_then lists (list_named command)) host reads
-      script
-  pub device : DeviceCounts command tells status stores
-  pub write : WriteCounts status out
-  pub untouched : OpensNoList command → HostStays
-  pub unread : ReadsNoScript command status → ScriptStays
-  pub closed : lists_out.after ≡ lists_out.before
-  pub store_closed : store_out ≡ None
-  pub others : LeavesAllBut (store_named command) before after
+      ReadCause (store_named command) status
+      (option_and_then (H.lists host.before) (list_named command)) (told_of H.faults host)
+      (told_of H.reads host) (told_of I.faults script)
+  pub device :
+      DeviceCounts command (H.tells_stores host.before) status (told_of H.store_faults host)
+  pub write : WriteCounts status (told_of O.faults out)
+  pub untouched : OpensNoList command → host.after ≡ host.before
+  pub unread : ReadsNoScript command status → script.after ≡ script.before
+  pub list_failed : ListFailed (told_of H.reads host) → script.after ≡ script.before
+  pub lists : LeavesListsBut (list_named command) (H.lists host.before) (H.lists host.after)
+  pub closed : H.lists_out host.after ≡ H.lists_out host.before
+  pub store_closed : H.store_out host.after ≡ None
+  pub others :
+      LeavesAllBut (store_named command) (H.stores host.before) (H.stores host.after)

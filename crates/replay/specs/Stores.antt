@@ -3,7 +3,7 @@
 -- Source: none; these are the words of the promise.
 use Rattle.std.specs.Prelude.{◌≡◌, ◌⊎◌, ℕ, Bool, true, false, List, [], Option, Some, None}
 use Rattle.agent_base.specs.Streams.{Takes, TakesPrefix}
-use Rattle.journal.specs.Opening.{FileMeans, IsOfFile, IsWithin}
+use Rattle.journal.specs.Opening.{FileMeans, IsOfFile, IsOver, IsWithin}
 use Rattle.journal.specs.declared.open_fault.OpenFault.{OpenFault}
 use Rattle.suffix_list.specs.ListText.{RuleList}
 use Rattle.unwinding.specs.Admissible.{History}
@@ -13,6 +13,7 @@ use Rattle.durable_model.specs.Histories.{AgentOpening, opened_at}
 use Rattle.durable_model.specs.Saved.{IsValid, Saved, nothing_saved}
 use Rattle.row_store.specs.Bodies as bodies
 use Rattle.store_dumps.specs.Dump.{dump_text}
+use Rattle.store_runs.specs.Endings.{IsLimitEnding}
 use Rattle.store_runs.specs.Faults.{RoseBy, faults_of}
 use Rattle.store_runs.specs.Runs.{LeavesHistory, WritesLines}
 use Rattle.store_runs.specs.Tidy.{LeavesTidy}
@@ -47,8 +48,9 @@ LeavesStore ended list batch opening counts after history =
 -- Lines ran over the store of a path. It held this file, which is one of the images that the host
 -- told of it before. The store was not opened; or a history of the lines went on from the state
 -- that the file stands for, and left this of the store. Where the file is no store of the list,
--- that is what ends the run, but for want of memory and a failed call of the disk. A run that is
--- done leaves a store for which no checkpoint is due.
+-- that is what ends the run, but for want of memory and a failed call of the disk. A file over the
+-- limit of size is told with its length, and never as want of memory. A run that is done leaves a
+-- store for which no checkpoint is due.
 pub record RanOverStore (start batch checkpoint : ℕ) (taken : BeforeAfter (Option (List ℕ)))
     (counts : BeforeAfter ℕ) (before after : Images) (ended : Ending) (list : RuleList)
     (steps : List PlainStep) : Type 0 where
@@ -61,6 +63,7 @@ pub record RanOverStore (start batch checkpoint : ℕ) (taken : BeforeAfter (Opt
       taken.after (LeavesStore ended list batch (opened_at start base) counts after))
   pub refused : (why : OpenFault) → IsOfFile why → IsRefused list file why
       → (ended ≡ ending.Store why) ⊎ IsExcusedEnding ended
+  pub limit : IsOver true file → IsLimitEnding file ended
   pub tidy : ended ≡ ending.Done → LeavesTidy checkpoint list.digest after
 
 -- the same where the host tells what stores hold
@@ -91,7 +94,7 @@ WritesRows (ending.Store why) text taken = ⊥
 -- that the host told of it before, and what the host tells afterwards is what an opening leaves.
 -- The store was not opened; or the sink took the lines of a state, which is the one that the file
 -- stands for. A file that is no store of the list is refused, but for want of memory and a failed
--- call of the disk.
+-- call of the disk, and one over the limit of size is never told as want of memory.
 pub record DumpedStore (taken : BeforeAfter (Option (List ℕ))) (before after : Images)
     (ended : Ending) (list : RuleList) : Type 0 where
   pub file : List ℕ
@@ -105,6 +108,7 @@ pub record DumpedStore (taken : BeforeAfter (Option (List ℕ))) (before after :
       → WritesRows ended (dump_text d) taken ⊎ IsExcusedEnding ended
   pub refused : (why : OpenFault) → IsOfFile why → IsRefused list file why
       → (ended ≡ ending.Store why) ⊎ IsExcusedEnding ended
+  pub limit : IsOver true file → IsLimitEnding file ended
 
 -- the same where the host tells what stores hold
 abbrev pub DumpedRows : (taken : BeforeAfter (Option (List ℕ))) → Bool → (before after : Images)

@@ -1,11 +1,10 @@
 //! The rows of a store.
 ghost use Rattle.std.specs.Prelude.{◌≡◌, None, Some};
 ghost use Rattle.command_line.specs.Words.{Dump};
-ghost use Rattle.hosts.specs.Hosts.{LeavesOtherStores};
 ghost use Rattle.replay.specs.BeforeAfter.{from_to};
 ghost use Rattle.replay.specs.Causes.{WriteCounts};
-ghost use Rattle.replay.specs.Commands.{HasRun, HostCounts, Obeys, StoreCounts, dump_ending};
-ghost use Rattle.replay.specs.Commands.{status_of};
+ghost use Rattle.replay.specs.Commands.{HasRun, HostCounts, LeavesStoreClosed, Obeys};
+ghost use Rattle.replay.specs.Commands.{StoreCounts, dump_ending, status_of};
 ghost use Rattle.replay.specs.Runs.{Written};
 ghost use Rattle.replay.specs.Stores.{DumpedRows};
 
@@ -28,17 +27,8 @@ pub fn dump_store<H: Host, I: Source, O: Sink>(
     out: &mut O,
 ) -> Status
     requires closed { H.store_out host.old ≡ None }
-    ensures { Obeys (Some (Dump list.now store.now)) result
-        (H.lists host.old) (H.tells_stores host.old) (H.stores host.old) (H.stores host.new)
-        (from_to (I.left script.old) (I.left script.new))
-        (from_to (O.taken out.old) (O.taken out.new))
-        (from_to (H.faults host.old) (H.faults host.new))
-        (from_to (H.store_faults host.old) (H.store_faults host.new))
-        (from_to (H.reads host.old) (H.reads host.new))
-        (from_to (I.faults script.old) (I.faults script.new))
-        (from_to (O.faults out.old) (O.faults out.new))
-        (from_to (H.lists_out host.old) (H.lists_out host.new)) (H.store_out host.new)
-        (host.new ≡ host.old) (script.new ≡ script.old) }
+    ensures { Obeys H.Host I.Source O.Sink (Some (Dump list.now store.now)) result
+        (from_to host.old host.new) (from_to script.old script.new) (from_to out.old out.new) }
 {
     match read_list(alloc, host, list) {
         Ok(list) => dump_over(alloc, &list, store, host, out),
@@ -64,9 +54,7 @@ fn dump_over<H: Host, O: Sink>(
     ensures device { StoreCounts result
         (from_to (H.store_faults host.old) (H.store_faults host.new)) }
     ensures write { WriteCounts result (from_to (O.faults out.old) (O.faults out.new)) }
-    ensures lists_out { H.lists_out host.new ≡ H.lists_out host.old }
-    ensures store_out { H.store_out host.new ≡ None }
-    ensures others { LeavesOtherStores path.now (H.stores host.old) (H.stores host.new) }
+    ensures left { LeavesStoreClosed H.Host path.now (from_to host.old host.new) }
 {
     match host.open_store(path) {
         Ok(mut disk) => {

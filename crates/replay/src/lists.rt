@@ -1,6 +1,6 @@
 //! The list that a command names.
 ghost use Rattle.std.specs.Prelude.{◌≡◌, IfErr, IfOk, OnOk};
-ghost use Rattle.hosts.specs.Hosts.{LeavesStores};
+ghost use Rattle.hosts.specs.Hosts.{LeavesOthers, LeavesStores};
 ghost use Rattle.replay.specs.BeforeAfter.{from_to};
 ghost use Rattle.replay.specs.Readings.{IsListOf, ListRefusal, ListUnread};
 
@@ -18,6 +18,8 @@ pub fn read_list<H: Host>(alloc: Global, host: &mut H, path: &str) -> Result<Suf
         (from_to (H.faults host.old) (H.faults host.new))) }
     ensures unread { IfErr result (λ why. ListUnread why (H.lists host.old path.now)
         (from_to (H.reads host.old) (H.reads host.new))) }
+    ensures reads { OnOk result (H.reads host.new ≡ H.reads host.old) }
+    ensures others { LeavesOthers path.now (H.lists host.old) (H.lists host.new) }
     ensures closed { H.lists_out host.new ≡ H.lists_out host.old }
     ensures store_faults { H.store_faults host.new ≡ H.store_faults host.old }
     ensures stores { LeavesStores (H.stores host.old) (H.stores host.new) }

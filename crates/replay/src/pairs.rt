@@ -43,18 +43,10 @@ pub fn write_twin<H: Host, I: Source, O: Sink>(
     requires start { options.start ≤ last_moment }
     requires batch { (1 ≤ options.batch) × (options.batch ≤ longest_batch) }
     requires closed { H.store_out host.old ≡ None }
-    ensures { let checkpoint = options.checkpoint in
-        Obeys (Some (words.Twin site.now list.now options.batch checkpoint options.start)) result
-        (H.lists host.old) (H.tells_stores host.old) (H.stores host.old) (H.stores host.new)
-        (from_to (I.left script.old) (I.left script.new))
-        (from_to (O.taken out.old) (O.taken out.new))
-        (from_to (H.faults host.old) (H.faults host.new))
-        (from_to (H.store_faults host.old) (H.store_faults host.new))
-        (from_to (H.reads host.old) (H.reads host.new))
-        (from_to (I.faults script.old) (I.faults script.new))
-        (from_to (O.faults out.old) (O.faults out.new))
-        (from_to (H.lists_out host.old) (H.lists_out host.new)) (H.store_out host.new)
-        (host.new ≡ host.old) (script.new ≡ script.old) }
+    ensures { let start = options.start in
+        let command = words.Twin site.now list.now options.batch options.checkpoint start in
+        Obeys H.Host I.Source O.Sink (Some command) result
+        (from_to host.old host.new) (from_to script.old script.new) (from_to out.old out.new) }
 {
     match Site::read(alloc, site) {
         Ok(site) => match read_list(alloc, host, list) {

@@ -3,14 +3,15 @@ ghost use Rattle.std.specs.Prelude.{◌≡◌, ◌≤◌, ◌⊎◌, map, Some, 
 ghost use Rattle.command_line.specs.Words.{Help, command_of};
 ghost use Rattle.printed_model.specs.Histories.{HasOneText, HasSameLines, HasSiteLines};
 ghost use Rattle.replay.specs.BeforeAfter.{from_to};
-ghost use Rattle.replay.specs.Causes.{DeviceCounts, ListCause, OpensNoList, ReadCause};
+ghost use Rattle.replay.specs.Causes.{DeviceCounts, LeavesListsBut, ListCause, ListFailed};
+ghost use Rattle.replay.specs.Causes.{OpensNoList, ReadCause};
 ghost use Rattle.replay.specs.Endings.{CanEnd};
 ghost use Rattle.replay.specs.Causes.{ReadCounts, ReadsNoScript, ScriptCause, TellsFault};
 ghost use Rattle.replay.specs.Causes.{WriteCounts};
 ghost use Rattle.replay.specs.Commands.{Obeys};
 ghost use Rattle.replay.specs.Runs.{WritesUsage};
 ghost use Rattle.replay.specs.Stores.{LeavesAllBut, Writes};
-ghost use Rattle.replay.specs.Words.{IsNoCommand, NamesSite, list_told, store_named};
+ghost use Rattle.replay.specs.Words.{IsNoCommand, NamesSite, list_named, list_told, store_named};
 
 use crate::dumps::dump_store;
 use crate::pairs::write_twin;
@@ -83,6 +84,10 @@ pub fn run<H: Host, I: Source, O: Sink, E: Sink>(
         → host.new ≡ host.old }
     ensures unread { ReadsNoScript (command_of (map string_bytes words.now)) result
         → script.new ≡ script.old }
+    ensures list_failed { ListFailed (from_to (H.reads host.old) (H.reads host.new))
+        → script.new ≡ script.old }
+    ensures lists { LeavesListsBut (list_named (command_of (map string_bytes words.now)))
+        (H.lists host.old) (H.lists host.new) }
     ensures closed { H.lists_out host.new ≡ H.lists_out host.old }
     ensures store_closed { H.store_out host.new ≡ None }
     ensures others { LeavesAllBut (store_named (command_of (map string_bytes words.now)))
@@ -105,17 +110,8 @@ fn command<H: Host, I: Source, O: Sink>(
     out: &mut O,
 ) -> Status
     requires { H.store_out host.old ≡ None }
-    ensures { Obeys (command_of (map string_bytes words.now)) result
-        (H.lists host.old) (H.tells_stores host.old) (H.stores host.old) (H.stores host.new)
-        (from_to (I.left script.old) (I.left script.new))
-        (from_to (O.taken out.old) (O.taken out.new))
-        (from_to (H.faults host.old) (H.faults host.new))
-        (from_to (H.store_faults host.old) (H.store_faults host.new))
-        (from_to (H.reads host.old) (H.reads host.new))
-        (from_to (I.faults script.old) (I.faults script.new))
-        (from_to (O.faults out.old) (O.faults out.new))
-        (from_to (H.lists_out host.old) (H.lists_out host.new)) (H.store_out host.new)
-        (host.new ≡ host.old) (script.new ≡ script.old) }
+    ensures { Obeys H.Host I.Source O.Sink (command_of (map string_bytes words.now)) result
+        (from_to host.old host.new) (from_to script.old script.new) (from_to out.old out.new) }
 {
     let command = match read_words(alloc, words) {
         Ok(Some(command)) => command,

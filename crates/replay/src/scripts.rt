@@ -5,12 +5,11 @@ ghost use Rattle.agent_core.specs.AgentView.{longest_batch};
 ghost use Rattle.agent_model.specs.Rest.{last_moment};
 ghost use Rattle.command_line.specs.Words.{Replay};
 ghost use Rattle.disk_model.specs.Schedule.{AreFrom};
-ghost use Rattle.hosts.specs.Hosts.{LeavesOtherStores};
 ghost use Rattle.replay.specs.BeforeAfter.{from_to};
 ghost use Rattle.replay.specs.Causes.{ReadCounts, ScriptCauseOf, WriteCounts};
 ghost use Rattle.replay.specs.Endings.{IsOfScript, ScriptCanEnd};
-ghost use Rattle.replay.specs.Commands.{HasRun, HostCounts, IsAfterList, Obeys, StoreCounts};
-ghost use Rattle.replay.specs.Commands.{status_of};
+ghost use Rattle.replay.specs.Commands.{HasRun, HostCounts, IsAfterList, LeavesStoreClosed, Obeys};
+ghost use Rattle.replay.specs.Commands.{StoreCounts, status_of};
 ghost use Rattle.replay.specs.Readings.{ScriptCounts, ScriptRefusal};
 ghost use Rattle.replay.specs.Runs.{RanInMemory, ScriptRead, Written};
 ghost use Rattle.replay.specs.Stores.{RanLines, RanStored};
@@ -44,17 +43,9 @@ pub fn replay<H: Host, I: Source, O: Sink>(
     requires batch { (1 ≤ options.batch) × (options.batch ≤ longest_batch) }
     requires closed { H.store_out host.old ≡ None }
     ensures { let path = option_map (λ path. path.now) store.entry in
-        Obeys (Some (Replay list.now path options.batch options.checkpoint options.start)) result
-        (H.lists host.old) (H.tells_stores host.old) (H.stores host.old) (H.stores host.new)
-        (from_to (I.left script.old) (I.left script.new))
-        (from_to (O.taken out.old) (O.taken out.new))
-        (from_to (H.faults host.old) (H.faults host.new))
-        (from_to (H.store_faults host.old) (H.store_faults host.new))
-        (from_to (H.reads host.old) (H.reads host.new))
-        (from_to (I.faults script.old) (I.faults script.new))
-        (from_to (O.faults out.old) (O.faults out.new))
-        (from_to (H.lists_out host.old) (H.lists_out host.new)) (H.store_out host.new)
-        (host.new ≡ host.old) (script.new ≡ script.old) }
+        let command = Replay list.now path options.batch options.checkpoint options.start in
+        Obeys H.Host I.Source O.Sink (Some command) result
+        (from_to host.old host.new) (from_to script.old script.new) (from_to out.old out.new) }
 {
     match read_list(alloc, host, list) {
         Ok(list) => match store {
@@ -122,10 +113,7 @@ fn run_stored<H: Host, I: Source, O: Sink>(
     ensures device { H.tells_stores host.old ≡ true → StoreCounts result
         (from_to (H.store_faults host.old) (H.store_faults host.new)) }
     ensures write { WriteCounts result (from_to (O.faults out.old) (O.faults out.new)) }
-    ensures reads { H.reads host.new ≡ H.reads host.old }
-    ensures lists_out { H.lists_out host.new ≡ H.lists_out host.old }
-    ensures store_out { H.store_out host.new ≡ None }
-    ensures others { LeavesOtherStores path.now (H.stores host.old) (H.stores host.new) }
+    ensures left { LeavesStoreClosed H.Host path.now (from_to host.old host.new) }
 {
     match read_script(alloc, script, false) {
         Ok(script) => run_over(alloc, list, path, options, host, &script.lines, out),
@@ -159,10 +147,7 @@ fn run_over<H: Host, O: Sink>(
     ensures device { H.tells_stores host.old ≡ true → StoreCounts result
         (from_to (H.store_faults host.old) (H.store_faults host.new)) }
     ensures write { WriteCounts result (from_to (O.faults out.old) (O.faults out.new)) }
-    ensures reads { H.reads host.new ≡ H.reads host.old }
-    ensures lists_out { H.lists_out host.new ≡ H.lists_out host.old }
-    ensures store_out { H.store_out host.new ≡ None }
-    ensures others { LeavesOtherStores path.now (H.stores host.old) (H.stores host.new) }
+    ensures left { LeavesStoreClosed H.Host path.now (from_to host.old host.new) }
 {
     match host.open_store(path) {
         Ok(disk) => {

@@ -29,6 +29,7 @@ returns-in-Ok-clause-text g c =
       wrote = store_writes ended list options.start options.batch options.checkpoint held.0 _ _ steps taken counts after held.1 c.in-Ok.ensures.settled c.in-Ok.ensures.fresh (c.close_store.ensures.store_faults ∙ ap (raised _) c.in-Ok.ensures.store_faults) (c.close_store.ensures.told (c.in-Ok.ensures.tells ∙ tell))
           (c.run_on-finished.ensures.written ((g.met.H.Store.Disk.lawful c.in-Ok.disk).tells_contents held.0 held.1));
       refused = λ why of why_so. (c.run_on-finished.ensures.refused why held.0 held.1 of why_so).1;
+      limit = λ over. c.run_on-finished.ensures.limit held.0 held.1 over;
       tidy = λ done now left. c.run_on-finished.ensures.tidy ((g.met.H.Store.Disk.lawful c.in-Ok.disk).tells_contents held.0 held.1) done now ((c.close_store.ensures.told (c.in-Ok.ensures.tells ∙ tell)).no_more now left);
     } in
     subst (λ s. Written s taken (λ e. RanLines options.start options.batch options.checkpoint taken counts tells before after e list steps)) (sym c.status.ensures)

@@ -21,8 +21,7 @@ fn open_it<D: Disk>(alloc: Global, disk: &mut D) -> Result<u64, OpenFault> {
 }
 
 // Opens the store, commits the body once, and makes a checkpoint of it where it is asked to.
-// Answers
-// whether the journal is shut, and a fault of its opening.
+// Answers whether the journal is shut, and a fault of its opening.
 fn run<D: Disk>(alloc: Global, disk: &mut D, has_checkpoint: bool) -> Result<bool, OpenFault> {
     let mut into = Bodies::new(alloc);
     let mut journal = Journal::open(alloc, disk, &DIGEST, false, &mut into)?;
@@ -62,17 +61,32 @@ fn cut_run(alloc: Global, cut: Cut) -> Result<(bool, Result<u64, OpenFault>), Fa
     Ok((shows, kept(alloc, &mut disk)))
 }
 
+// The first and the last of calls, and how many changes are kept where one of them is cut: by pick
+// 0, and by the others.
+const CUTS: &[(u64, u64, u64, u64)] = &[(1, 9, 0, 0), (10, 11, 0, 1), (12, 18, 1, 1)];
+
+// Whether a cut shows and keeps so many changes.
+fn is_kept(alloc: Global, call: u64, pick: u8, want: u64) -> Result<bool, Fail> {
+    let (shows, found) = cut_run(alloc, Cut { call, pick })?;
+    Ok(shows && found == Ok(want))
+}
+
+// Whether each pick keeps what it has to where this call is cut.
+fn are_kept(alloc: Global, call: u64, pick_0: u64, others: u64) -> Result<bool, Fail> {
+    Ok(
+        is_kept(alloc, call, 0, pick_0)?
+            && is_kept(alloc, call, 1, others)?
+            && is_kept(alloc, call, 2, others)?
+            && is_kept(alloc, call, 3, others)?,
+    )
+}
+
 #[test]
 fn a_cut_in_any_call_keeps_what_was_acknowledged(rt: HostRuntime) -> Result<(), Fail> {
     let alloc = rt.alloc();
-    for (first, last, pick_0, others) in [(1, 9, 0, 0), (10, 11, 0, 1), (12, 18, 1, 1)] {
-        for call in first..=last {
-            for pick in 0..4 {
-                let want = if pick == 0 { pick_0 } else { others };
-                let (shows, found) = cut_run(alloc, Cut { call, pick })?;
-                assert!(rt; shows, "call {call} pick {pick}");
-                assert_eq!(rt; found, Ok(want), "call {call} pick {pick}");
-            }
+    for (first, last, pick_0, others) in CUTS {
+        for call in *first..=*last {
+            assert!(rt; are_kept(alloc, call, *pick_0, *others)?, "call {call}");
         }
     }
     Ok(())
@@ -93,8 +107,7 @@ fn counts(
     commits: bool,
     has_checkpoint: bool,
 ) -> Result<(u64, usize), Fail> {
-    let mut file = Vec::new(alloc);
-    file.resize(zeros, 0)?;
+    let file = vec![in alloc; 0; zeros]?;
     let mut disk = disk_of(alloc, &file, None, &[])?;
     if !is_made(alloc, &mut disk, commits, has_checkpoint) {
         return Ok((0, 0));
@@ -103,19 +116,31 @@ fn counts(
     Ok((disk.changing_calls(), bytes.len()))
 }
 
+// The zeros that a file has, whether a body is committed and a checkpoint made, and how many calls
+// change it and bytes are there then.
+type Count = (usize, bool, bool, u64, usize);
+
+const COUNTS: &[Count] = &[
+    (0, false, false, 7, 129),
+    (1, false, false, 7, 129),
+    (129, false, false, 5, 129),
+    (300, false, false, 5, 300),
+    (0, true, false, 11, 199),
+    (0, true, true, 18, 266),
+];
+
+fn is_counted(
+    alloc: Global,
+    (zeros, commits, has_checkpoint, calls, bytes): Count,
+) -> Result<bool, Fail> {
+    Ok(counts(alloc, zeros, commits, has_checkpoint)? == (calls, bytes))
+}
+
 #[test]
 fn calls_and_bytes_are_counted(rt: HostRuntime) -> Result<(), Fail> {
     let alloc = rt.alloc();
-    for (zeros, commits, has_checkpoint, calls, bytes) in [
-        (0, false, false, 7, 129),
-        (1, false, false, 7, 129),
-        (129, false, false, 5, 129),
-        (300, false, false, 5, 300),
-        (0, true, false, 11, 199),
-        (0, true, true, 18, 266),
-    ] {
-        let found = counts(alloc, zeros, commits, has_checkpoint)?;
-        assert_eq!(rt; found, (calls, bytes), "{zeros} zeros");
+    for (place, count) in COUNTS.iter().enumerate() {
+        assert!(rt; is_counted(alloc, *count)?, "file {place}");
     }
     Ok(())
 }
@@ -136,62 +161,67 @@ fn checkpoints<D: Disk>(
     Ok(())
 }
 
-// How long the file is after one commit of the body and so many checkpoints of so many bytes.
+// Whether a new store takes one commit of its body, and then so many checkpoints of another.
+fn is_filled<D: Disk>(alloc: Global, disk: &mut D, body: &[u8], count: u32) -> bool {
+    let mut into = Bodies::new(alloc);
+    let Ok(mut journal) = Journal::open(alloc, disk, &DIGEST, false, &mut into) else {
+        return false;
+    };
+    let Ok(()) = add(&mut journal, disk, false, &BODY) else {
+        return false;
+    };
+    checkpoints(&mut journal, disk, body, count).is_ok()
+}
+
+// How long the file is then, where the checkpoints have so many bytes.
 fn length_after(alloc: Global, count: u32, bytes: usize) -> Result<usize, Fail> {
     let mut disk = disk_of(alloc, b"", None, &[])?;
-    let mut into = Bodies::new(alloc);
-    let Ok(mut journal) = Journal::open(alloc, &mut disk, &DIGEST, false, &mut into) else {
+    let body = vec![in alloc; b'x'; bytes]?;
+    if !is_filled(alloc, &mut disk, &body, count) {
         return Ok(0);
-    };
-    let Ok(()) = add(&mut journal, &mut disk, false, &BODY) else {
-        return Ok(0);
-    };
-    let mut body = Vec::new(alloc);
-    body.resize(bytes, b'x')?;
-    let Ok(()) = checkpoints(&mut journal, &mut disk, &body, count) else {
-        return Ok(0);
-    };
+    }
     Ok(bytes_of(alloc, &mut disk)?.len())
 }
 
-// The live region begins at 128 first, and behind the first commit at 199. A snapshot of 52 bytes
-// with
-// both gates has 71 and fits just between them, and one of 53 does not.
+// How many checkpoints of how many bytes are made, and how long the file is then. The live region
+// begins at 128 first, and behind the first commit at 199. A snapshot of 52 bytes with both gates
+// has 71 and fits just between them, and one of 53 does not.
+const LENGTHS: &[(u32, usize, usize)] = &[
+    (0, 0, 199),
+    (1, 52, 270),
+    (2, 52, 270),
+    (1, 53, 271),
+    (2, 53, 343),
+    (3, 53, 343),
+    (40, 48, 266),
+];
+
 #[test]
 fn checkpoints_take_back_room(rt: HostRuntime) -> Result<(), Fail> {
     let alloc = rt.alloc();
-    for (count, bytes, want) in [
-        (0, 0, 199),
-        (1, 52, 270),
-        (2, 52, 270),
-        (1, 53, 271),
-        (2, 53, 343),
-        (3, 53, 343),
-        (40, 48, 266),
-    ] {
-        let found = length_after(alloc, count, bytes)?;
-        assert_eq!(rt; found, want, "{count} checkpoints of {bytes} bytes");
+    for (count, bytes, want) in LENGTHS {
+        let found = length_after(alloc, *count, *bytes)?;
+        assert!(rt; found == *want, "{count} checkpoints of {bytes} bytes");
     }
     Ok(())
 }
 
-// What a run leaves in which the ninth call fails, the power staying on.
-fn failing_run(alloc: Global) -> Result<(bool, Result<u64, OpenFault>), Fail> {
+// Whether a run in which the ninth call fails, the power staying on, shuts the journal and keeps no
+// change.
+fn failing_run_is_shut(alloc: Global) -> Result<bool, Fail> {
     let mut disk = disk_of(alloc, b"", None, &[9])?;
     let is_shut = run(alloc, &mut disk, false) == Ok(true);
-    Ok((is_shut, kept(alloc, &mut disk)))
+    Ok(is_shut && kept(alloc, &mut disk) == Ok(0))
 }
 
 #[test]
 fn a_call_that_fails_shuts_the_journal(rt: HostRuntime) -> Result<(), Fail> {
-    let (is_shut, found) = failing_run(rt.alloc())?;
-    assert!(rt; is_shut);
-    assert_eq!(rt; found, Ok(0));
+    assert!(rt; failing_run_is_shut(rt.alloc())?);
     Ok(())
 }
 
-/// The worked store: one commit of the body to a new store.
-pub fn worked(alloc: Global) -> Result<Vec<u8>, Fail> {
+// The worked store: one commit of the body to a new store.
+fn worked(alloc: Global) -> Result<Vec<u8>, Fail> {
     let mut file = Vec::new(alloc);
     file.extend_from_slice(b"\x01PBSTORE\x01\0\0\0")?;
     file.extend_from_slice(&DIGEST)?;
@@ -212,12 +242,16 @@ fn committed(alloc: Global) -> Result<Vec<u8>, Fail> {
     bytes_of(alloc, &mut disk)
 }
 
+/// Whether these are the bytes of the worked store.
+pub fn is_worked(alloc: Global, bytes: &[u8]) -> Result<bool, Fail> {
+    Ok(worked(alloc)?.as_slice() == bytes)
+}
+
 #[test]
 fn a_commit_writes_the_worked_store(rt: HostRuntime) -> Result<(), Fail> {
     let alloc = rt.alloc();
-    let want = worked(alloc)?;
     let found = committed(alloc)?;
-    assert_eq!(rt; found.as_slice(), want.as_slice());
+    assert!(rt; is_worked(alloc, &found)?);
     Ok(())
 }
 
@@ -235,60 +269,73 @@ fn answer(alloc: Global, len: usize, at: usize, byte: u8) -> Result<String, Fail
     })
 }
 
+// To how many bytes the worked store is cut, which byte is changed to what, and what its opening
+// answers.
+const FAULTS: &[(usize, usize, u8, &str)] = &[
+    (199, 0, 0, "0"),
+    (199, 0, 0xa5, "1"),
+    (199, 1, 0, "store: not a store at 1"),
+    (199, 8, 2, "store: not a store at 8"),
+    (199, 44, 0, "store: not a store at 44"),
+    (199, 45, 2, "1"),
+    (199, 53, 127, "store: not a store at 53"),
+    (199, 53, 199, "store: not a store at 53"),
+    (199, 61, 0xa5, "1"),
+    (199, 78, 1, "store: not a store at 78"),
+    (199, 128, 0, "0"),
+    (199, 128, 0xa5, "1"),
+    (199, 129, 2, "1"),
+    (199, 129, 3, "store: not a store at 129"),
+    (199, 130, 2, "store: not a store at 130"),
+    (199, 138, 0, "store: not a store at 138"),
+    (199, 138, 53, "store: not a store at 199"),
+    (199, 138, 54, "store: not a store at 128"),
+    (199, 145, 0x80, "store: not a store at 128"),
+    (199, 198, 1, "store: not a store at 198"),
+    (1, 0, 1, "0"),
+    (128, 0, 1, "store: not a store at 0"),
+    (198, 0, 1, "store: not a store at 198"),
+    (
+        199,
+        12,
+        0,
+        "store: list 00b0c44298fc1c149afbf4c8996fb92427ae41e4649b934ca495991b7852b855, \
+         given e3b0c44298fc1c149afbf4c8996fb92427ae41e4649b934ca495991b7852b855",
+    ),
+];
+
+fn is_answer(alloc: Global, len: usize, at: usize, byte: u8, want: &str) -> Result<bool, Fail> {
+    Ok(answer(alloc, len, at, byte)?.as_str() == want)
+}
+
 #[test]
 fn the_first_fault_has_its_offset(rt: HostRuntime) -> Result<(), Fail> {
     let alloc = rt.alloc();
-    for (len, at, byte, want) in [
-        (199, 0, 0, "0"),
-        (199, 0, 0xa5, "1"),
-        (199, 1, 0, "store: not a store at 1"),
-        (199, 8, 2, "store: not a store at 8"),
-        (199, 44, 0, "store: not a store at 44"),
-        (199, 45, 2, "1"),
-        (199, 53, 127, "store: not a store at 53"),
-        (199, 53, 199, "store: not a store at 53"),
-        (199, 61, 0xa5, "1"),
-        (199, 78, 1, "store: not a store at 78"),
-        (199, 128, 0, "0"),
-        (199, 128, 0xa5, "1"),
-        (199, 129, 2, "1"),
-        (199, 129, 3, "store: not a store at 129"),
-        (199, 130, 2, "store: not a store at 130"),
-        (199, 138, 0, "store: not a store at 138"),
-        (199, 138, 53, "store: not a store at 199"),
-        (199, 138, 54, "store: not a store at 128"),
-        (199, 145, 0x80, "store: not a store at 128"),
-        (199, 198, 1, "store: not a store at 198"),
-        (1, 0, 1, "0"),
-        (128, 0, 1, "store: not a store at 0"),
-        (198, 0, 1, "store: not a store at 198"),
-        (
-            199,
-            12,
-            0,
-            "store: list 00b0c44298fc1c149afbf4c8996fb92427ae41e4649b934ca495991b7852b855, \
-             given e3b0c44298fc1c149afbf4c8996fb92427ae41e4649b934ca495991b7852b855",
-        ),
-    ] {
-        let found = answer(alloc, len, at, byte)?;
-        assert_eq!(rt; found.as_str(), want, "byte {at} of {len} is {byte}");
+    for (len, at, byte, want) in FAULTS {
+        let found = is_answer(alloc, *len, *at, *byte, want)?;
+        assert!(rt; found, "byte {at} of {len} is {byte}");
     }
     Ok(())
+}
+
+const REFUSALS: &[(OpenFault, &str)] = &[
+    (
+        OpenFault::TooLarge(1_073_741_825),
+        "store: too large: 1073741825",
+    ),
+    (OpenFault::DeviceFault, "device fault"),
+    (OpenFault::NoMemory, "no memory"),
+];
+
+fn has_text(alloc: Global, fault: OpenFault, text: &str) -> Result<bool, Fail> {
+    Ok(format!(in alloc; "{fault}")?.as_str() == text)
 }
 
 #[test]
 fn refusals_have_their_texts(rt: HostRuntime) -> Result<(), Fail> {
     let alloc = rt.alloc();
-    for (fault, text) in [
-        (
-            OpenFault::TooLarge(1_073_741_825),
-            "store: too large: 1073741825",
-        ),
-        (OpenFault::DeviceFault, "device fault"),
-        (OpenFault::NoMemory, "no memory"),
-    ] {
-        let shown = format!(in alloc; "{fault}")?;
-        assert_eq!(rt; shown.as_str(), text);
+    for (fault, text) in REFUSALS {
+        assert!(rt; has_text(alloc, *fault, text)?, "{text}");
     }
     Ok(())
 }

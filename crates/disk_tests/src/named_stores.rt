@@ -3,7 +3,7 @@ ghost use Rattle.std.specs.Prelude.{◌≡◌, None};
 
 use crate::shared::{bytes_of, disk_of, path_of, put};
 use agent_base::{Fault, MemSource};
-use disk_model::Disk;
+use disk_model::{Disk, MemDisk};
 use hosts::{Host, MemHost, RealHost, hold_streams};
 use std::alloc::Global;
 use std::fs;
@@ -32,27 +32,41 @@ fn visit<H: Host>(alloc: Global, host: &mut H, path: &str, bytes: &[u8]) -> Resu
     found
 }
 
-#[test]
-fn a_store_in_memory_is_found_again(rt: HostRuntime) -> Result<(), Fail> {
-    let alloc = rt.alloc();
+// Whether the store of a path had these bytes before the others are written behind them.
+fn had<H: Host>(
+    alloc: Global,
+    host: &mut H,
+    path: &str,
+    want: &[u8],
+    more: &[u8],
+) -> Result<bool, Fail>
+    requires { H.store_out host.old ≡ None }
+    ensures { H.store_out host.new ≡ None }
+{
+    Ok(visit(alloc, host, path, more)?.as_slice() == want)
+}
+
+// One store of this path.
+fn store_at(alloc: Global, path: &str, bytes: &[u8]) -> Result<Vec<(String, MemDisk)>, Fail> {
+    let disk = disk_of(alloc, bytes, None, &[])?;
     let mut stores = Vec::new(alloc);
-    let name = String::from_str(alloc, "a")?;
-    stores.push((name, disk_of(alloc, b"abcd", None, &[])?))?;
-    let mut host = MemHost::new(Vec::new(alloc), stores);
-    let first = visit(alloc, &mut host, "a", b"XY")?;
-    let other = visit(alloc, &mut host, "b", b"Z")?;
-    let second = visit(alloc, &mut host, "a", b"")?;
-    let again = visit(alloc, &mut host, "b", b"")?;
-    assert_eq!(rt; first.as_slice(), b"abcd".as_slice());
-    assert_eq!(rt; other.as_slice(), b"".as_slice());
-    assert_eq!(rt; second.as_slice(), b"abcdXY".as_slice());
-    assert_eq!(rt; again.as_slice(), b"Z".as_slice());
-    Ok(())
+    stores.push((String::from_str(alloc, path)?, disk))?;
+    Ok(stores)
 }
 
 #[test]
-fn a_store_that_is_out_is_not_told(rt: HostRuntime) -> Result<(), Fail> {
+fn a_store_in_memory_is_found_again(rt: HostRuntime) -> Result<(), Fail> {
     let alloc = rt.alloc();
+    let mut host = MemHost::new(Vec::new(alloc), store_at(alloc, "a", b"abcd")?);
+    assert!(rt; had(alloc, &mut host, "a", b"abcd", b"XY")?);
+    assert!(rt; had(alloc, &mut host, "b", b"", b"Z")?);
+    assert!(rt; had(alloc, &mut host, "a", b"abcdXY", b"")?);
+    assert!(rt; had(alloc, &mut host, "b", b"Z", b"")?);
+    Ok(())
+}
+
+// Whether a new store is told before it is opened, while it is out, and once it is closed.
+fn told(alloc: Global) -> (bool, bool, bool) {
     let mut host = MemHost::new(Vec::new(alloc), Vec::new(alloc));
     let before = host.store("a").is_some();
     let opened = host.open_store("a");
@@ -60,38 +74,49 @@ fn a_store_that_is_out_is_not_told(rt: HostRuntime) -> Result<(), Fail> {
     if let Ok(store) = opened {
         host.close_store("a", store);
     }
-    let after = host.store("a").is_some();
-    assert_eq!(rt; (before, meanwhile, after), (false, false, true));
-    assert!(rt; host.store("b").is_none());
-    Ok(())
+    let after = host.store("a").is_some() && host.store("b").is_none();
+    (before, meanwhile, after)
 }
 
 #[test]
-fn a_list_in_memory_is_opened_once(rt: HostRuntime) -> Result<(), Fail> {
-    let alloc = rt.alloc();
+fn a_store_that_is_out_is_not_told(rt: HostRuntime) -> Result<(), Fail> {
+    assert!(rt; told(rt.alloc()) == (false, false, true));
+    Ok(())
+}
+
+// Whether a list in memory is opened at first, and not again.
+fn is_opened_once(alloc: Global) -> Result<bool, Fail> {
     let mut lists = Vec::new(alloc);
     let source = MemSource::new(Vec::from_slice(alloc, b"com")?, Vec::new(alloc));
     lists.push((String::from_str(alloc, "a")?, source))?;
     let mut host = MemHost::new(lists, Vec::new(alloc));
-    let first = host.open_list("a");
-    let second = host.open_list("a");
-    assert!(rt; first.is_ok());
-    assert!(rt; matches!(&second, Err(Fault::Failed)));
+    let is_opened = host.open_list("a").is_ok();
+    Ok(is_opened && matches!(host.open_list("a"), Err(Fault::Failed)))
+}
+
+#[test]
+fn a_list_in_memory_is_opened_once(rt: HostRuntime) -> Result<(), Fail> {
+    assert!(rt; is_opened_once(rt.alloc())?);
     Ok(())
+}
+
+// Whether a new store of the system keeps what is written in three visits.
+fn is_whole(rt: HostRuntime, path: &str) -> Result<bool, Fail> {
+    let alloc = rt.alloc();
+    let mut host = RealHost::new(rt);
+    Ok(
+        had(alloc, &mut host, path, b"", b"abc")?
+            && had(alloc, &mut host, path, b"abc", b"de")?
+            && had(alloc, &mut host, path, b"abcde", b"")?,
+    )
 }
 
 #[test]
 fn a_store_of_the_system_is_not_cut_short(rt: HostRuntime) -> Result<(), Fail> {
-    let alloc = rt.alloc();
     let path = path_of(&rt, "named_store")?;
-    let mut host = RealHost::new(rt);
-    let first = visit(alloc, &mut host, path.path_text(), b"abc")?;
-    let second = visit(alloc, &mut host, path.path_text(), b"de")?;
-    let third = visit(alloc, &mut host, path.path_text(), b"")?;
+    let is_whole = is_whole(rt, path.path_text())?;
     fs::remove_file(&rt, &path)?;
-    assert_eq!(rt; first.as_slice(), b"".as_slice());
-    assert_eq!(rt; second.as_slice(), b"abc".as_slice());
-    assert_eq!(rt; third.as_slice(), b"abcde".as_slice());
+    assert!(rt; is_whole);
     Ok(())
 }
 
@@ -104,19 +129,18 @@ fn long_path(alloc: Global) -> Result<String, Fail> {
     Ok(path)
 }
 
+// Whether the system opens no store of this path.
+fn is_refused(rt: HostRuntime, path: &str) -> bool {
+    let mut host = RealHost::new(rt);
+    matches!(host.open_store(path), Err(Fault::Failed))
+}
+
 #[test]
 fn a_store_that_cannot_be_opened_is_a_failure(rt: HostRuntime) -> Result<(), Fail> {
-    let alloc = rt.alloc();
-    let long = long_path(alloc)?;
-    let mut host = RealHost::new(rt);
-    let folder = host.open_store("/");
-    assert!(rt; matches!(&folder, Err(Fault::Failed)));
-    let mut host = RealHost::new(rt);
-    let nowhere = host.open_store("/dev/null/store");
-    assert!(rt; matches!(&nowhere, Err(Fault::Failed)));
-    let mut host = RealHost::new(rt);
-    let too_long = host.open_store(long.as_str());
-    assert!(rt; matches!(&too_long, Err(Fault::Failed)));
+    let long = long_path(rt.alloc())?;
+    assert!(rt; is_refused(rt, "/"));
+    assert!(rt; is_refused(rt, "/dev/null/store"));
+    assert!(rt; is_refused(rt, long.as_str()));
     Ok(())
 }
 

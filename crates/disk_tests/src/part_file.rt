@@ -21,10 +21,8 @@ impl PartFile {
     /// A file of these bytes. Reads and writes are counted from 1 on, and the one of the number
     /// `fails` fails.
     pub fn new(alloc: Global, bytes: &[u8], most: usize, fails: u64) -> Result<PartFile, Fail> {
-        let mut copy = Vec::new(alloc);
-        copy.extend_from_slice(bytes)?;
         Ok(PartFile {
-            bytes: copy,
+            bytes: Vec::from_slice(alloc, bytes)?,
             most,
             fails,
             calls: 0,

@@ -2,7 +2,7 @@
 ghost use Rattle.std.specs.Prelude.{◌≡◌, ◌<◌, false, true, IfOk, length};
 ghost use Rattle.journal.specs.Journal.{IsAtRest};
 
-use crate::journals::{is_made, kept, worked};
+use crate::journals::{is_made, is_worked, kept};
 use crate::shared::{Bodies, DIGEST, add, disk_of, new_file, path_of};
 use disk_model::{Cut, Disk, FileDisk, SystemFile};
 use journal::{Journal, OpenFault};
@@ -138,7 +138,7 @@ fn a_file_of_the_system_has_the_worked_store(rt: HostRuntime) -> Result<(), Fail
     let again = kept(alloc, &mut disk);
     fs::remove_file(&rt, &path)?;
     assert!(rt; is_so);
-    assert_eq!(rt; found.as_slice(), worked(alloc)?.as_slice());
-    assert_eq!(rt; again, Ok(1));
+    assert!(rt; is_worked(alloc, &found)?);
+    assert!(rt; again == Ok(1));
     Ok(())
 }

@@ -24,17 +24,15 @@ pub fn disk_of(
     cut: Option<Cut>,
     fails: &[u64],
 ) -> Result<MemDisk, Fail> {
-    let mut contents = Vec::new(alloc);
-    contents.extend_from_slice(bytes)?;
-    let mut numbers = Vec::new(alloc);
-    numbers.extend_from_slice(fails)?;
+    let contents = Vec::from_slice(alloc, bytes)?;
+    let fails = Vec::from_slice(alloc, fails)?;
     let mut cuts = Vec::new(alloc);
     if let Some(cut) = cut {
         if cut.call > 0 && cut.pick < 4 {
             cuts.push(cut)?;
         }
     }
-    Ok(MemDisk::new(alloc, contents, cuts, numbers))
+    Ok(MemDisk::new(alloc, contents, cuts, fails))
 }
 
 /// All bytes of a disk.

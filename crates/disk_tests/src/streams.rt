@@ -12,16 +12,27 @@ fn repeated(alloc: Global, times: usize) -> Result<Vec<u8>, Fail> {
     Ok(bytes)
 }
 
-// Whether a source whose calls of these numbers fail is read to its end under a limit.
+// A stream of so many times `abc`, the numbers of its calls that fail, a limit, and how many bytes
+// are read to its end or why they are not.
+const READS: &[(usize, &[u64], usize, Result<usize, ReadAll>)] = &[
+    (0, &[], 0, Ok(0)),
+    (3, &[], 9, Ok(9)),
+    (3, &[], 8, Err(ReadAll::TooLong)),
+    (3, &[1], 9, Err(ReadAll::Failed)),
+    (5000, &[2], 20000, Err(ReadAll::Failed)),
+    (5000, &[2], 4000, Err(ReadAll::TooLong)),
+    (5000, &[9], 15000, Ok(15000)),
+];
+
+// What reading a source to its end answers, whose calls of these numbers fail.
 fn reading(
     alloc: Global,
     times: usize,
     fails: &[u64],
     limit: usize,
 ) -> Result<Result<usize, ReadAll>, Fail> {
-    let mut numbers = Vec::new(alloc);
-    numbers.extend_from_slice(fails)?;
-    let mut source = MemSource::new(repeated(alloc, times)?, numbers);
+    let fails = Vec::from_slice(alloc, fails)?;
+    let mut source = MemSource::new(repeated(alloc, times)?, fails);
     match read_all(alloc, &mut source, limit) {
         Ok(bytes) => Ok(Ok(bytes.len())),
         Err(why) => Ok(Err(why)),
@@ -31,60 +42,61 @@ fn reading(
 #[test]
 fn reads_to_the_end_or_names_the_fault(rt: HostRuntime) -> Result<(), Fail> {
     let alloc = rt.alloc();
-    for (times, fails, limit, want) in [
-        (0, &[][..], 0, Ok(0)),
-        (3, &[][..], 9, Ok(9)),
-        (3, &[][..], 8, Err(ReadAll::TooLong)),
-        (3, &[1][..], 9, Err(ReadAll::Failed)),
-        (5000, &[2][..], 20000, Err(ReadAll::Failed)),
-        (5000, &[2][..], 4000, Err(ReadAll::TooLong)),
-        (5000, &[9][..], 15000, Ok(15000)),
-    ] {
-        assert_eq!(rt;
-            reading(alloc, times, fails, limit)?,
-            want,
-            "{times} times within {limit}"
-        );
+    for (times, fails, limit, want) in READS {
+        let found = reading(alloc, *times, fails, *limit)?;
+        assert!(rt; found == *want, "{times} times within {limit}");
     }
     Ok(())
+}
+
+// The room of a sink, the numbers of its calls that fail, whether it takes six bytes, and those
+// that it has then.
+const WRITES: &[(usize, &[u64], Result<(), Failed>, &[u8])] = &[
+    (6, &[], Ok(()), b"abcabc"),
+    (9, &[], Ok(()), b"abcabc"),
+    (5, &[], Err(Failed), b"abcab"),
+    (6, &[1], Err(Failed), b""),
+    (6, &[2], Ok(()), b"abcabc"),
+];
+
+// Whether a sink answers so to six bytes, and has these then.
+fn is_taken(
+    alloc: Global,
+    room: usize,
+    fails: &[u64],
+    want: Result<(), Failed>,
+    taken: &[u8],
+) -> Result<bool, Fail> {
+    let fails = Vec::from_slice(alloc, fails)?;
+    match MemSink::new(alloc, room, fails) {
+        Ok(mut sink) => Ok(write_all(&mut sink, b"abcabc") == want && sink.bytes() == taken),
+        Err(_) => Ok(false),
+    }
 }
 
 #[test]
 fn takes_what_fits_and_fails_in_mid_stream(rt: HostRuntime) -> Result<(), Fail> {
     let alloc = rt.alloc();
-    for (room, fails, want, taken) in [
-        (6, &[][..], Ok(()), &b"abcabc"[..]),
-        (9, &[][..], Ok(()), &b"abcabc"[..]),
-        (5, &[][..], Err(Failed), &b"abcab"[..]),
-        (6, &[1][..], Err(Failed), &b""[..]),
-        (6, &[2][..], Ok(()), &b"abcabc"[..]),
-    ] {
-        let mut numbers = Vec::new(alloc);
-        numbers.extend_from_slice(fails)?;
-        let Ok(mut sink) = MemSink::new(alloc, room, numbers) else {
-            assert!(rt; false, "no memory for a room of {room}");
-            return Ok(());
-        };
-        assert_eq!(rt;
-            write_all(&mut sink, b"abcabc"),
-            want,
-            "in a room of {room}"
-        );
-        assert_eq!(rt; sink.bytes(), taken, "in a room of {room}");
+    for (room, fails, want, taken) in WRITES {
+        let found = is_taken(alloc, *room, fails, *want, taken)?;
+        assert!(rt; found, "in a room of {room}");
     }
     Ok(())
 }
 
+// Whether bytes of std are read to their end.
+fn is_read(alloc: Global) -> bool {
+    let mut source = ReadSource::new(&b"abc"[..]);
+    match read_all(alloc, &mut source, 3) {
+        Ok(bytes) => bytes.as_slice() == b"abc".as_slice(),
+        Err(_) => false,
+    }
+}
+
 #[test]
 fn adapters_pass_bytes_through(rt: HostRuntime) -> Result<(), Fail> {
-    let alloc = rt.alloc();
-    let mut source = ReadSource::new(&b"abc"[..]);
-    let read = read_all(alloc, &mut source, 3);
-    assert!(rt; matches!(&read, Ok(bytes) if bytes.as_slice() == b"abc".as_slice()));
+    assert!(rt; is_read(rt.alloc()));
     let mut sink = WriteSink::new(rt.stderr());
-    assert_eq!(rt;
-        write_all(&mut sink, b"written to standard error\n"),
-        Ok(())
-    );
+    assert!(rt; write_all(&mut sink, b"written to standard error\n").is_ok());
     Ok(())
 }

@@ -19,7 +19,7 @@ fn has_line(alloc: Global, lines: &[Line], number: u32, text: &str) -> Result<bo
 }
 
 // Lines of the day of seed 7, by their numbers.
-const LINES: [(u32, &str); 12] = [
+const LINES: &[(u32, &str)] = &[
     (1, r#"{"do":"open","tab":1,"url":"https://s0.test/"}"#),
     (20, r#"{"do":"open","tab":20,"url":"https://s19.test/"}"#),
     (21, r#"{"do":"tick","s":8}"#),
@@ -34,7 +34,10 @@ const LINES: [(u32, &str); 12] = [
     (29, r#"{"do":"get","tab":14,"key":"k0"}"#),
     (
         31,
-        r#"{"do":"fetch","tab":11,"url":"https://w7.test/","head":[["Set-Cookie","c5=1; Secure; SameSite=None; Partitioned; Max-Age=1000"]]}"#,
+        concat!(
+            r#"{"do":"fetch","tab":11,"url":"https://w7.test/","#,
+            r#""head":[["Set-Cookie","c5=1; Secure; SameSite=None; Partitioned; Max-Age=1000"]]}"#,
+        ),
     ),
     (32, r#"{"do":"go","tab":13,"url":"https://s28.test/"}"#),
     (36, r#"{"do":"set","tab":14,"key":"k9","value":"v73"}"#),
@@ -56,9 +59,9 @@ const LINES: [(u32, &str); 12] = [
 fn lines_of_a_generated_day(rt: HostRuntime) -> Result<(), Fail> {
     let alloc = rt.alloc();
     let lines = generated_day(alloc, 7)?;
-    assert_eq!(rt; lines.len(), 5_020);
+    assert!(rt; lines.len() == 5_020);
     for (number, text) in LINES {
-        assert!(rt; has_line(alloc, &lines, number, text)?, "{number}");
+        assert!(rt; has_line(alloc, &lines, *number, text)?, "{number}");
     }
     Ok(())
 }

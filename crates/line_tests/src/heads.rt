@@ -1,10 +1,10 @@
 //! Heads of loads and of requests: good ones, each fault, and which fault is the first.
-use crate::actions::answer_of;
+use crate::actions::{answer_of, is_answer};
 use std::alloc::Global;
 use std::test::Fail;
 
 // The member `head` of a line, and the head that is read or the message of the fault.
-const HEADS: [(&str, &str); 43] = [
+const HEADS: &[(&str, &str)] = &[
     ("[]", "[]"),
     (
         r#"[["Set-Cookie","a=b"]]"#,
@@ -12,7 +12,10 @@ const HEADS: [(&str, &str); 43] = [
     ),
     (
         r#"[["set-COOKIE",""],["Set-Cookie","a=b"],["X","x"]]"#,
-        r#"[HeadField { name: "set-COOKIE", value: "" }, HeadField { name: "Set-Cookie", value: "a=b" }, HeadField { name: "X", value: "x" }]"#,
+        concat!(
+            r#"[HeadField { name: "set-COOKIE", value: "" }, "#,
+            r#"HeadField { name: "Set-Cookie", value: "a=b" }, HeadField { name: "X", value: "x" }]"#,
+        ),
     ),
     (
         r#"[["!#$%&'*+-.^_`|~09AZaz","a"]]"#,
@@ -96,19 +99,23 @@ fn shown(alloc: Global, want: &str) -> Result<String, Fail> {
     )?)
 }
 
+fn is_head(alloc: Global, head: &str, want: &str) -> Result<bool, Fail> {
+    let answer = answer_to(alloc, head)?;
+    let want = shown(alloc, want)?;
+    Ok(answer.as_str() == want.as_str())
+}
+
 #[test]
 fn heads_of_requests(rt: HostRuntime) -> Result<(), Fail> {
     let alloc = rt.alloc();
     for (head, want) in HEADS {
-        let answer = answer_to(alloc, head)?;
-        let want = shown(alloc, want)?;
-        assert_eq!(rt; answer.as_str(), want.as_str(), "{head}");
+        assert!(rt; is_head(alloc, head, want)?, "{head}");
     }
     Ok(())
 }
 
 // A line, and its action behind its number or the message of its fault.
-const LINES: [(&str, &str); 24] = [
+const LINES: &[(&str, &str)] = &[
     (
         r#"{"do":"open","tab":1,"url":"https://a.test","head":[["a","b"]]}"#,
         "1 Open { tab: 1, url: Address { text: \"https://a.test/\", https: true, ip: false, \
@@ -224,8 +231,7 @@ const LINES: [(&str, &str); 24] = [
 fn heads_of_lines(rt: HostRuntime) -> Result<(), Fail> {
     let alloc = rt.alloc();
     for (line, want) in LINES {
-        let answer = answer_of(alloc, line)?;
-        assert_eq!(rt; answer.as_str(), want, "{line}");
+        assert!(rt; is_answer(alloc, line, want)?, "{line}");
     }
     Ok(())
 }
@@ -243,20 +249,41 @@ fn list_of(alloc: Global, item: &str, count: usize) -> Result<String, Fail> {
     Ok(list)
 }
 
+// A field so many times, and the fault.
+const LONG: &[(&str, usize, &str)] = &[
+    (r#"["a","b"]"#, 65, "script line 1: bad field head"),
+    (r#"["a b","c"]"#, 65, "script line 1: bad field head"),
+    (r#"["a b","c"]"#, 64, "script line 1: bad header"),
+];
+
+// The answer to a head of this field, so many times.
+fn answer_to_many(alloc: Global, item: &str, count: usize) -> Result<String, Fail> {
+    let head = list_of(alloc, item, count)?;
+    answer_to(alloc, head.as_str())
+}
+
+fn is_fault_of_many(alloc: Global, item: &str, count: usize, want: &str) -> Result<bool, Fail> {
+    Ok(answer_to_many(alloc, item, count)?.as_str() == want)
+}
+
+// How many fields of a longest head are read.
+fn fields_of_the_longest(alloc: Global) -> Result<usize, Fail> {
+    let answer = answer_to_many(alloc, r#"["a","b"]"#, 64)?;
+    Ok(
+        answer
+            .matches(r#"HeadField { name: "a", value: "b" }"#)
+            .count(),
+    )
+}
+
 #[test]
 fn a_head_of_the_limit(rt: HostRuntime) -> Result<(), Fail> {
     let alloc = rt.alloc();
-    for (item, count, want) in [
-        (r#"["a","b"]"#, 65, "script line 1: bad field head"),
-        (r#"["a b","c"]"#, 65, "script line 1: bad field head"),
-        (r#"["a b","c"]"#, 64, "script line 1: bad header"),
-    ] {
-        let answer = answer_to(alloc, list_of(alloc, item, count)?.as_str())?;
-        assert_eq!(rt; answer.as_str(), want, "{count} times {item}");
+    for (item, count, want) in LONG {
+        let found = is_fault_of_many(alloc, item, *count, want)?;
+        assert!(rt; found, "{count} times {item}");
     }
-    let one = r#"HeadField { name: "a", value: "b" }"#;
-    let answer = answer_to(alloc, list_of(alloc, r#"["a","b"]"#, 64)?.as_str())?;
-    assert_eq!(rt; answer.matches(one).count(), 64);
+    assert!(rt; fields_of_the_longest(alloc)? == 64);
     Ok(())
 }
 
@@ -270,12 +297,24 @@ fn named_by(alloc: Global, count: usize) -> Result<String, Fail> {
     Ok(head)
 }
 
+// The answer to a name of so many letters.
+fn answer_to_name(alloc: Global, count: usize) -> Result<String, Fail> {
+    let head = named_by(alloc, count)?;
+    answer_to(alloc, head.as_str())
+}
+
+fn name_is_taken(alloc: Global, count: usize) -> Result<bool, Fail> {
+    Ok(answer_to_name(alloc, count)?.starts_with("1 Fetch"))
+}
+
+fn name_is_refused(alloc: Global, count: usize) -> Result<bool, Fail> {
+    Ok(answer_to_name(alloc, count)?.as_str() == "script line 1: bad header")
+}
+
 #[test]
 fn a_name_of_the_limit(rt: HostRuntime) -> Result<(), Fail> {
     let alloc = rt.alloc();
-    let good = answer_to(alloc, named_by(alloc, 65_535)?.as_str())?;
-    assert!(rt; good.starts_with("1 Fetch"));
-    let bad = answer_to(alloc, named_by(alloc, 65_536)?.as_str())?;
-    assert_eq!(rt; bad.as_str(), "script line 1: bad header");
+    assert!(rt; name_is_taken(alloc, 65_535)?);
+    assert!(rt; name_is_refused(alloc, 65_536)?);
     Ok(())
 }

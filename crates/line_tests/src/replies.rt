@@ -22,7 +22,7 @@ enum Answer {
     Cleared(u32),
 }
 
-const REPLIES: [(&str, Option<&str>, Answer, &str); 18] = [
+const REPLIES: &[(&str, Option<&str>, Answer, &str)] = &[
     (
         "set",
         Some("https://a.test"),
@@ -218,19 +218,24 @@ fn printed(
     line_of(alloc, &Reply { name, site, body })
 }
 
+fn is_printed(
+    alloc: Global,
+    (name, site, answer, want): (&'static str, Option<&str>, Answer, &str),
+) -> Result<bool, Fail> {
+    Ok(printed(alloc, name, site, answer)?.as_slice() == want.as_bytes())
+}
+
 #[test]
 fn lines_of_replies(rt: HostRuntime) -> Result<(), Fail> {
     let alloc = rt.alloc();
-    for (name, site, answer, want) in REPLIES {
-        let line = printed(alloc, name, site, answer)?;
-        assert!(rt; line.as_slice() == want.as_bytes(), "{want}");
+    for row in REPLIES {
+        assert!(rt; is_printed(alloc, *row)?, "{}", row.3);
     }
     Ok(())
 }
 
-#[test]
-fn a_kept_buffer_holds_the_last_line_alone(rt: HostRuntime) -> Result<(), Fail> {
-    let alloc = rt.alloc();
+// A reply to a close, printed over what stood in a buffer.
+fn printed_over(alloc: Global) -> Result<Vec<u8>, Fail> {
     let mut line = Vec::from_slice(alloc, b"what stood there")?;
     let closed = Reply {
         name: "close",
@@ -238,6 +243,12 @@ fn a_kept_buffer_holds_the_last_line_alone(rt: HostRuntime) -> Result<(), Fail> 
         body: ReplyBody::Plain { is: "ok" },
     };
     print_into(&mut line, &closed)?;
+    Ok(line)
+}
+
+#[test]
+fn a_kept_buffer_holds_the_last_line_alone(rt: HostRuntime) -> Result<(), Fail> {
+    let line = printed_over(rt.alloc())?;
     let want = "{\"do\":\"close\",\"is\":\"ok\",\"site\":null}\n";
     assert!(rt; line.as_slice() == want.as_bytes());
     Ok(())

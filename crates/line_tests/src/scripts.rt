@@ -36,7 +36,7 @@ fn fault_of(alloc: Global, text: &[u8]) -> Result<String, Fail> {
     }
 }
 
-const FAULTS: [(&[u8], &[u8]); 25] = [
+const FAULTS: &[(&[u8], &[u8])] = &[
     (b"x", b"script line 1: not json"),
     (
         b"{\"do\":\"tick\",\"s\":1}\n\nx",
@@ -121,12 +121,15 @@ const FAULTS: [(&[u8], &[u8]); 25] = [
     (b"{\"do\":\"tick\",\"s\":1e400}", b"script line 1: not json"),
 ];
 
+fn has_message(alloc: Global, text: &[u8], want: &[u8]) -> Result<bool, Fail> {
+    Ok(fault_of(alloc, text)?.as_bytes() == want)
+}
+
 #[test]
 fn first_fault_of_a_script(rt: HostRuntime) -> Result<(), Fail> {
     let alloc = rt.alloc();
-    for (text, want) in FAULTS {
-        let message = fault_of(alloc, text)?;
-        assert!(rt; message.as_bytes() == want, "{message}");
+    for (place, (text, want)) in FAULTS.iter().enumerate() {
+        assert!(rt; has_message(alloc, text, want)?, "fault {place}");
     }
     Ok(())
 }
@@ -168,9 +171,8 @@ const ACTIONS: &str = "1 Open { tab: 65535, url: Address { text: \"https://a.tes
 
 #[test]
 fn lines_of_a_script(rt: HostRuntime) -> Result<(), Fail> {
-    let alloc = rt.alloc();
-    let shown = read_lines(alloc, LINES)?;
-    assert_eq!(rt; shown.as_str(), ACTIONS);
+    let shown = read_lines(rt.alloc(), LINES)?;
+    assert!(rt; shown.as_str() == ACTIONS);
     Ok(())
 }
 
@@ -179,17 +181,24 @@ fn a_line_takes_72_bytes(rt: HostRuntime) {
     assert_eq!(rt; size_of::<Line>(), 72);
 }
 
+// Whether reading so many of a byte has this fault, or none.
+fn has_fault(
+    alloc: Global,
+    byte: u8,
+    count: usize,
+    want: Option<ScriptFault>,
+) -> Result<bool, Fail> {
+    Ok(script_of(alloc, vec![in alloc; byte; count]?).err() == want)
+}
+
 #[test]
 fn limit_of_a_line_to_its_last_byte(rt: HostRuntime) -> Result<(), Fail> {
     let alloc = rt.alloc();
-    for (byte, count, want) in [
-        (b'x', 1_048_576, Some(ScriptFault::NotJson(1))),
-        (b'x', 1_048_577, Some(ScriptFault::LineTooLong(1))),
-        (b' ', 1_048_577, None),
-    ] {
-        let why = script_of(alloc, vec![in alloc; byte; count]?).err();
-        assert!(rt; why == want, "{count} times {byte}");
-    }
+    let fault = Some(ScriptFault::NotJson(1));
+    assert!(rt; has_fault(alloc, b'x', 1_048_576, fault)?);
+    let fault = Some(ScriptFault::LineTooLong(1));
+    assert!(rt; has_fault(alloc, b'x', 1_048_577, fault)?);
+    assert!(rt; has_fault(alloc, b' ', 1_048_577, None)?);
     Ok(())
 }
 
@@ -199,11 +208,13 @@ fn failing_source(alloc: Global) -> Result<MemSource, Fail> {
     Ok(MemSource::new(vec![in alloc; b' '; 5000]?, fails))
 }
 
+fn fault_is_told(alloc: Global) -> Result<bool, Fail> {
+    let mut source = failing_source(alloc)?;
+    Ok(Script::read(alloc, &mut source, true).err() == Some(ScriptFault::ReadFault))
+}
+
 #[test]
 fn source_fails_in_mid_stream(rt: HostRuntime) -> Result<(), Fail> {
-    let alloc = rt.alloc();
-    let mut source = failing_source(alloc)?;
-    let first = Script::read(alloc, &mut source, true).err();
-    assert!(rt; first == Some(ScriptFault::ReadFault));
+    assert!(rt; fault_is_told(rt.alloc())?);
     Ok(())
 }

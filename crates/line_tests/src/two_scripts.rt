@@ -24,7 +24,7 @@ fn answer_of(alloc: Global, text: &[u8]) -> Result<String, Fail> {
     }
 }
 
-const INPUTS: [(&[u8], &[u8]); 39] = [
+const INPUTS: &[(&[u8], &[u8])] = &[
     // Either part may be empty, or have lines that are skipped.
     (b"===", b"===\n"),
     (b"===\n", b"===\n"),
@@ -115,41 +115,56 @@ const INPUTS: [(&[u8], &[u8]); 39] = [
     ),
 ];
 
+fn is_answer(alloc: Global, text: &[u8], want: &[u8]) -> Result<bool, Fail> {
+    Ok(answer_of(alloc, text)?.as_bytes() == want)
+}
+
 #[test]
 fn inputs_of_two_scripts(rt: HostRuntime) -> Result<(), Fail> {
     let alloc = rt.alloc();
-    for (text, want) in INPUTS {
-        let answer = answer_of(alloc, text)?;
-        assert!(rt; answer.as_bytes() == want, "{answer}");
+    for (place, (text, want)) in INPUTS.iter().enumerate() {
+        assert!(rt; is_answer(alloc, text, want)?, "input {place}");
     }
     Ok(())
+}
+
+fn has_fault(alloc: Global, bytes: Vec<u8>, why: ScriptFault) -> bool {
+    read_two(alloc, bytes).err() == Some(why)
 }
 
 // The length of the whole comes before the want of a divider.
 #[test]
 fn limit_of_two_scripts(rt: HostRuntime) -> Result<(), Fail> {
     let alloc = rt.alloc();
-    let why = read_two(alloc, vec![in alloc; b' '; 16_777_217]?).err();
-    assert!(rt; why == Some(ScriptFault::TooLong));
+    let blanks = vec![in alloc; b' '; 16_777_217]?;
+    assert!(rt; has_fault(alloc, blanks, ScriptFault::TooLong));
     Ok(())
+}
+
+// A divider and a line behind it of so many bytes.
+fn divided(alloc: Global, length: usize) -> Result<Vec<u8>, Fail> {
+    let mut bytes = Vec::from_slice(alloc, b"===\n")?;
+    bytes.extend_from_slice(&vec![in alloc; b'x'; length]?)?;
+    Ok(bytes)
 }
 
 #[test]
 fn long_line_of_a_second_script(rt: HostRuntime) -> Result<(), Fail> {
     let alloc = rt.alloc();
-    let mut bytes = Vec::from_slice(alloc, b"===\n")?;
-    bytes.extend_from_slice(&vec![in alloc; b'x'; 1_048_577]?)?;
-    let why = read_two(alloc, bytes).err();
-    assert!(rt; why == Some(ScriptFault::LineTooLong(2)));
+    let bytes = divided(alloc, 1_048_577)?;
+    assert!(rt; has_fault(alloc, bytes, ScriptFault::LineTooLong(2)));
     Ok(())
+}
+
+// Whether a read that fails is a fault.
+fn fault_is_told(alloc: Global) -> Result<bool, Fail> {
+    let fails = Vec::from_slice(alloc, &[2])?;
+    let mut source = MemSource::new(Vec::from_slice(alloc, b"===")?, fails);
+    Ok(Script::read_two(alloc, &mut source).err() == Some(ScriptFault::ReadFault))
 }
 
 #[test]
 fn source_of_two_scripts_fails(rt: HostRuntime) -> Result<(), Fail> {
-    let alloc = rt.alloc();
-    let fails = Vec::from_slice(alloc, &[2])?;
-    let mut source = MemSource::new(Vec::from_slice(alloc, b"===")?, fails);
-    let first = Script::read_two(alloc, &mut source).err();
-    assert!(rt; first == Some(ScriptFault::ReadFault));
+    assert!(rt; fault_is_told(rt.alloc())?);
     Ok(())
 }

@@ -14,14 +14,16 @@ pub const ROWS: &[Row] = &[
             "{\"do\":\"frame\",\"tab\":1,\"frame\":2,\"url\":\"https://w.test/\",\"sandbox\":\"allow-same-origin\"}\n",
             "{\"do\":\"click\",\"tab\":1,\"frame\":2}\n",
             "{\"do\":\"request\",\"tab\":1,\"frame\":2,\"answer\":\"grant\"}\n",
-            "{\"do\":\"frame\",\"tab\":1,\"frame\":3,\"url\":\"https://w.test/\",\"sandbox\":\"allow-storage-access-by-user-activation\"}\n",
+            "{\"do\":\"frame\",\"tab\":1,\"frame\":3,\"url\":\"https://w.test/\",\
+                \"sandbox\":\"allow-storage-access-by-user-activation\"}\n",
             "{\"do\":\"click\",\"tab\":1,\"frame\":3}\n",
             "{\"do\":\"request\",\"tab\":1,\"frame\":3,\"answer\":\"grant\"}\n",
             "{\"do\":\"has\",\"tab\":1,\"frame\":3}\n",
             "{\"do\":\"frame\",\"tab\":1,\"frame\":4,\"url\":\"http://w.test/\"}\n",
             "{\"do\":\"click\",\"tab\":1,\"frame\":4}\n",
             "{\"do\":\"request\",\"tab\":1,\"frame\":4,\"answer\":\"grant\"}\n",
-            "{\"do\":\"frame\",\"tab\":1,\"frame\":5,\"url\":\"https://w.test/\",\"sandbox\":\"allow-same-origin allow-storage-access-by-user-activation\"}\n",
+            "{\"do\":\"frame\",\"tab\":1,\"frame\":5,\"url\":\"https://w.test/\",\
+                \"sandbox\":\"allow-same-origin allow-storage-access-by-user-activation\"}\n",
             "{\"do\":\"click\",\"tab\":1,\"frame\":5}\n",
             "{\"do\":\"request\",\"tab\":1,\"frame\":5,\"answer\":\"grant\"}\n",
             "{\"do\":\"request\",\"tab\":1,\"frame\":9,\"answer\":\"grant\"}\n",
@@ -233,7 +235,8 @@ pub const ROWS: &[Row] = &[
         words: REPLAY,
         list: "",
         script: concat!(
-            "{\"do\":\"open\",\"tab\":1,\"url\":\"https://w.test/\",\"head\":[[\"Set-Cookie\",\"n=1; Domain=w.test; SameSite=None; Secure\"]]}\n",
+            "{\"do\":\"open\",\"tab\":1,\"url\":\"https://w.test/\",\"head\":[\
+                [\"Set-Cookie\",\"n=1; Domain=w.test; SameSite=None; Secure\"]]}\n",
             "{\"do\":\"open\",\"tab\":2,\"url\":\"https://a.test/\"}\n",
             "{\"do\":\"frame\",\"tab\":2,\"frame\":1,\"url\":\"https://w.test/f\"}\n",
             "{\"do\":\"click\",\"tab\":2,\"frame\":1}\n",
@@ -278,7 +281,8 @@ pub const ROWS: &[Row] = &[
         words: REPLAY,
         list: "",
         script: concat!(
-            "{\"do\":\"open\",\"tab\":1,\"url\":\"https://w.test/\",\"head\":[[\"Set-Cookie\",\"n=1; SameSite=None; Secure\"]]}\n",
+            "{\"do\":\"open\",\"tab\":1,\"url\":\"https://w.test/\",\"head\":[\
+                [\"Set-Cookie\",\"n=1; SameSite=None; Secure\"]]}\n",
             "{\"do\":\"open\",\"tab\":2,\"url\":\"https://a.test/\"}\n",
             "{\"do\":\"frame\",\"tab\":2,\"frame\":1,\"url\":\"https://w.test/\"}\n",
             "{\"do\":\"click\",\"tab\":2,\"frame\":1}\n",
@@ -323,7 +327,8 @@ pub const ROWS: &[Row] = &[
         words: REPLAY,
         list: "",
         script: concat!(
-            "{\"do\":\"open\",\"tab\":1,\"url\":\"https://w.test/\",\"head\":[[\"Set-Cookie\",\"n=1; SameSite=None; Secure\"],[\"Set-Cookie\",\"l=1\"]]}\n",
+            "{\"do\":\"open\",\"tab\":1,\"url\":\"https://w.test/\",\"head\":[[\"Set-Cookie\",\"n=1; SameSite=None; Secure\"],\
+                [\"Set-Cookie\",\"l=1\"]]}\n",
             "{\"do\":\"open\",\"tab\":2,\"url\":\"https://a.test/\"}\n",
             "{\"do\":\"frame\",\"tab\":2,\"frame\":1,\"url\":\"https://w.test/\"}\n",
             "{\"do\":\"setcookie\",\"tab\":2,\"frame\":1,\"text\":\"n=2; SameSite=None; Secure\"}\n",
@@ -332,7 +337,8 @@ pub const ROWS: &[Row] = &[
             "{\"do\":\"cookie\",\"tab\":2,\"frame\":1}\n",
             "{\"do\":\"setcookie\",\"tab\":2,\"frame\":1,\"text\":\"n=2; SameSite=None; Secure\"}\n",
             "{\"do\":\"setcookie\",\"tab\":2,\"frame\":1,\"text\":\"m=2\"}\n",
-            "{\"do\":\"fetch\",\"tab\":2,\"frame\":1,\"url\":\"https://w.test/\",\"head\":[[\"Set-Cookie\",\"k=3; SameSite=None; Secure\"]]}\n",
+            "{\"do\":\"fetch\",\"tab\":2,\"frame\":1,\"url\":\"https://w.test/\",\"head\":[\
+                [\"Set-Cookie\",\"k=3; SameSite=None; Secure\"]]}\n",
             "{\"do\":\"cookie\",\"tab\":1}\n",
         ),
         out: concat!(

@@ -48,15 +48,18 @@ pub const ROWS: &[Row] = &[
             "{\"do\":\"open\",\"tab\":1,\"url\":\"https://a.test/\"}\n",
             "{\"do\":\"fetch\",\"tab\":1,\"url\":\"https://a.test/x\",\"head\":[[\"Set-Cookie\",\"p=1; Partitioned\"]]}\n",
             "{\"do\":\"fetch\",\"tab\":1,\"url\":\"https://w.test/\",\"head\":[[\"Set-Cookie\",\"p=1; Partitioned\"]]}\n",
-            "{\"do\":\"fetch\",\"tab\":1,\"url\":\"https://w.test/\",\"head\":[[\"Set-Cookie\",\"n=1; SameSite=None; Secure\"]]}\n",
-            "{\"do\":\"fetch\",\"tab\":1,\"url\":\"https://w.test/\",\"head\":[[\"Set-Cookie\",\"n=1; SameSite=None; Secure; Partitioned\"]]}\n",
+            "{\"do\":\"fetch\",\"tab\":1,\"url\":\"https://w.test/\",\"head\":[\
+                [\"Set-Cookie\",\"n=1; SameSite=None; Secure\"]]}\n",
+            "{\"do\":\"fetch\",\"tab\":1,\"url\":\"https://w.test/\",\"head\":[\
+                [\"Set-Cookie\",\"n=1; SameSite=None; Secure; Partitioned\"]]}\n",
             "{\"do\":\"fetch\",\"tab\":1,\"url\":\"https://w.test/\"}\n",
             "{\"do\":\"open\",\"tab\":2,\"url\":\"https://b.test/\"}\n",
             "{\"do\":\"fetch\",\"tab\":2,\"url\":\"https://w.test/\"}\n",
         ),
         out: concat!(
             "{\"cookie\":null,\"do\":\"open\",\"is\":\"ok\",\"set\":[],\"site\":\"https://a.test\"}\n",
-            "{\"cookie\":null,\"do\":\"fetch\",\"is\":\"ok\",\"set\":[\"partitioned-needs-secure\"],\"site\":\"https://a.test\"}\n",
+            "{\"cookie\":null,\"do\":\"fetch\",\"is\":\"ok\",\"set\":[\"partitioned-needs-secure\"],\
+                \"site\":\"https://a.test\"}\n",
             "{\"cookie\":null,\"do\":\"fetch\",\"is\":\"ok\",\"set\":[\"same-site\"],\"site\":\"https://a.test\"}\n",
             "{\"cookie\":null,\"do\":\"fetch\",\"is\":\"ok\",\"set\":[\"third-party\"],\"site\":\"https://a.test\"}\n",
             "{\"cookie\":null,\"do\":\"fetch\",\"is\":\"ok\",\"set\":[\"added\"],\"site\":\"https://a.test\"}\n",
@@ -78,7 +81,8 @@ pub const ROWS: &[Row] = &[
             "{\"do\":\"fetch\",\"tab\":2,\"url\":\"https://pub.test/\",\"head\":[[\"Set-Cookie\",\"x=1; Domain=pub.test\"]]}\n",
             "{\"do\":\"fetch\",\"tab\":2,\"url\":\"https://pub.test/\",\"head\":[[\"Set-Cookie\",\"x=2\"]]}\n",
             "{\"do\":\"fetch\",\"tab\":2,\"url\":\"https://pub.test/\",\"head\":[[\"Set-Cookie\",\"__host-a=1; Secure\"]]}\n",
-            "{\"do\":\"fetch\",\"tab\":2,\"url\":\"https://pub.test/\",\"head\":[[\"Set-Cookie\",\"=__Host-x\"],[\"Set-Cookie\",\"__Host-x\"]]}\n",
+            "{\"do\":\"fetch\",\"tab\":2,\"url\":\"https://pub.test/\",\"head\":[[\"Set-Cookie\",\"=__Host-x\"],\
+                [\"Set-Cookie\",\"__Host-x\"]]}\n",
             "{\"do\":\"fetch\",\"tab\":2,\"url\":\"https://pub.test/\",\"head\":[[\"Set-Cookie\",\"__SECURE-a=1\"]]}\n",
             "{\"do\":\"fetch\",\"tab\":2,\"url\":\"https://pub.test/\",\"head\":[[\"Set-Cookie\",\"x=1; Domain=other.test\"]]}\n",
         ),
@@ -89,7 +93,8 @@ pub const ROWS: &[Row] = &[
             "{\"cookie\":null,\"do\":\"fetch\",\"is\":\"ok\",\"set\":[\"added\"],\"site\":\"https://pub.test\"}\n",
             "{\"cookie\":\"x=1\",\"do\":\"fetch\",\"is\":\"ok\",\"set\":[\"replaced\"],\"site\":\"https://pub.test\"}\n",
             "{\"cookie\":\"x=2\",\"do\":\"fetch\",\"is\":\"ok\",\"set\":[\"host-prefix\"],\"site\":\"https://pub.test\"}\n",
-            "{\"cookie\":\"x=2\",\"do\":\"fetch\",\"is\":\"ok\",\"set\":[\"nameless-prefix\",\"nameless-prefix\"],\"site\":\"https://pub.test\"}\n",
+            "{\"cookie\":\"x=2\",\"do\":\"fetch\",\"is\":\"ok\",\"set\":[\"nameless-prefix\",\"nameless-prefix\"],\
+                \"site\":\"https://pub.test\"}\n",
             "{\"cookie\":\"x=2\",\"do\":\"fetch\",\"is\":\"ok\",\"set\":[\"secure-prefix\"],\"site\":\"https://pub.test\"}\n",
             "{\"cookie\":\"x=2\",\"do\":\"fetch\",\"is\":\"ok\",\"set\":[\"domain-mismatch\"],\"site\":\"https://pub.test\"}\n",
         ),
@@ -101,12 +106,15 @@ pub const ROWS: &[Row] = &[
         words: REPLAY,
         list: "",
         script: concat!(
-            "{\"do\":\"open\",\"tab\":1,\"url\":\"https://a.test/\",\"head\":[[\"Set-Cookie\",\"s=1; SameSite=Strict\"],[\"Set-Cookie\",\"l=1; SameSite=Lax\"],[\"Set-Cookie\",\"n=1; SameSite=None; Secure\"],[\"Set-Cookie\",\"d=1\"]]}\n",
+            "{\"do\":\"open\",\"tab\":1,\"url\":\"https://a.test/\",\"head\":[[\"Set-Cookie\",\"s=1; SameSite=Strict\"],\
+                [\"Set-Cookie\",\"l=1; SameSite=Lax\"],[\"Set-Cookie\",\"n=1; SameSite=None; Secure\"],\
+                [\"Set-Cookie\",\"d=1\"]]}\n",
             "{\"do\":\"open\",\"tab\":2,\"url\":\"https://b.test/\"}\n",
             "{\"do\":\"go\",\"tab\":2,\"url\":\"https://a.test/\",\"by\":\"page\"}\n",
         ),
         out: concat!(
-            "{\"cookie\":null,\"do\":\"open\",\"is\":\"ok\",\"set\":[\"added\",\"added\",\"added\",\"added\"],\"site\":\"https://a.test\"}\n",
+            "{\"cookie\":null,\"do\":\"open\",\"is\":\"ok\",\"set\":[\"added\",\"added\",\"added\",\"added\"],\
+                \"site\":\"https://a.test\"}\n",
             "{\"cookie\":null,\"do\":\"open\",\"is\":\"ok\",\"set\":[],\"site\":\"https://b.test\"}\n",
             "{\"cookie\":\"l=1; n=1; d=1\",\"do\":\"go\",\"is\":\"ok\",\"set\":[],\"site\":\"https://a.test\"}\n",
         ),
@@ -118,12 +126,15 @@ pub const ROWS: &[Row] = &[
         words: REPLAY,
         list: "",
         script: concat!(
-            "{\"do\":\"open\",\"tab\":1,\"url\":\"https://a.test/\",\"head\":[[\"Set-Cookie\",\"s=1; SameSite=Strict\"],[\"Set-Cookie\",\"l=1; SameSite=Lax\"],[\"Set-Cookie\",\"n=1; SameSite=None; Secure\"],[\"Set-Cookie\",\"d=1\"]]}\n",
+            "{\"do\":\"open\",\"tab\":1,\"url\":\"https://a.test/\",\"head\":[[\"Set-Cookie\",\"s=1; SameSite=Strict\"],\
+                [\"Set-Cookie\",\"l=1; SameSite=Lax\"],[\"Set-Cookie\",\"n=1; SameSite=None; Secure\"],\
+                [\"Set-Cookie\",\"d=1\"]]}\n",
             "{\"do\":\"open\",\"tab\":2,\"url\":\"https://b.test/\"}\n",
             "{\"do\":\"go\",\"tab\":2,\"url\":\"https://a.test/\",\"by\":\"page\",\"method\":\"POST\"}\n",
         ),
         out: concat!(
-            "{\"cookie\":null,\"do\":\"open\",\"is\":\"ok\",\"set\":[\"added\",\"added\",\"added\",\"added\"],\"site\":\"https://a.test\"}\n",
+            "{\"cookie\":null,\"do\":\"open\",\"is\":\"ok\",\"set\":[\"added\",\"added\",\"added\",\"added\"],\
+                \"site\":\"https://a.test\"}\n",
             "{\"cookie\":null,\"do\":\"open\",\"is\":\"ok\",\"set\":[],\"site\":\"https://b.test\"}\n",
             "{\"cookie\":\"n=1\",\"do\":\"go\",\"is\":\"ok\",\"set\":[],\"site\":\"https://a.test\"}\n",
         ),
@@ -135,12 +146,15 @@ pub const ROWS: &[Row] = &[
         words: REPLAY,
         list: "",
         script: concat!(
-            "{\"do\":\"open\",\"tab\":1,\"url\":\"https://a.test/\",\"head\":[[\"Set-Cookie\",\"s=1; SameSite=Strict\"],[\"Set-Cookie\",\"l=1; SameSite=Lax\"],[\"Set-Cookie\",\"n=1; SameSite=None; Secure\"],[\"Set-Cookie\",\"d=1\"]]}\n",
+            "{\"do\":\"open\",\"tab\":1,\"url\":\"https://a.test/\",\"head\":[[\"Set-Cookie\",\"s=1; SameSite=Strict\"],\
+                [\"Set-Cookie\",\"l=1; SameSite=Lax\"],[\"Set-Cookie\",\"n=1; SameSite=None; Secure\"],\
+                [\"Set-Cookie\",\"d=1\"]]}\n",
             "{\"do\":\"open\",\"tab\":2,\"url\":\"https://b.test/\"}\n",
             "{\"do\":\"go\",\"tab\":2,\"url\":\"https://a.test/\",\"by\":\"user\"}\n",
         ),
         out: concat!(
-            "{\"cookie\":null,\"do\":\"open\",\"is\":\"ok\",\"set\":[\"added\",\"added\",\"added\",\"added\"],\"site\":\"https://a.test\"}\n",
+            "{\"cookie\":null,\"do\":\"open\",\"is\":\"ok\",\"set\":[\"added\",\"added\",\"added\",\"added\"],\
+                \"site\":\"https://a.test\"}\n",
             "{\"cookie\":null,\"do\":\"open\",\"is\":\"ok\",\"set\":[],\"site\":\"https://b.test\"}\n",
             "{\"cookie\":\"s=1; l=1; n=1; d=1\",\"do\":\"go\",\"is\":\"ok\",\"set\":[],\"site\":\"https://a.test\"}\n",
         ),
@@ -152,8 +166,11 @@ pub const ROWS: &[Row] = &[
         words: REPLAY,
         list: "com\nuk\nco.uk\n",
         script: concat!(
-            "{\"do\":\"open\",\"tab\":1,\"url\":\"https://www.shop.co.uk/cart\",\"head\":[[\"Set-Cookie\",\"SID=31d4d96e; Path=/; Secure; HttpOnly; SameSite=Lax; Max-Age=31536000\"]]}\n",
-            "{\"do\":\"frame\",\"tab\":1,\"frame\":1,\"url\":\"https://ads.adnet.com/f\",\"head\":[[\"Set-Cookie\",\"__Host-ad=7; Path=/; Secure; SameSite=None; Partitioned; Expires=Wed, 21 Oct 2026 07:28:00 GMT\"]]}\n",
+            "{\"do\":\"open\",\"tab\":1,\"url\":\"https://www.shop.co.uk/cart\",\"head\":[\
+                [\"Set-Cookie\",\"SID=31d4d96e; Path=/; Secure; HttpOnly; SameSite=Lax; Max-Age=31536000\"]]}\n",
+            "{\"do\":\"frame\",\"tab\":1,\"frame\":1,\"url\":\"https://ads.adnet.com/f\",\"head\":[\
+                [\"Set-Cookie\",\"__Host-ad=7; Path=/; Secure; SameSite=None; Partitioned; \
+                Expires=Wed, 21 Oct 2026 07:28:00 GMT\"]]}\n",
             "{\"do\":\"fetch\",\"tab\":1,\"frame\":1,\"url\":\"https://ads.adnet.com/px\"}\n",
             "{\"do\":\"cookie\",\"tab\":1}\n",
             "{\"do\":\"go\",\"tab\":1,\"url\":\"https://www.shop.co.uk/pay\",\"by\":\"page\"}\n",
@@ -197,7 +214,8 @@ pub const ROWS: &[Row] = &[
         list: "",
         script: concat!(
             "{\"do\":\"open\",\"tab\":1,\"url\":\"https://a.test/\",\"head\":[[\"Set-Cookie\",\"a=1\"]]}\n",
-            "{\"do\":\"frame\",\"tab\":1,\"frame\":1,\"sandbox\":\"allow-scripts\",\"url\":\"https://a.test/\",\"head\":[[\"Set-Cookie\",\"b=1\"],[\"Set-Cookie\",\"c=1; SameSite=None; Secure; Partitioned\"]]}\n",
+            "{\"do\":\"frame\",\"tab\":1,\"frame\":1,\"sandbox\":\"allow-scripts\",\"url\":\"https://a.test/\",\"head\":[\
+                [\"Set-Cookie\",\"b=1\"],[\"Set-Cookie\",\"c=1; SameSite=None; Secure; Partitioned\"]]}\n",
             "{\"do\":\"cookie\",\"tab\":1,\"frame\":1}\n",
             "{\"do\":\"setcookie\",\"tab\":1,\"frame\":1,\"text\":\"x=1\"}\n",
             "{\"do\":\"fetch\",\"tab\":1,\"frame\":1,\"url\":\"https://a.test/\"}\n",
@@ -224,7 +242,8 @@ pub const ROWS: &[Row] = &[
             "{\"do\":\"open\",\"tab\":1,\"url\":\"https://a.test/\",\"head\":[[\"Set-Cookie\",\"a=1\"]]}\n",
             "{\"do\":\"frame\",\"tab\":1,\"frame\":1,\"url\":\"https://a.test/\",\"head\":[[\"Set-Cookie\",\"b=1\"]]}\n",
             "{\"do\":\"frame\",\"tab\":1,\"frame\":1,\"url\":\"https://a.test/\",\"head\":[[\"Set-Cookie\",\"c=1\"]]}\n",
-            "{\"do\":\"frame\",\"tab\":1,\"frame\":2,\"parent\":7,\"url\":\"https://a.test/\",\"head\":[[\"Set-Cookie\",\"d=1\"]]}\n",
+            "{\"do\":\"frame\",\"tab\":1,\"frame\":2,\"parent\":7,\"url\":\"https://a.test/\",\"head\":[\
+                [\"Set-Cookie\",\"d=1\"]]}\n",
             "{\"do\":\"nav\",\"tab\":1,\"frame\":3,\"url\":\"https://a.test/\",\"head\":[[\"Set-Cookie\",\"e=1\"]]}\n",
             "{\"do\":\"open\",\"tab\":1,\"url\":\"https://a.test/\",\"head\":[[\"Set-Cookie\",\"f=1\"]]}\n",
             "{\"do\":\"open\",\"tab\":2,\"opener\":9,\"url\":\"https://a.test/\",\"head\":[[\"Set-Cookie\",\"g=1\"]]}\n",
@@ -271,17 +290,23 @@ pub const ROWS: &[Row] = &[
         words: REPLAY,
         list: "",
         script: concat!(
-            "{\"do\":\"open\",\"tab\":1,\"url\":\"https://a.test/x/y\",\"head\":[[\"Set-Cookie\",\"a=1; Path=/\"],[\"Set-Cookie\",\"b=2\"],[\"Set-Cookie\",\"c=3; Path=/x/y\"]]}\n",
+            "{\"do\":\"open\",\"tab\":1,\"url\":\"https://a.test/x/y\",\"head\":[[\"Set-Cookie\",\"a=1; Path=/\"],\
+                [\"Set-Cookie\",\"b=2\"],[\"Set-Cookie\",\"c=3; Path=/x/y\"]]}\n",
             "{\"do\":\"tick\",\"s\":1}\n",
-            "{\"do\":\"fetch\",\"tab\":1,\"url\":\"https://a.test/x/y/z\",\"head\":[[\"Set-Cookie\",\"b=4\"],[\"Set-Cookie\",\"d=5; Path=/x/y\"],[\"Set-Cookie\",\"b=6; Max-Age=0\"]]}\n",
-            "{\"do\":\"fetch\",\"tab\":1,\"url\":\"https://a.test/x/y/z\",\"head\":[[\"Set-Cookie\",\"a=7; Path=/\"],[\"Set-Cookie\",\"a=8; Path=/\"]]}\n",
+            "{\"do\":\"fetch\",\"tab\":1,\"url\":\"https://a.test/x/y/z\",\"head\":[[\"Set-Cookie\",\"b=4\"],\
+                [\"Set-Cookie\",\"d=5; Path=/x/y\"],[\"Set-Cookie\",\"b=6; Max-Age=0\"]]}\n",
+            "{\"do\":\"fetch\",\"tab\":1,\"url\":\"https://a.test/x/y/z\",\"head\":[[\"Set-Cookie\",\"a=7; Path=/\"],\
+                [\"Set-Cookie\",\"a=8; Path=/\"]]}\n",
             "{\"do\":\"cookie\",\"tab\":1}\n",
         ),
         out: concat!(
-            "{\"cookie\":null,\"do\":\"open\",\"is\":\"ok\",\"set\":[\"added\",\"added\",\"added\"],\"site\":\"https://a.test\"}\n",
+            "{\"cookie\":null,\"do\":\"open\",\"is\":\"ok\",\"set\":[\"added\",\"added\",\"added\"],\
+                \"site\":\"https://a.test\"}\n",
             "{\"do\":\"tick\",\"is\":\"ok\",\"now\":1767225601,\"site\":null}\n",
-            "{\"cookie\":\"c=3; b=2; a=1\",\"do\":\"fetch\",\"is\":\"ok\",\"set\":[\"added\",\"added\",\"removed\"],\"site\":\"https://a.test\"}\n",
-            "{\"cookie\":\"c=3; d=5; b=2; a=1\",\"do\":\"fetch\",\"is\":\"ok\",\"set\":[\"replaced\",\"replaced\"],\"site\":\"https://a.test\"}\n",
+            "{\"cookie\":\"c=3; b=2; a=1\",\"do\":\"fetch\",\"is\":\"ok\",\"set\":[\"added\",\"added\",\"removed\"],\
+                \"site\":\"https://a.test\"}\n",
+            "{\"cookie\":\"c=3; d=5; b=2; a=1\",\"do\":\"fetch\",\"is\":\"ok\",\"set\":[\"replaced\",\"replaced\"],\
+                \"site\":\"https://a.test\"}\n",
             "{\"cookie\":\"c=3; d=5; b=2; a=8\",\"do\":\"cookie\",\"is\":\"ok\",\"site\":\"https://a.test\"}\n",
         ),
         err: "",

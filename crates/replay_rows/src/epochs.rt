@@ -8,7 +8,9 @@ pub const ROWS: &[Row] = &[
         name: "a permission and a cookie with an age outlive a restart",
         words: REPLAY,
         list: "",
-        script: r#"{"do":"open","tab":9,"url":"https://x.test/","head":[["Set-Cookie","n=1; SameSite=None; Secure; Max-Age=1000"],["Set-Cookie","l=1; SameSite=Lax"]]}
+        script: concat!(
+            r#"{"do":"open","tab":9,"url":"https://x.test/","head":["#,
+            r#"["Set-Cookie","n=1; SameSite=None; Secure; Max-Age=1000"],["Set-Cookie","l=1; SameSite=Lax"]]}
 {"do":"open","tab":1,"url":"https://a.test/"}
 {"do":"frame","tab":1,"frame":1,"url":"https://x.test/"}
 {"do":"request","tab":1,"frame":1,"answer":"grant"}
@@ -27,6 +29,7 @@ pub const ROWS: &[Row] = &[
 {"do":"request","tab":1,"frame":1,"answer":"dismiss"}
 {"do":"fetch","tab":1,"frame":1,"url":"https://x.test/p"}
 "#,
+        ),
         out: r#"{"cookie":null,"do":"open","is":"ok","set":["added","added"],"site":"https://x.test"}
 {"cookie":null,"do":"open","is":"ok","set":[],"site":"https://a.test"}
 {"cookie":null,"do":"frame","is":"ok","set":[],"site":"https://a.test"}
@@ -120,7 +123,7 @@ pub const ROWS: &[Row] = &[
 
 /// Where the power is cut in the commit of one change, call and pick, and whether the change is
 /// there after the restart.
-pub const CUTS: [(&str, bool); 16] = [
+pub const CUTS: &[(&str, bool)] = &[
     ("[8,0]", false),
     ("[8,1]", false),
     ("[8,2]", false),

@@ -1,5 +1,5 @@
 //! Storage events: who hears of a write, and how many wait.
-use crate::row::{REPLAY, Row, run_of, sink_of, source};
+use crate::row::{REPLAY, Row, prints};
 use std::alloc::Global;
 use std::test::Fail;
 
@@ -163,17 +163,14 @@ fn many_replies(alloc: Global) -> Result<String, Fail> {
     Ok(out)
 }
 
+fn queue_is_filled(alloc: Global) -> Result<bool, Fail> {
+    let script = many_writes(alloc)?;
+    let replies = many_replies(alloc)?;
+    prints(alloc, &script, 400_000, &replies)
+}
+
 #[test]
 fn a_full_queue_counts_what_it_loses(rt: HostRuntime) -> Result<(), Fail> {
-    let alloc = rt.alloc();
-    let ended = run_of(
-        alloc,
-        source(alloc, "", &[])?,
-        source(alloc, &many_writes(alloc)?, &[])?,
-        sink_of(alloc, 400_000, &[])?,
-        sink_of(alloc, 1_000, &[])?,
-    )?;
-    assert_eq!(rt; ended.status, 0);
-    assert!(rt; ended.out.bytes() == many_replies(alloc)?.as_bytes());
+    assert!(rt; queue_is_filled(rt.alloc())?);
     Ok(())
 }

@@ -1,5 +1,6 @@
 //! Reads and writes that fail. Nothing is written where the first write fails.
-use crate::row::{run_of, sink, source};
+use crate::row::{Ended, run_of, sink, source};
+use std::alloc::Global;
 use std::test::Fail;
 
 const SCRIPT: &str = r#"{"do":"open","tab":1,"url":"https://a.test/"}
@@ -17,7 +18,7 @@ struct Case {
     line: &'static str,
 }
 
-const CASES: [Case; 5] = [
+const CASES: &[Case] = &[
     Case {
         list: &[1],
         script: &[],
@@ -60,20 +61,29 @@ const CASES: [Case; 5] = [
     },
 ];
 
+fn run_case(alloc: Global, case: &Case) -> Result<Ended, Fail> {
+    let list = source(alloc, "", case.list)?;
+    let script = source(alloc, SCRIPT, case.script)?;
+    let out = sink(alloc, case.out)?;
+    let err = sink(alloc, case.err)?;
+    run_of(alloc, list, script, out, err)
+}
+
+// Whether a case has its status and its fault line, and nothing is printed.
+fn is_named(alloc: Global, case: &Case) -> Result<bool, Fail> {
+    let ended = run_case(alloc, case)?;
+    Ok(
+        ended.status == case.status
+            && ended.out.bytes().is_empty()
+            && ended.err.bytes() == case.line.as_bytes(),
+    )
+}
+
 #[test]
 fn a_fault_is_named(rt: HostRuntime) -> Result<(), Fail> {
     let alloc = rt.alloc();
-    for case in &CASES {
-        let ended = run_of(
-            alloc,
-            source(alloc, "", case.list)?,
-            source(alloc, SCRIPT, case.script)?,
-            sink(alloc, case.out)?,
-            sink(alloc, case.err)?,
-        )?;
-        assert_eq!(rt; ended.status, case.status);
-        assert!(rt; ended.out.bytes().is_empty());
-        assert!(rt; ended.err.bytes() == case.line.as_bytes());
+    for (place, case) in CASES.iter().enumerate() {
+        assert!(rt; is_named(alloc, case)?, "case {place}");
     }
     Ok(())
 }

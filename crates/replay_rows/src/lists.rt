@@ -1,5 +1,6 @@
 //! Sites under suffix lists, and lists that are refused.
 use crate::row::{REPLAY, Row, run_of, sink, source};
+use std::alloc::Global;
 use std::test::Fail;
 
 pub const ROWS: &[Row] = &[
@@ -99,34 +100,39 @@ pub const ROWS: &[Row] = &[
 ];
 
 // how many lines `a` a list has, its last line, and the fault line of the run
-const LIMITS: [(u32, &str, &str); 3] = [
+const LIMITS: &[(u32, &str, &str)] = &[
     (32_767, "b", ""),
     (32_768, "b", "list line 32769: too many rules\n"),
     (524_288, "b", "list: too long\n"),
 ];
 
+// A list of so many lines `a`, with a last one.
+fn list_of(alloc: Global, lines: u32, last: &str) -> Result<String, Fail> {
+    let mut text = String::new(alloc);
+    for _ in 0..lines {
+        text.push_str("a\n")?;
+    }
+    text.push_str(last)?;
+    Ok(text)
+}
+
+// Whether an empty script under a list ends with this fault line, and with its status.
+fn is_named(alloc: Global, list: &str, line: &str) -> Result<bool, Fail> {
+    let list = source(alloc, list, &[])?;
+    let script = source(alloc, "", &[])?;
+    let out = sink(alloc, &[])?;
+    let err = sink(alloc, &[])?;
+    let ended = run_of(alloc, list, script, out, err)?;
+    let status = if line.is_empty() { 0 } else { 4 };
+    Ok(ended.status == status && ended.err.bytes() == line.as_bytes())
+}
+
 #[test]
 fn a_list_past_a_limit_is_named(rt: HostRuntime) -> Result<(), Fail> {
     let alloc = rt.alloc();
     for (lines, last, line) in LIMITS {
-        let mut text = String::new(alloc);
-        for _ in 0..lines {
-            text.push_str("a\n")?;
-        }
-        text.push_str(last)?;
-        let ended = run_of(
-            alloc,
-            source(alloc, text.as_str(), &[])?,
-            source(alloc, "", &[])?,
-            sink(alloc, &[])?,
-            sink(alloc, &[])?,
-        )?;
-        let wanted = if line == "" { 0 } else { 4 };
-        assert_eq!(rt; ended.status, wanted, "{lines} lines and {last}");
-        assert!(rt;
-            ended.err.bytes() == line.as_bytes(),
-            "{lines} lines and {last}"
-        );
+        let list = list_of(alloc, *lines, last)?;
+        assert!(rt; is_named(alloc, &list, line)?, "{lines} lines");
     }
     Ok(())
 }

@@ -138,28 +138,46 @@ impl Lines {
     }
 }
 
-/// Runs a row, and names it where it fails.
-pub fn check(rt: &impl Abort, alloc: Global, row: &Row) -> Result<(), Fail> {
+// What of a run is not as a row has it, and nothing where all is.
+fn wrong_part(ended: &Ended, row: &Row) -> &'static str {
+    if ended.status != row.status {
+        "the status"
+    } else if ended.out.bytes() != row.out.as_bytes() {
+        "the replies"
+    } else if ended.err.bytes() != row.err.as_bytes() {
+        "the fault line"
+    } else {
+        ""
+    }
+}
+
+fn run_row(alloc: Global, row: &Row) -> Result<Ended, Fail> {
     let list = source(alloc, row.list, &[])?;
     let script = source(alloc, row.script, &[])?;
-    let ended = run_words(
-        alloc,
-        row.words,
-        list,
-        script,
-        sink(alloc, &[])?,
-        sink(alloc, &[])?,
-    )?;
-    assert_eq!(rt; ended.status, row.status, "the status of: {}", row.name);
-    assert!(rt;
-        ended.out.bytes() == row.out.as_bytes(),
-        "the replies of: {}",
-        row.name
-    );
-    assert!(rt;
-        ended.err.bytes() == row.err.as_bytes(),
-        "the fault line of: {}",
-        row.name
-    );
+    let out = sink(alloc, &[])?;
+    let err = sink(alloc, &[])?;
+    run_words(alloc, row.words, list, script, out, err)
+}
+
+// What is wrong in a run of a row.
+fn wrong_in(alloc: Global, row: &Row) -> Result<&'static str, Fail> {
+    let ended = run_row(alloc, row)?;
+    Ok(wrong_part(&ended, row))
+}
+
+/// Runs a row, and names it where it fails.
+pub fn check(rt: &impl Abort, alloc: Global, row: &Row) -> Result<(), Fail> {
+    let wrong = wrong_in(alloc, row)?;
+    assert!(rt; wrong.is_empty(), "{wrong} of: {}", row.name);
     Ok(())
+}
+
+/// Whether a script under the empty list ends well, and prints these replies in so much room.
+pub fn prints(alloc: Global, script: &str, room: usize, replies: &str) -> Result<bool, Fail> {
+    let list = source(alloc, "", &[])?;
+    let script = source(alloc, script, &[])?;
+    let out = sink_of(alloc, room, &[])?;
+    let err = sink(alloc, &[])?;
+    let ended = run_of(alloc, list, script, out, err)?;
+    Ok(ended.status == 0 && ended.out.bytes() == replies.as_bytes())
 }

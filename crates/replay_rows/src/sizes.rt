@@ -1,5 +1,5 @@
 //! A run of many tabs, frames, storage keys and pairs, whose replies are written in several parts.
-use crate::row::{Lines, run_of, sink_of, source};
+use crate::row::{Ended, Lines, run_of, sink_of, source};
 use std::alloc::Global;
 use std::test::Fail;
 
@@ -64,22 +64,32 @@ fn many_lines(alloc: Global) -> Result<Lines, Fail> {
     Ok(lines)
 }
 
+fn run_lines(alloc: Global, lines: &Lines, fails: &[u64]) -> Result<Ended, Fail> {
+    let list = source(alloc, "", &[])?;
+    let script = source(alloc, &lines.script, &[])?;
+    let out = sink_of(alloc, 1_000_000, fails)?;
+    let err = sink_of(alloc, 100, &[])?;
+    run_of(alloc, list, script, out, err)
+}
+
+// Whether all replies are there, or a part of them where the second write fails.
+fn are_written(alloc: Global, lines: &Lines, fails: &[u64], status: u8) -> Result<bool, Fail> {
+    let ended = run_lines(alloc, lines, fails)?;
+    let written = ended.out.bytes();
+    let whole = written.len() == lines.replies.len();
+    Ok(
+        ended.status == status
+            && lines.replies.as_bytes().starts_with(written)
+            && whole == (status == 0)
+            && written.len() >= 65_536,
+    )
+}
+
 #[test]
 fn a_run_of_many_lines_is_written_in_parts(rt: HostRuntime) -> Result<(), Fail> {
     let alloc = rt.alloc();
     let lines = many_lines(alloc)?;
-    for (fails, status) in [(&[] as &[u64], 0), (&[2], 7)] {
-        let ended = run_of(
-            alloc,
-            source(alloc, "", &[])?,
-            source(alloc, &lines.script, &[])?,
-            sink_of(alloc, 1_000_000, fails)?,
-            sink_of(alloc, 100, &[])?,
-        )?;
-        assert_eq!(rt; ended.status, status);
-        assert!(rt; lines.replies.as_bytes().starts_with(ended.out.bytes()));
-        let whole = ended.out.bytes().len() == lines.replies.len();
-        assert!(rt; whole == (status == 0) && ended.out.bytes().len() >= 65_536);
-    }
+    assert!(rt; are_written(alloc, &lines, &[], 0)?);
+    assert!(rt; are_written(alloc, &lines, &[2], 7)?);
     Ok(())
 }

@@ -1,6 +1,6 @@
 //! The rows of each table, run one by one.
 use crate::refusals::{LISTS, USAGE, WORDS};
-use crate::row::{REPLAY, Row, check, run_of, sink, source};
+use crate::row::{REPLAY, Row, check, prints};
 use crate::script_faults::SCRIPTS;
 use crate::{access, areas, clocks, cookies, epochs, events, first_path, frames, lists, sessions};
 use std::alloc::Global;
@@ -39,25 +39,18 @@ fn restarts_batches_and_cuts(rt: HostRuntime) -> Result<(), Fail> {
     check_all(&rt, rt.alloc(), epochs::ROWS)
 }
 
+// Whether a cut leaves the commit, or does not.
+fn is_left(alloc: Global, cut: &str, is_kept: bool) -> Result<bool, Fail> {
+    let script = epochs::script_with(alloc, cut)?;
+    let replies = if is_kept { epochs::KEPT } else { epochs::LOST };
+    prints(alloc, &script, 100_000, replies)
+}
+
 #[test]
 fn cuts_in_a_commit(rt: HostRuntime) -> Result<(), Fail> {
     let alloc = rt.alloc();
     for (cut, is_kept) in epochs::CUTS {
-        let script = epochs::script_with(alloc, cut)?;
-        let ended = run_of(
-            alloc,
-            source(alloc, "", &[])?,
-            source(alloc, &script, &[])?,
-            sink(alloc, &[])?,
-            sink(alloc, &[])?,
-        )?;
-        let expected = if is_kept { epochs::KEPT } else { epochs::LOST };
-        assert_eq!(&rt; ended.status, 0, "the status of a cut at {}", cut);
-        assert!(&rt;
-            ended.out.bytes() == expected.as_bytes(),
-            "the replies of a cut at {}",
-            cut
-        );
+        assert!(rt; is_left(alloc, cut, *is_kept)?, "a cut at {cut}");
     }
     Ok(())
 }

@@ -1,89 +1,76 @@
 //! Reads and writes that fail. Nothing is written where the first write fails.
-use crate::row::{Ended, run_of, sink, source};
-use std::alloc::Global;
+use crate::row::{Fails, NO_FAILS, REPLAY, Row, check_failing};
 use std::test::Fail;
 
-const SCRIPT: &str = r#"{"do":"open","tab":1,"url":"https://a.test/"}
+const READ: Row = Row {
+    name: "a read that fails",
+    words: REPLAY,
+    list: "",
+    script: r#"{"do":"open","tab":1,"url":"https://a.test/"}
 {"do":"get","tab":1,"key":"k"}
-"#;
+"#,
+    out: "",
+    err: "read fault\n",
+    status: 6,
+};
 
-// the numbers of the failing reads of the list, the failing reads of the script, the failing
-// writes of replies and the failing writes of the fault line; the status; what `err` took
-struct Case {
-    list: &'static [u64],
-    script: &'static [u64],
-    out: &'static [u64],
-    err: &'static [u64],
-    status: u8,
-    line: &'static str,
-}
+const WRITE: Row = Row {
+    name: "a write that fails",
+    err: "write fault\n",
+    status: 7,
+    ..READ
+};
 
-const CASES: &[Case] = &[
-    Case {
-        list: &[1],
-        script: &[],
-        out: &[],
-        err: &[],
-        status: 6,
-        line: "read fault\n",
-    },
-    Case {
-        list: &[],
-        script: &[1],
-        out: &[],
-        err: &[],
-        status: 6,
-        line: "read fault\n",
-    },
-    Case {
-        list: &[],
-        script: &[2],
-        out: &[],
-        err: &[],
-        status: 6,
-        line: "read fault\n",
-    },
-    Case {
-        list: &[],
-        script: &[],
-        out: &[1],
-        err: &[],
-        status: 7,
-        line: "write fault\n",
-    },
-    Case {
-        list: &[],
-        script: &[],
-        out: &[1],
-        err: &[1],
-        status: 7,
-        line: "",
-    },
+const WRITES: Row = Row {
+    name: "a write that fails, and that of the fault line",
+    err: "",
+    ..WRITE
+};
+
+const FAULTS: &[(Row, Fails)] = &[
+    (
+        READ,
+        Fails {
+            list: &[1],
+            ..NO_FAILS
+        },
+    ),
+    (
+        READ,
+        Fails {
+            script: &[1],
+            ..NO_FAILS
+        },
+    ),
+    (
+        READ,
+        Fails {
+            script: &[2],
+            ..NO_FAILS
+        },
+    ),
+    (
+        WRITE,
+        Fails {
+            out: &[1],
+            ..NO_FAILS
+        },
+    ),
+    (
+        WRITES,
+        Fails {
+            out: &[1],
+            err: &[1],
+            ..NO_FAILS
+        },
+    ),
 ];
-
-fn run_case(alloc: Global, case: &Case) -> Result<Ended, Fail> {
-    let list = source(alloc, "", case.list)?;
-    let script = source(alloc, SCRIPT, case.script)?;
-    let out = sink(alloc, case.out)?;
-    let err = sink(alloc, case.err)?;
-    run_of(alloc, list, script, out, err)
-}
-
-// Whether a case has its status and its fault line, and nothing is printed.
-fn is_named(alloc: Global, case: &Case) -> Result<bool, Fail> {
-    let ended = run_case(alloc, case)?;
-    Ok(
-        ended.status == case.status
-            && ended.out.bytes().is_empty()
-            && ended.err.bytes() == case.line.as_bytes(),
-    )
-}
 
 #[test]
 fn a_fault_is_named(rt: HostRuntime) -> Result<(), Fail> {
     let alloc = rt.alloc();
-    for (place, case) in CASES.iter().enumerate() {
-        assert!(rt; is_named(alloc, case)?, "case {place}");
+    for (row, fails) in FAULTS {
+        check_failing(&rt, alloc, row, fails)?;
     }
     Ok(())
 }

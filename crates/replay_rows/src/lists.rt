@@ -1,5 +1,5 @@
 //! Sites under suffix lists, and lists that are refused.
-use crate::row::{REPLAY, Row, run_of, sink, source};
+use crate::row::{NO_FAILS, REPLAY, ROOM, Row, run_texts};
 use std::alloc::Global;
 use std::test::Fail;
 
@@ -118,11 +118,7 @@ fn list_of(alloc: Global, lines: u32, last: &str) -> Result<String, Fail> {
 
 // Whether an empty script under a list ends with this fault line, and with its status.
 fn is_named(alloc: Global, list: &str, line: &str) -> Result<bool, Fail> {
-    let list = source(alloc, list, &[])?;
-    let script = source(alloc, "", &[])?;
-    let out = sink(alloc, &[])?;
-    let err = sink(alloc, &[])?;
-    let ended = run_of(alloc, list, script, out, err)?;
+    let ended = run_texts(alloc, REPLAY, (list, ""), ROOM, &NO_FAILS)?;
     let status = if line.is_empty() { 0 } else { 4 };
     Ok(ended.status == status && ended.err.bytes() == line.as_bytes())
 }

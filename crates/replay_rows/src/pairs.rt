@@ -1,5 +1,5 @@
 //! Two scripts in one input, and the line of whether they give a site the same local script.
-use crate::row::{Row, check, run_words, sink, source};
+use crate::row::{Fails, NO_FAILS, Row, check, check_failing};
 use std::test::Fail;
 
 const TWIN: &[&str] = &["twin", "https://a.test", "LIST"];
@@ -186,37 +186,47 @@ pub const ROWS: &[Row] = &[
     },
 ];
 
-#[test]
-fn an_answer_that_is_not_written(rt: HostRuntime) -> Result<(), Fail> {
-    let alloc = rt.alloc();
-    let ended = run_words(
-        alloc,
-        TWIN,
-        source(alloc, "", &[])?,
-        source(alloc, SAME, &[])?,
-        sink(alloc, &[2])?,
-        sink(alloc, &[])?,
-    )?;
-    assert_eq!(rt; ended.status, 7);
-    assert!(rt; ended.out.bytes() == b"{\"equal\":".as_slice());
-    assert!(rt; ended.err.bytes() == b"write fault\n".as_slice());
-    Ok(())
-}
+const ANSWER: Row = Row {
+    name: "an answer whose second write fails",
+    words: TWIN,
+    list: "",
+    script: SAME,
+    out: "{\"equal\":",
+    err: "write fault\n",
+    status: 7,
+};
+
+const UNREAD: Row = Row {
+    name: "scripts whose first read fails",
+    out: "",
+    err: "read fault\n",
+    status: 6,
+    ..ANSWER
+};
+
+const FAULTS: &[(Row, Fails)] = &[
+    (
+        ANSWER,
+        Fails {
+            out: &[2],
+            ..NO_FAILS
+        },
+    ),
+    (
+        UNREAD,
+        Fails {
+            script: &[1],
+            ..NO_FAILS
+        },
+    ),
+];
 
 #[test]
-fn scripts_that_are_not_read(rt: HostRuntime) -> Result<(), Fail> {
+fn faults_of_two_scripts(rt: HostRuntime) -> Result<(), Fail> {
     let alloc = rt.alloc();
-    let ended = run_words(
-        alloc,
-        TWIN,
-        source(alloc, "", &[])?,
-        source(alloc, SAME, &[1])?,
-        sink(alloc, &[])?,
-        sink(alloc, &[])?,
-    )?;
-    assert_eq!(rt; ended.status, 6);
-    assert!(rt; ended.out.bytes().is_empty());
-    assert!(rt; ended.err.bytes() == b"read fault\n".as_slice());
+    for (row, fails) in FAULTS {
+        check_failing(&rt, alloc, row, fails)?;
+    }
     Ok(())
 }
 

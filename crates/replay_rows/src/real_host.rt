@@ -1,8 +1,19 @@
 //! The host of the program, over a real file.
-use agent_base::{Fault, ReadAll, read_all};
+use agent_base::{Fault, read_all};
 use hosts::{Host, RealHost};
+use std::alloc::Global;
 use std::test::Fail;
 use std::{env, fs};
+
+// Whether the list of a path has these bytes.
+fn has_list<H: Host>(alloc: Global, host: &mut H, path: &str, want: &[u8]) -> bool {
+    let Ok(mut list) = host.open_list(path) else {
+        return false;
+    };
+    let read = read_all(alloc, &mut list, want.len());
+    host.close_list(list);
+    matches!(&read, Ok(bytes) if bytes.as_slice() == want)
+}
 
 #[test]
 fn a_real_list_is_read_and_an_absent_one_is_a_fault(rt: HostRuntime) -> Result<(), Fail> {
@@ -13,14 +24,9 @@ fn a_real_list_is_read_and_an_absent_one_is_a_fault(rt: HostRuntime) -> Result<(
     };
     fs::write(&rt, name, b"com\n")?;
     let mut host = RealHost::new(rt);
-    let Ok(mut list) = host.open_list(name) else {
-        assert!(rt; false, "the list is there");
-        return Ok(());
-    };
-    let read = read_all(alloc, &mut list, 4);
-    assert!(rt; matches!(&read, Ok(bytes) if bytes.as_slice() == b"com\n".as_slice()));
-    host.close_list(list);
+    let is_read = has_list(alloc, &mut host, name, b"com\n");
     fs::remove_file(&rt, name)?;
+    assert!(rt; is_read);
     assert!(rt; matches!(host.open_list(name), Err(Fault::Failed)));
     Ok(())
 }

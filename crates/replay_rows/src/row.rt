@@ -23,20 +23,12 @@ pub struct Row {
 /// The words that run a script under the list of the row.
 pub const REPLAY: &[&str] = &["replay", "LIST"];
 
-// Bytes of their own.
-fn bytes_of(alloc: Global, text: &str) -> Result<Vec<u8>, Fail> {
-    let mut bytes = Vec::new(alloc);
-    bytes.extend_from_slice(text.as_bytes())?;
-    Ok(bytes)
-}
-
-/// A source of a text whose calls of these numbers fail.
-pub fn source(alloc: Global, text: &str, fails: &[u64]) -> Result<MemSource, Fail>
+// A source of a text whose calls of these numbers fail.
+fn source(alloc: Global, text: &str, fails: &[u64]) -> Result<MemSource, Fail>
     ensures fresh { IfOk result (λ s. s.faults ≡ 0) }
 {
-    let mut numbers = Vec::new(alloc);
-    numbers.extend_from_slice(fails)?;
-    Ok(MemSource::new(bytes_of(alloc, text)?, numbers))
+    let bytes = Vec::from_slice(alloc, text.as_bytes())?;
+    Ok(MemSource::new(bytes, Vec::from_slice(alloc, fails)?))
 }
 
 // Texts of their own.
@@ -48,20 +40,32 @@ fn words(alloc: Global, words: &[&str]) -> Result<Vec<String>, Fail> {
     Ok(owned)
 }
 
-/// Room for what a row prints.
-pub fn sink(alloc: Global, fails: &[u64]) -> Result<MemSink, Fail> {
-    sink_of(alloc, 100_000, fails)
-}
-
-/// Room for so many bytes.
-pub fn sink_of(alloc: Global, room: usize, fails: &[u64]) -> Result<MemSink, Fail> {
-    let mut numbers = Vec::new(alloc);
-    numbers.extend_from_slice(fails)?;
-    match MemSink::new(alloc, room, numbers) {
+// Room for so many bytes, where calls of these numbers fail.
+fn sink(alloc: Global, room: usize, fails: &[u64]) -> Result<MemSink, Fail> {
+    match MemSink::new(alloc, room, Vec::from_slice(alloc, fails)?) {
         Ok(sink) => Ok(sink),
         Err(NoMemory) => Err(Fail::from(AllocError)),
     }
 }
+
+/// The numbers of the calls of each stream that fail.
+#[derive(Clone, Copy)]
+pub struct Fails {
+    pub list: &'static [u64],
+    pub script: &'static [u64],
+    pub out: &'static [u64],
+    pub err: &'static [u64],
+}
+
+pub const NO_FAILS: Fails = Fails {
+    list: &[],
+    script: &[],
+    out: &[],
+    err: &[],
+};
+
+/// Room for the replies of a row, and for a fault line.
+pub const ROOM: usize = 100_000;
 
 /// How a run ended, and what it wrote.
 #[derive(Drop)]
@@ -71,21 +75,8 @@ pub struct Ended {
     pub err: MemSink,
 }
 
-/// Runs a script under a list.
-pub fn run_of(
-    alloc: Global,
-    list: MemSource,
-    script: MemSource,
-    out: MemSink,
-    err: MemSink,
-) -> Result<Ended, Fail>
-    requires { list.faults ≡ 0 }
-{
-    run_words(alloc, REPLAY, list, script, out, err)
-}
-
-/// Runs the command of some words.
-pub fn run_words(
+// Runs the command of some words.
+fn run_words(
     alloc: Global,
     line: &[&str],
     list: MemSource,
@@ -111,6 +102,21 @@ pub fn run_words(
         out,
         err,
     })
+}
+
+/// Runs the command of some words over a list and a script, with room for so many bytes of replies.
+pub fn run_texts(
+    alloc: Global,
+    line: &[&str],
+    (list, script): (&str, &str),
+    room: usize,
+    fails: &Fails,
+) -> Result<Ended, Fail> {
+    let list = source(alloc, list, fails.list)?;
+    let script = source(alloc, script, fails.script)?;
+    let out = sink(alloc, room, fails.out)?;
+    let err = sink(alloc, ROOM, fails.err)?;
+    run_words(alloc, line, list, script, out, err)
 }
 
 /// A script, and the replies that it has to print.
@@ -151,33 +157,26 @@ fn wrong_part(ended: &Ended, row: &Row) -> &'static str {
     }
 }
 
-fn run_row(alloc: Global, row: &Row) -> Result<Ended, Fail> {
-    let list = source(alloc, row.list, &[])?;
-    let script = source(alloc, row.script, &[])?;
-    let out = sink(alloc, &[])?;
-    let err = sink(alloc, &[])?;
-    run_words(alloc, row.words, list, script, out, err)
-}
-
-// What is wrong in a run of a row.
-fn wrong_in(alloc: Global, row: &Row) -> Result<&'static str, Fail> {
-    let ended = run_row(alloc, row)?;
+// What is wrong in a run of a row some of whose calls fail.
+fn wrong_in(alloc: Global, row: &Row, fails: &Fails) -> Result<&'static str, Fail> {
+    let ended = run_texts(alloc, row.words, (row.list, row.script), ROOM, fails)?;
     Ok(wrong_part(&ended, row))
 }
 
 /// Runs a row, and names it where it fails.
 pub fn check(rt: &impl Abort, alloc: Global, row: &Row) -> Result<(), Fail> {
-    let wrong = wrong_in(alloc, row)?;
+    check_failing(rt, alloc, row, &NO_FAILS)
+}
+
+/// Runs a row some of whose calls fail.
+pub fn check_failing(rt: &impl Abort, alloc: Global, row: &Row, fails: &Fails) -> Result<(), Fail> {
+    let wrong = wrong_in(alloc, row, fails)?;
     assert!(rt; wrong.is_empty(), "{wrong} of: {}", row.name);
     Ok(())
 }
 
 /// Whether a script under the empty list ends well, and prints these replies in so much room.
 pub fn prints(alloc: Global, script: &str, room: usize, replies: &str) -> Result<bool, Fail> {
-    let list = source(alloc, "", &[])?;
-    let script = source(alloc, script, &[])?;
-    let out = sink_of(alloc, room, &[])?;
-    let err = sink(alloc, &[])?;
-    let ended = run_of(alloc, list, script, out, err)?;
+    let ended = run_texts(alloc, REPLAY, ("", script), room, &NO_FAILS)?;
     Ok(ended.status == 0 && ended.out.bytes() == replies.as_bytes())
 }

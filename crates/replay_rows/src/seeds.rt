@@ -1,5 +1,5 @@
 //! The self-test of a seed, for which neither list nor script is read.
-use crate::row::{Row, check, run_words, sink, source};
+use crate::row::{Fails, NO_FAILS, Row, check, check_failing};
 use std::test::Fail;
 
 const ROW: Row = Row {
@@ -17,19 +17,20 @@ fn selftest_of_a_seed(rt: HostRuntime) -> Result<(), Fail> {
     check(&rt, rt.alloc(), &ROW)
 }
 
+const UNWRITTEN: Row = Row {
+    name: "the line of the self-test, whose first write fails",
+    out: "",
+    err: "write fault\n",
+    status: 7,
+    ..ROW
+};
+
+const FIRST_WRITE: Fails = Fails {
+    out: &[1],
+    ..NO_FAILS
+};
+
 #[test]
 fn a_line_that_is_not_written(rt: HostRuntime) -> Result<(), Fail> {
-    let alloc = rt.alloc();
-    let ended = run_words(
-        alloc,
-        ROW.words,
-        source(alloc, ROW.list, &[])?,
-        source(alloc, ROW.script, &[])?,
-        sink(alloc, &[1])?,
-        sink(alloc, &[])?,
-    )?;
-    assert_eq!(rt; ended.status, 7);
-    assert!(rt; ended.out.bytes().is_empty());
-    assert!(rt; ended.err.bytes() == b"write fault\n".as_slice());
-    Ok(())
+    check_failing(&rt, rt.alloc(), &UNWRITTEN, &FIRST_WRITE)
 }

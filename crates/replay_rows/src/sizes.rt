@@ -1,5 +1,5 @@
 //! A run of many tabs, frames, storage keys and pairs, whose replies are written in several parts.
-use crate::row::{Ended, Lines, run_of, sink_of, source};
+use crate::row::{Fails, Lines, NO_FAILS, REPLAY, run_texts};
 use std::alloc::Global;
 use std::test::Fail;
 
@@ -64,17 +64,9 @@ fn many_lines(alloc: Global) -> Result<Lines, Fail> {
     Ok(lines)
 }
 
-fn run_lines(alloc: Global, lines: &Lines, fails: &[u64]) -> Result<Ended, Fail> {
-    let list = source(alloc, "", &[])?;
-    let script = source(alloc, &lines.script, &[])?;
-    let out = sink_of(alloc, 1_000_000, fails)?;
-    let err = sink_of(alloc, 100, &[])?;
-    run_of(alloc, list, script, out, err)
-}
-
 // Whether all replies are there, or a part of them where the second write fails.
-fn are_written(alloc: Global, lines: &Lines, fails: &[u64], status: u8) -> Result<bool, Fail> {
-    let ended = run_lines(alloc, lines, fails)?;
+fn are_written(alloc: Global, lines: &Lines, fails: &Fails, status: u8) -> Result<bool, Fail> {
+    let ended = run_texts(alloc, REPLAY, ("", &lines.script), 1_000_000, fails)?;
     let written = ended.out.bytes();
     let whole = written.len() == lines.replies.len();
     Ok(
@@ -85,11 +77,16 @@ fn are_written(alloc: Global, lines: &Lines, fails: &[u64], status: u8) -> Resul
     )
 }
 
+const SECOND_WRITE: Fails = Fails {
+    out: &[2],
+    ..NO_FAILS
+};
+
 #[test]
 fn a_run_of_many_lines_is_written_in_parts(rt: HostRuntime) -> Result<(), Fail> {
     let alloc = rt.alloc();
     let lines = many_lines(alloc)?;
-    assert!(rt; are_written(alloc, &lines, &[], 0)?);
-    assert!(rt; are_written(alloc, &lines, &[2], 7)?);
+    assert!(rt; are_written(alloc, &lines, &NO_FAILS, 0)?);
+    assert!(rt; are_written(alloc, &lines, &SECOND_WRITE, 7)?);
     Ok(())
 }

@@ -1,4 +1,5 @@
 //! Words that are a command, and words that are none.
+use Want::{Dump, Help, Replay, Selftest, Twin};
 use command_line::{Command, read_words};
 use std::alloc::Global;
 use std::test::Fail;
@@ -7,108 +8,108 @@ const USUAL: u64 = 1_767_225_600;
 
 const LAST: u64 = 253_402_300_799;
 
-fn run<'a>(list: &'a str, store: Option<&'a str>, batch: u16, start: u64) -> Command<'a> {
-    checkpointed(list, store, batch, 1_000, start)
+// What lines ask for, in short: the paths of list and store, how many lines are a batch, after how
+// many durable changes a checkpoint is made, and where the clock begins.
+#[derive(Clone, Copy)]
+enum Want {
+    Help,
+    Replay(&'static str, Option<&'static str>, u16, u32, u64),
+    /// Of the site of this text, under the list `l`.
+    Twin(&'static str, u16, u32, u64),
+    Dump(&'static str, &'static str),
+    Selftest(u32),
 }
 
-fn checkpointed<'a>(
-    list: &'a str,
-    store: Option<&'a str>,
-    batch: u16,
-    checkpoint: u32,
-    start: u64,
-) -> Command<'a> {
-    Command::Replay {
-        list,
-        store,
-        batch,
-        checkpoint,
-        start,
+fn command_of(want: Want) -> Command<'static> {
+    match want {
+        Help => Command::Help,
+        Replay(list, store, batch, checkpoint, start) => Command::Replay {
+            list,
+            store,
+            batch,
+            checkpoint,
+            start,
+        },
+        Twin(site, batch, checkpoint, start) => Command::Twin {
+            site,
+            list: "l",
+            batch,
+            checkpoint,
+            start,
+        },
+        Dump(list, store) => Command::Dump { list, store },
+        Selftest(seed) => Command::Selftest { seed },
     }
 }
 
-fn dump<'a>(list: &'a str, store: &'a str) -> Command<'a> {
-    Command::Dump { list, store }
-}
+const COMMANDS: &[(&str, Want)] = &[
+    ("--help", Help),
+    ("replay l", Replay("l", None, 1, 1_000, USUAL)),
+    ("replay help", Replay("help", None, 1, 1_000, USUAL)),
+    ("replay dump", Replay("dump", None, 1, 1_000, USUAL)),
+    ("replay help --start 5", Replay("help", None, 1, 1_000, 5)),
+    (
+        "replay l --start 000000000000",
+        Replay("l", None, 1, 1_000, 0),
+    ),
+    (
+        "replay l --start 253402300799",
+        Replay("l", None, 1, 1_000, LAST),
+    ),
+    (
+        "replay l --store s",
+        Replay("l", Some("s"), 1, 1_000, USUAL),
+    ),
+    (
+        "replay l --store help",
+        Replay("l", Some("help"), 1, 1_000, USUAL),
+    ),
+    (
+        "replay l --store a=b",
+        Replay("l", Some("a=b"), 1, 1_000, USUAL),
+    ),
+    ("replay l --batch 1", Replay("l", None, 1, 1_000, USUAL)),
+    (
+        "replay l --batch 000000000256",
+        Replay("l", None, 256, 1_000, USUAL),
+    ),
+    (
+        "replay l --store s --batch 3 --start 5",
+        Replay("l", Some("s"), 3, 1_000, 5),
+    ),
+    (
+        "replay l --batch 3 --start 5 --store s",
+        Replay("l", Some("s"), 3, 1_000, 5),
+    ),
+    ("replay l --checkpoint 0", Replay("l", None, 1, 0, USUAL)),
+    (
+        "replay l --checkpoint 000001000000",
+        Replay("l", None, 1, 1_000_000, USUAL),
+    ),
+    (
+        "replay l --batch 3 --checkpoint 7 --start 5 --store s",
+        Replay("l", Some("s"), 3, 7, 5),
+    ),
+    ("dump l s", Dump("l", "s")),
+    ("dump help dump", Dump("help", "dump")),
+    ("dump s l", Dump("s", "l")),
+    ("replay selftest", Replay("selftest", None, 1, 1_000, USUAL)),
+    (
+        "twin https://a.test l",
+        Twin("https://a.test", 1, 1_000, USUAL),
+    ),
+    ("twin dump l", Twin("dump", 1, 1_000, USUAL)),
+    (
+        "twin s l --start 5 --batch 256 --checkpoint 0",
+        Twin("s", 256, 0, 5),
+    ),
+    ("twin s l --checkpoint 7", Twin("s", 1, 7, USUAL)),
+    ("selftest 7", Selftest(7)),
+    ("selftest 0", Selftest(0)),
+    ("selftest 004294967295", Selftest(u32::MAX)),
+];
 
-fn commands() -> [(&'static str, Command<'static>); 21] {
-    [
-        ("--help", Command::Help),
-        ("replay l", run("l", None, 1, USUAL)),
-        ("replay help", run("help", None, 1, USUAL)),
-        ("replay dump", run("dump", None, 1, USUAL)),
-        ("replay help --start 5", run("help", None, 1, 5)),
-        ("replay l --start 000000000000", run("l", None, 1, 0)),
-        ("replay l --start 253402300799", run("l", None, 1, LAST)),
-        ("replay l --store s", run("l", Some("s"), 1, USUAL)),
-        ("replay l --store help", run("l", Some("help"), 1, USUAL)),
-        ("replay l --store a=b", run("l", Some("a=b"), 1, USUAL)),
-        ("replay l --batch 1", run("l", None, 1, USUAL)),
-        ("replay l --batch 000000000256", run("l", None, 256, USUAL)),
-        (
-            "replay l --store s --batch 3 --start 5",
-            run("l", Some("s"), 3, 5),
-        ),
-        (
-            "replay l --batch 3 --start 5 --store s",
-            run("l", Some("s"), 3, 5),
-        ),
-        (
-            "replay l --checkpoint 0",
-            checkpointed("l", None, 1, 0, USUAL),
-        ),
-        (
-            "replay l --checkpoint 000001000000",
-            checkpointed("l", None, 1, 1_000_000, USUAL),
-        ),
-        (
-            "replay l --batch 3 --checkpoint 7 --start 5 --store s",
-            checkpointed("l", Some("s"), 3, 7, 5),
-        ),
-        ("dump l s", dump("l", "s")),
-        ("dump help dump", dump("help", "dump")),
-        ("dump s l", dump("s", "l")),
-        ("replay selftest", run("selftest", None, 1, USUAL)),
-    ]
-}
-
-fn twin<'a>(site: &'a str, batch: u16, checkpoint: u32, start: u64) -> Command<'a> {
-    Command::Twin {
-        site,
-        list: "l",
-        batch,
-        checkpoint,
-        start,
-    }
-}
-
-fn twins() -> [(&'static str, Command<'static>); 4] {
-    [
-        (
-            "twin https://a.test l",
-            twin("https://a.test", 1, 1_000, USUAL),
-        ),
-        ("twin dump l", twin("dump", 1, 1_000, USUAL)),
-        (
-            "twin s l --start 5 --batch 256 --checkpoint 0",
-            twin("s", 256, 0, 5),
-        ),
-        ("twin s l --checkpoint 7", twin("s", 1, 7, USUAL)),
-    ]
-}
-
-fn selftests() -> [(&'static str, Command<'static>); 3] {
-    [
-        ("selftest 7", Command::Selftest { seed: 7 }),
-        ("selftest 0", Command::Selftest { seed: 0 }),
-        (
-            "selftest 004294967295",
-            Command::Selftest { seed: u32::MAX },
-        ),
-    ]
-}
-
-const NO_COMMANDS: [&str; 45] = [
+const NO_COMMANDS: &[&str] = &[
     "replay l --batch 0",
     "replay l --batch 257",
     "replay l --batch 65537",
@@ -164,24 +165,25 @@ fn words(alloc: Global, line: &str) -> Result<Vec<String>, Fail> {
     Ok(words)
 }
 
+// Whether a line is this command.
+fn is_command(alloc: Global, line: &str, want: Want) -> Result<bool, Fail> {
+    let words = words(alloc, line)?;
+    Ok(read_words(alloc, &words)? == Some(command_of(want)))
+}
+
+fn is_none(alloc: Global, line: &str) -> Result<bool, Fail> {
+    let words = words(alloc, line)?;
+    Ok(read_words(alloc, &words)?.is_none())
+}
+
 #[test]
 fn words_of_the_command_line(rt: HostRuntime) -> Result<(), Fail> {
     let alloc = rt.alloc();
-    for (line, want) in commands() {
-        let words = words(alloc, line)?;
-        assert!(rt; read_words(alloc, &words)? == Some(want), "{line}");
-    }
-    for (line, want) in twins() {
-        let words = words(alloc, line)?;
-        assert!(rt; read_words(alloc, &words)? == Some(want), "{line}");
-    }
-    for (line, want) in selftests() {
-        let words = words(alloc, line)?;
-        assert!(rt; read_words(alloc, &words)? == Some(want), "{line}");
+    for (line, want) in COMMANDS {
+        assert!(rt; is_command(alloc, line, *want)?, "{line}");
     }
     for line in NO_COMMANDS {
-        let words = words(alloc, line)?;
-        assert!(rt; read_words(alloc, &words)?.is_none(), "{line}");
+        assert!(rt; is_none(alloc, line)?, "{line}");
     }
     assert!(rt; read_words(alloc, &[])?.is_none());
     Ok(())

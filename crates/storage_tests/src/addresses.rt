@@ -41,32 +41,17 @@ fn site_at(alloc: Global, rules: &str, text: &str) -> Result<Site, Fail> {
     Ok(site_of(alloc, &origin, &list)?.copy(alloc)?)
 }
 
-// The text of that site.
-fn site_text_at(alloc: Global, rules: &str, text: &str) -> Result<String, Fail> {
-    let site = site_at(alloc, rules, text)?;
-    Ok(site.text(alloc)?)
+// Whether a site has this text, and is what that reads as.
+fn is_named(alloc: Global, site: &Site, text: &str) -> Result<bool, Fail> {
+    let read = Site::read(alloc, text)?;
+    Ok(same_site(site, &read) && site.text(alloc)?.as_str() == text)
 }
 
-// Whether two addresses are at one site under a list.
-fn at_one_site(alloc: Global, rules: &str, text: &str, other: &str) -> Result<bool, Fail> {
+// Whether an address is at this site, whose text is an address at it.
+fn is_site(alloc: Global, rules: &str, text: &str, named: &str) -> Result<bool, Fail> {
     let site = site_at(alloc, rules, text)?;
-    let again = site_at(alloc, rules, other)?;
-    Ok(same_site(&site, &again))
-}
-
-// Whether an address is at the site that a text names.
-fn is_at(alloc: Global, rules: &str, text: &str, named: &str) -> Result<bool, Fail> {
-    let site = site_at(alloc, rules, text)?;
-    let read = Site::read(alloc, named)?;
-    Ok(same_site(&site, &read))
-}
-
-// Whether an address is at this site, which has this text.
-fn is_site(alloc: Global, rules: &str, text: &str, site: &str) -> Result<bool, Fail> {
-    let shown = site_text_at(alloc, rules, text)?;
-    let again = at_one_site(alloc, rules, text, shown.as_str())?;
-    let named = is_at(alloc, rules, text, site)?;
-    Ok(shown.as_str() == site && again && named)
+    let again = site_at(alloc, rules, named)?;
+    Ok(same_site(&site, &again) && is_named(alloc, &site, named)?)
 }
 
 #[test]

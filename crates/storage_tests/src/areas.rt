@@ -70,10 +70,12 @@ fn quota_counts_to_its_last_byte(rt: HostRuntime) -> Result<(), Fail> {
     Ok(())
 }
 
-// An area of two names, the first of which has a second value.
+// Two names with their values, and a second value of the first.
+const CHANGES: &[(&str, &str)] = &[("a", "1"), ("b", "2"), ("a", "3")];
+
 fn changed(alloc: Global) -> Result<Area, AllocError> {
     let mut area = Area::new(alloc);
-    for (name, value) in [("a", "1"), ("b", "2"), ("a", "3")] {
+    for (name, value) in CHANGES {
         let name = String::from_str(alloc, name)?;
         if area.put(name, String::from_str(alloc, value)?).is_err() {
             return Err(AllocError);

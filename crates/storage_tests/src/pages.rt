@@ -99,12 +99,19 @@ const VALUES: &[Value] = &[
 
 const EMPTIED: &[Value] = &[(AreaKind::Local, 1, A, ""), (AreaKind::Session, 1, A, "")];
 
+// Whether each of both areas there gets its value.
+fn are_both_put(alloc: Global, storage: &mut Storage, at: Place) -> Result<bool, Fail> {
+    Ok(
+        put(alloc, storage, AreaKind::Local, 1, at, "1")?
+            && put(alloc, storage, AreaKind::Session, 1, at, "2")?,
+    )
+}
+
 #[test]
 fn areas_of_keys_stand_apart(rt: HostRuntime) -> Result<(), Fail> {
     let alloc = rt.alloc();
     let mut storage = Storage::new(alloc);
-    assert!(rt; put(alloc, &mut storage, AreaKind::Local, 1, A, "1")?);
-    assert!(rt; put(alloc, &mut storage, AreaKind::Session, 1, A, "2")?);
+    assert!(rt; are_both_put(alloc, &mut storage, A)?);
     check_values(&rt, alloc, &storage, VALUES)?;
     assert!(rt; is_emptied(alloc, &mut storage, A)?);
     check_values(&rt, alloc, &storage, EMPTIED)
@@ -249,14 +256,21 @@ fn length(storage: &Storage, kind: AreaKind, tab: u16, key: &StorageKey) -> usiz
     }
 }
 
+// Whether the areas of tab 1 and of thousands of tabs are filled.
+fn are_filled(alloc: Global, storage: &mut Storage, key: &StorageKey) -> Result<bool, Fail> {
+    Ok(
+        fill(alloc, storage, AreaKind::Local, key)?
+            && fill(alloc, storage, AreaKind::Session, key)?
+            && fill_tabs(alloc, storage, key)?,
+    )
+}
+
 #[test]
 fn thousands_are_kept_in_each_kind_of_area(rt: HostRuntime) -> Result<(), Fail> {
     let alloc = rt.alloc();
     let mut storage = Storage::new(alloc);
     let key = key_of(alloc, A)?;
-    assert!(rt; fill(alloc, &mut storage, AreaKind::Local, &key)?);
-    assert!(rt; fill(alloc, &mut storage, AreaKind::Session, &key)?);
-    assert!(rt; fill_tabs(alloc, &mut storage, &key)?);
+    assert!(rt; are_filled(alloc, &mut storage, &key)?);
     for (kind, tab, want) in LENGTHS {
         let found = length(&storage, *kind, *tab, &key);
         assert!(rt; found == *want, "in tab {tab}");

@@ -24,16 +24,18 @@ fn put<K: Ord + Drop>(
     }
 }
 
-// Areas of tab 1, each of one pair.
+// Areas of tab 1, each of one pair: their keys and its value.
+const AREAS: &[(u32, &str)] = &[(7, "v"), (3, "w"), (5, "x")];
+
 fn three_areas(alloc: Global) -> Result<Sessions<u32>, AllocError> {
     let mut sessions = Sessions::new(alloc);
-    for (key, value) in [(7, "v"), (3, "w"), (5, "x")] {
+    for (key, value) in AREAS {
         let name = String::from_str(alloc, "k")?;
         let value = String::from_str(alloc, value)?;
-        if sessions.reserve(1, key).is_err() {
+        if sessions.reserve(1, *key).is_err() {
             return Err(AllocError);
         }
-        let _ = put(&mut sessions, 1, &key, name, value);
+        let _ = put(&mut sessions, 1, key, name, value);
     }
     Ok(sessions)
 }

@@ -90,13 +90,20 @@ fn is_next(shed: &Shed<u32>, after: &Option<u32>, want: &Option<u32>) -> bool {
     shed.buckets().next_key(after.as_ref()) == want.as_ref()
 }
 
+// Whether a key has an area with its pair.
+fn has_pair(shed: &Shed<u32>, key: u32) -> bool {
+    match shed.area(&key) {
+        Some(area) => area.get("k") == Some("v"),
+        None => false,
+    }
+}
+
 #[test]
 fn keys_come_in_order(rt: HostRuntime) -> Result<(), Fail> {
     let shed = shed_of(rt.alloc(), &[7, 3, 5])?;
     for (place, (after, want)) in KEYS.iter().enumerate() {
         assert!(rt; is_next(&shed, after, want), "key {place}");
     }
-    assert!(rt; shed.area(&4).is_none());
-    assert!(rt; matches!(shed.area(&3), Some(area) if area.get("k") == Some("v")));
+    assert!(rt; shed.area(&4).is_none() && has_pair(&shed, 3));
     Ok(())
 }

@@ -146,15 +146,27 @@ fn check_hearers(rt: &impl Abort, live: &Live) {
     }
 }
 
+// Whether each of these tabs is put, with these frames.
+fn are_put(
+    alloc: Global,
+    live: &mut Live,
+    list: &SuffixList,
+    tabs: &[u16],
+    frames: &[u8],
+) -> Result<bool, Fail> {
+    let mut done = true;
+    for tab in tabs {
+        done = done && put(alloc, live, list, *tab, frames, None)?;
+    }
+    Ok(done)
+}
+
 #[test]
 fn tabs_by_number(rt: HostRuntime) -> Result<(), Fail> {
     let alloc = rt.alloc();
     let list = list_of(alloc, "test")?;
     let mut live = Live::new(alloc);
-    for tab in &[700, 2, 65535, 0] {
-        let is_put = put(alloc, &mut live, &list, *tab, &[9, 250, 3], None)?;
-        assert!(rt; is_put, "at {tab}");
-    }
+    assert!(rt; are_put(alloc, &mut live, &list, &[700, 2, 65535, 0], &[9, 250, 3])?);
     check_next(&rt, &live);
     live.drop_tab(700);
     live.drop_tab(1);
@@ -214,8 +226,7 @@ fn queues_of_documents(rt: HostRuntime) -> Result<(), Fail> {
     let alloc = rt.alloc();
     let list = list_of(alloc, "test")?;
     let mut live = Live::new(alloc);
-    assert!(rt; put(alloc, &mut live, &list, 1, &[5, 6], None)?);
-    assert!(rt; put(alloc, &mut live, &list, 2, &[5, 6], None)?);
+    assert!(rt; are_put(alloc, &mut live, &list, &[1, 2], &[5, 6])?);
     check_told(&rt, alloc, &mut live)?;
     assert!(rt; are_lost(alloc, &mut live, &list)?);
     assert!(rt; are_taken(&mut live));

@@ -107,11 +107,16 @@ fn is_without_five(tab: &Tab) -> bool {
         && tab.last_frame() == 9
 }
 
+// A copy of a tab with those frames.
+fn worked_tab(alloc: Global) -> Result<Tab, Fail> {
+    let list = list_of(alloc, "test")?;
+    Ok(tab_with(alloc, &list, FRAMES)?.copy()?)
+}
+
 #[test]
 fn chains_of_worked_trees(rt: HostRuntime) -> Result<(), Fail> {
     let alloc = rt.alloc();
-    let list = list_of(alloc, "test")?;
-    let tab = tab_with(alloc, &list, FRAMES)?.copy()?;
+    let tab = worked_tab(alloc)?;
     for row in CHAINS {
         assert!(rt; has_chain(alloc, &tab, *row)?, "at {}", row.0);
     }
@@ -139,6 +144,14 @@ fn is_refused(
     Ok(tab.add(parent, frame, address, Sandbox::read(None), true, list) == Err(why))
 }
 
+// Whether no frame is added at the place of another, and none below a frame that is not there.
+fn are_refused(alloc: Global, tab: &mut Tab, list: &SuffixList) -> Result<bool, Fail> {
+    Ok(
+        is_refused(alloc, tab, list, (0, 4), TreeFault::FrameExists)?
+            && is_refused(alloc, tab, list, (7, 4), TreeFault::NoFrame)?,
+    )
+}
+
 // Which frames are active once frame 1 is activated.
 const ACTIVE: &[(u8, bool)] = &[(0, true), (1, true), (2, true), (3, false), (4, false)];
 
@@ -152,10 +165,9 @@ fn check_activation(rt: &impl Abort, tab: &mut Tab) {
     assert!(rt; !tab.is_active(1, 100));
 }
 
-// Navigates frame 1 to another path.
-fn navigate(alloc: Global, tab: &mut Tab, list: &SuffixList) -> Result<(), Fail> {
-    let address = Address::read(alloc, "https://b.test/next")?;
-    Ok(tab.navigate(1, address, true, list)?)
+// Whether a frame that is there takes the flag, and no other.
+fn is_flagged(tab: &mut Tab) -> bool {
+    tab.set_flag(1) == Ok(()) && tab.set_flag(8) == Err(NoFrame)
 }
 
 // Whether frame 1 is as its navigation leaves it, and the frames below it are gone.
@@ -171,6 +183,13 @@ fn is_navigated(tab: &Tab) -> bool {
         && tab.document(3).is_none()
 }
 
+// Navigates frame 1 to another path, and tells whether it is as that leaves it.
+fn navigates(alloc: Global, tab: &mut Tab, list: &SuffixList) -> Result<bool, Fail> {
+    let address = Address::read(alloc, "https://b.test/next")?;
+    tab.navigate(1, address, true, list)?;
+    Ok(is_navigated(tab))
+}
+
 fn is_removed_once(tab: &mut Tab) -> bool {
     let removed = tab.remove(4) == Ok(()) && tab.remove(4) == Err(NoFrame);
     removed && tab.document(0).is_some() && tab.document(1).is_some()
@@ -181,13 +200,10 @@ fn changes_of_a_tree(rt: HostRuntime) -> Result<(), Fail> {
     let alloc = rt.alloc();
     let list = list_of(alloc, "test")?;
     let mut tab = tab_with(alloc, &list, ROW)?;
-    assert!(rt; is_refused(alloc, &mut tab, &list, (0, 4), TreeFault::FrameExists)?);
-    assert!(rt; is_refused(alloc, &mut tab, &list, (7, 4), TreeFault::NoFrame)?);
+    assert!(rt; are_refused(alloc, &mut tab, &list)?);
     check_activation(&rt, &mut tab);
-    assert!(rt; tab.set_flag(1) == Ok(()));
-    assert!(rt; tab.set_flag(8) == Err(NoFrame));
-    navigate(alloc, &mut tab, &list)?;
-    assert!(rt; is_navigated(&tab));
+    assert!(rt; is_flagged(&mut tab));
+    assert!(rt; navigates(alloc, &mut tab, &list)?);
     assert!(rt; is_removed_once(&mut tab));
     Ok(())
 }

@@ -1,6 +1,6 @@
 //! Cookies of texts, stored in a jar or dropped, and sent.
 use agent_base::MemSource;
-use cookie_jar::{Access, CookieDrop, Jar, JarStep, Stored, StoredKind, header};
+use cookie_jar::{Access, CookieDrop, Jar, JarStep, Plan, Stored, StoredKind, header};
 use partition_limits::CellKind;
 use setcookie_parse::{Parsed, parse};
 use std::alloc::Global;
@@ -29,65 +29,29 @@ fn access_of<'a>(host: &'a str, path: &'a str) -> Access<'a> {
     }
 }
 
-// Why the cookie of a text is dropped by an empty jar, if it is.
-fn drop_of(alloc: Global, list: &SuffixList, host: &str, text: &str) -> Option<CookieDrop> {
-    let Parsed::Kept(cookie) = parse(text, 1) else {
-        return None;
-    };
-    let jar = Jar::new(alloc, CellKind::Own);
-    jar.plan(alloc, &cookie, &access_of(host, "/"), list, 1)
-        .err()
-}
-
-// A host, the text of a cookie, and why an empty jar drops it, if it does.
-const DOMAINS: &[(&str, &str, Option<CookieDrop>)] = &[
-    (
-        "google.co.uk",
-        "a=1; domain=.co.uk",
-        Some(CookieDrop::PublicSuffix),
-    ),
-    ("a.b.c.d.com", "b=2; domain=.b.c.d.com", None),
-    (
-        "foo.com.com",
-        "a=1; domain=.foo.com.com.com",
-        Some(CookieDrop::DomainMismatch),
-    ),
-    ("www.google.com", "a=1; domain=www.google.com", None),
-    ("co.uk", "a=1", None),
-    (
-        "www.host.test",
-        "a=1; secure",
-        Some(CookieDrop::NotSecureUrl),
-    ),
-];
-
-#[test]
-fn domains_of_outside_cases(rt: HostRuntime) -> Result<(), Fail> {
-    let alloc = rt.alloc();
-    let list = list_of(alloc)?;
-    for (host, text, want) in DOMAINS {
-        assert!(rt; drop_of(alloc, &list, host, text) == *want, "{host}");
-    }
-    Ok(())
-}
-
-// Whether the cookie of a text is planned for an empty jar as its only one, with this path.
+// Whether the cookie of a text is planned for an empty jar as its only one, with this path, or why
+// it is dropped.
 fn is_planned(
     alloc: Global,
     list: &SuffixList,
     jar: &Jar,
-    text: &str,
-    path: &str,
+    (host, text, want): (&str, &str, Result<&str, CookieDrop>),
 ) -> Result<bool, Fail> {
     let Parsed::Kept(cookie) = parse(text, 1) else {
         return Ok(false);
     };
-    let plan = jar.plan(alloc, &cookie, &access_of("www.host.test", "/"), list, 1)?;
     Ok(
-        plan.kind() == StoredKind::Added
-            && plan.steps() == [JarStep::Insert { place: 0, rank: 0 }].as_slice()
-            && plan.fresh().texts.path.as_str() == path,
+        match jar.plan(alloc, &cookie, &access_of(host, "/"), list, 1) {
+            Ok(plan) => is_only_one(&plan) && want == Ok(plan.fresh().texts.path.as_str()),
+            Err(why) => want == Err(why),
+        },
     )
+}
+
+// Whether a cookie is added to an empty jar.
+fn is_only_one(plan: &Plan) -> bool {
+    plan.kind() == StoredKind::Added
+        && plan.steps() == [JarStep::Insert { place: 0, rank: 0 }].as_slice()
 }
 
 // Whether a copy of a jar has nothing to send.
@@ -99,12 +63,38 @@ fn copy_is_silent(alloc: Global, jar: &Jar) -> Result<bool, Fail> {
     )
 }
 
+// A host, the text of a cookie, and the path that it has in an empty jar, or why that drops it.
+const PLANS: &[(&str, &str, Result<&str, CookieDrop>)] = &[
+    (
+        "google.co.uk",
+        "a=1; domain=.co.uk",
+        Err(CookieDrop::PublicSuffix),
+    ),
+    ("a.b.c.d.com", "b=2; domain=.b.c.d.com", Ok("/")),
+    (
+        "foo.com.com",
+        "a=1; domain=.foo.com.com.com",
+        Err(CookieDrop::DomainMismatch),
+    ),
+    ("www.google.com", "a=1; domain=www.google.com", Ok("/")),
+    ("co.uk", "a=1", Ok("/")),
+    (
+        "www.host.test",
+        "a=1; secure",
+        Err(CookieDrop::NotSecureUrl),
+    ),
+    ("www.host.test", "A=a; path=/foo/bar", Ok("/foo/bar")),
+];
+
 #[test]
-fn a_new_cookie_is_planned_last(rt: HostRuntime) -> Result<(), Fail> {
+fn plans_of_outside_cases(rt: HostRuntime) -> Result<(), Fail> {
     let alloc = rt.alloc();
     let list = list_of(alloc)?;
     let jar = Jar::new(alloc, CellKind::Own);
-    assert!(rt; is_planned(alloc, &list, &jar, "A=a; path=/foo/bar", "/foo/bar")?);
+    for case in PLANS {
+        let planned = is_planned(alloc, &list, &jar, *case)?;
+        assert!(rt; planned, "{} from {}", case.1, case.0);
+    }
     assert!(rt; copy_is_silent(alloc, &jar)?);
     Ok(())
 }

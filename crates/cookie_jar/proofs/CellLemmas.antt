@@ -71,7 +71,7 @@ bytes_same : (xs ys : List ℕ) → bytes_eq xs ys ≡ true → xs ≡ ys
 bytes_same xs ys h = (bytes_eq-Decides xs ys).0 h
 
 -- same cookies are alike to every cookie
-same_parts : (a b : PlainCookie) → same a b ≡ true → (a.name ≡ b.name) × (a.domain ≡ b.domain) × (a.host_only ≡ b.host_only) × (a.path ≡ b.path)
+pub same_parts : (a b : PlainCookie) → same a b ≡ true → (a.name ≡ b.name) × (a.domain ≡ b.domain) × (a.host_only ≡ b.host_only) × (a.path ≡ b.path)
 same_parts a b h =
     let one = and_parts _ _ h in
     let two = and_parts _ _ one.1 in

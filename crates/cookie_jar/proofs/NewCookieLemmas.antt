@@ -1,6 +1,7 @@
 -- The cookie that a new one replaces, from what stands at its place.
-use Rattle.std.proofs.Common.{◌≡◌, ℤ, ℕ, not, List, refl, ap, ◌∙◌, sym}
-use Rattle.std.specs.Prelude.{Option, Some, None, option_map, slice_get, is_some, unwrap_or}
+use Rattle.std.proofs.Common.{◌≡◌, ℤ, ℕ, Bool, true, false, cond, not, List, [], ◌∷◌, refl, ap, ◌∙◌, sym, subst}
+use Rattle.std.specs.Prelude.{Option, Some, None, IfSome, IsTrue, option_map, slice_get, is_some, unwrap_or}
+use Rattle.std.specs.List.{find}
 use Rattle.std.proofs.lemmas.List.Folds.{find_at}
 use Rattle.std.proofs.lemmas.Map.Entries.{option_filter}
 use Rattle.partition_limits.specs.declared.tally.CellKind.{CellKind}
@@ -16,6 +17,19 @@ pub replaced_at : (now : ℤ) (new : PlainCookie) (cs : List PlainCookie) (place
     → option_map (λ c. c.creation) (option_filter (λ c. not (is_expired now c)) (slice_get cs place)) ≡ option_map (λ c. c.creation) (replaced now new cs)
 replaced_at now new cs place here =
     ap (λ o. option_map (λ c. c.creation) (option_filter (λ c. not (is_expired now c)) o)) (ap (slice_get cs) here ∙ sym (find_at (λ c. same new c) cs))
+
+found_is_same : (new : PlainCookie) (cs : List PlainCookie) → IfSome (find (λ c. same new c) cs) (λ c. IsTrue (same new c))
+found_is_same new [] = tt
+found_is_same new (c ∷ cs) = at (same new c) refl (found_is_same new cs)
+  where
+    at : (b : Bool) → same new c ≡ b → IfSome (find (λ c. same new c) cs) (λ c. IsTrue (same new c)) → IfSome (cond b (Some c) (find (λ c. same new c) cs)) (λ c. IsTrue (same new c))
+    at true is later = is
+    at false is later = later
+
+-- what stands at the place of a new cookie is the same one
+pub same_at_place : (new : PlainCookie) (cs : List PlainCookie) (place : ℕ) → place ≡ place_of new cs → IfSome (slice_get cs place) (λ c. IsTrue (same new c))
+same_at_place new cs place here =
+    subst (λ o. IfSome o (λ c. IsTrue (same new c))) (find_at (λ c. same new c) cs ∙ ap (slice_get cs) (sym here)) (found_is_same new cs)
 
 pub some_map : (o : Option PlainCookie) → is_some (option_map (λ c. c.creation) o) ≡ is_some o
 some_map None = refl

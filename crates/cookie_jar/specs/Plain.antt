@@ -10,10 +10,10 @@ use Rattle.cookie_jar.specs.Access.{PlainAccess}
 abbrev pub plain_cookie : Cookie → PlainCookie
 plain_cookie c =
     record {
-      name = string_bytes (rc_value c.texts).name;
-      value = string_bytes (rc_value c.texts).value;
-      domain = string_bytes (rc_value c.texts).domain;
-      path = string_bytes (rc_value c.texts).path;
+      name = string_bytes (rc_value c.identity).name;
+      value = string_bytes (rc_value c.value);
+      domain = string_bytes (rc_value c.identity).domain;
+      path = string_bytes (rc_value c.identity).path;
       host_only = c.host_only;
       secure = c.secure;
       http_only = c.http_only;

@@ -1,5 +1,7 @@
 //! Cookies, with texts of their own and borrowed ones.
-ghost use Rattle.std.specs.Prelude.{◌≡◌, ◌≤◌, IfOk, bytes_eq, map, option_map, slice_get};
+ghost use Rattle.std.specs.Prelude.{◌≡◌, ◌≤◌, IfOk, IfSome, IsTrue, bytes_eq, map, option_map};
+ghost use Rattle.std.specs.Prelude.{slice_get, string_bytes};
+ghost use Rattle.std.specs.Rc.{rc_value};
 ghost use Rattle.cookie_jar.specs.Cookie as spec;
 ghost use Rattle.cookie_jar.specs.Borrowed.{plain_borrowed};
 ghost use Rattle.cookie_jar.specs.Lifetime as spec_of;
@@ -13,10 +15,12 @@ use std::rc::Rc;
 
 /// A cookie that is kept. Times are seconds from 1970 on.
 ///
-/// A copy shares the texts, so that they stand in memory once.
+/// A copy shares the texts, so that they stand in memory once, and a cookie that is put in the
+/// place of the same one shares all of them but the value.
 #[derive(Debug, Drop)]
 pub struct Cookie {
-    pub texts: Rc<SharedTexts>,
+    pub identity: Rc<CookieIdentity>,
+    pub value: Rc<String>,
     /// Whether the cookie goes to its domain alone, and not to hosts below it.
     pub host_only: bool,
     pub secure: bool,
@@ -29,11 +33,10 @@ pub struct Cookie {
     pub last: i64,
 }
 
-/// The texts of a cookie, which its copies share.
+/// The texts that tell a cookie from others, beside `host_only`.
 #[derive(Debug, Drop)]
-pub struct SharedTexts {
+pub struct CookieIdentity {
     pub name: String,
-    pub value: String,
     pub domain: String,
     pub path: String,
 }
@@ -55,12 +58,13 @@ pub struct BorrowedCookie<'a> {
 }
 
 impl Cookie {
-    /// The same cookie. It shares the texts, and is refused only where their count is full.
+    /// The same cookie. It shares the texts, and is refused only where a count of them is full.
     pub fn copy(&self) -> Result<Cookie, NoMemory>
         ensures same { IfOk result (λ c. plain_cookie c ≡ plain_cookie self.now) }
     {
         Ok(Cookie {
-            texts: self.texts.clone()?,
+            identity: self.identity.clone()?,
+            value: self.value.clone()?,
             host_only: self.host_only,
             secure: self.secure,
             http_only: self.http_only,
@@ -75,10 +79,10 @@ impl Cookie {
         ensures { plain_borrowed result ≡ plain_cookie self.now }
     {
         BorrowedCookie {
-            name: self.texts.name.as_str(),
-            value: self.texts.value.as_str(),
-            domain: self.texts.domain.as_str(),
-            path: self.texts.path.as_str(),
+            name: self.identity.name.as_str(),
+            value: self.value.as_str(),
+            domain: self.identity.domain.as_str(),
+            path: self.identity.path.as_str(),
             host_only: self.host_only,
             secure: self.secure,
             http_only: self.http_only,
@@ -91,20 +95,16 @@ impl Cookie {
 }
 
 impl BorrowedCookie<'_> {
-    pub(crate) fn to_cookie(&self, alloc: Global) -> Result<Cookie, NoMemory>
+    /// The cookie with a value of its own. It shares the other texts with the same cookie, if there
+    /// is one.
+    pub(crate) fn to_cookie(&self, alloc: Global, same: Option<&Cookie>) -> Result<Cookie, NoMemory>
+        requires same { IfSome (option_map (λ c. plain_cookie c.now) same)
+            (λ c. IsTrue (spec.same (plain_borrowed self.now) c)) }
         ensures { IfOk result (λ c. plain_cookie c ≡ plain_borrowed self.now) }
     {
-        let texts = SharedTexts {
-            name: String::from_str(alloc, self.name)?,
-            value: String::from_str(alloc, self.value)?,
-            domain: String::from_str(alloc, self.domain)?,
-            path: String::from_str(alloc, self.path)?,
-        };
-        let Ok(texts) = Rc::new(alloc, texts) else {
-            return Err(NoMemory);
-        };
         Ok(Cookie {
-            texts,
+            identity: self.identity(alloc, same)?,
+            value: shared(alloc, String::from_str(alloc, self.value)?)?,
             host_only: self.host_only,
             secure: self.secure,
             http_only: self.http_only,
@@ -114,15 +114,53 @@ impl BorrowedCookie<'_> {
             last: self.last,
         })
     }
+
+    // The identity of the same cookie, if there is one, and else a new one.
+    fn identity(&self, alloc: Global, same: Option<&Cookie>) -> Result<Rc<CookieIdentity>, NoMemory>
+        requires same { IfSome (option_map (λ c. plain_cookie c.now) same)
+            (λ c. IsTrue (spec.same (plain_borrowed self.now) c)) }
+        ensures name { IfOk result (λ i. string_bytes (rc_value i).name ≡ self.now.name.now) }
+        ensures domain { IfOk result
+            (λ i. string_bytes (rc_value i).domain ≡ self.now.domain.now) }
+        ensures path { IfOk result (λ i. string_bytes (rc_value i).path ≡ self.now.path.now) }
+    {
+        match same {
+            Some(cookie) => Ok(cookie.identity.clone()?),
+            None => self.new_identity(alloc),
+        }
+    }
+
+    fn new_identity(&self, alloc: Global) -> Result<Rc<CookieIdentity>, NoMemory>
+        ensures name { IfOk result (λ i. string_bytes (rc_value i).name ≡ self.now.name.now) }
+        ensures domain { IfOk result
+            (λ i. string_bytes (rc_value i).domain ≡ self.now.domain.now) }
+        ensures path { IfOk result (λ i. string_bytes (rc_value i).path ≡ self.now.path.now) }
+    {
+        let identity = CookieIdentity {
+            name: String::from_str(alloc, self.name)?,
+            domain: String::from_str(alloc, self.domain)?,
+            path: String::from_str(alloc, self.path)?,
+        };
+        shared(alloc, identity)
+    }
+}
+
+fn shared<T: Drop>(alloc: Global, value: T) -> Result<Rc<T>, NoMemory>
+    ensures { IfOk result (λ rc. rc_value rc ≡ value) }
+{
+    match Rc::new(alloc, value) {
+        Ok(rc) => Ok(rc),
+        Err(_) => Err(NoMemory),
+    }
 }
 
 pub fn is_same(new: &BorrowedCookie<'_>, cookie: &Cookie) -> bool
     ensures { result ≡ spec.same (plain_borrowed new.now) (plain_cookie cookie.now) }
 {
-    is_equal(new.name, cookie.texts.name.as_str())
-        && is_equal(new.domain, cookie.texts.domain.as_str())
+    is_equal(new.name, cookie.identity.name.as_str())
+        && is_equal(new.domain, cookie.identity.domain.as_str())
         && new.host_only == cookie.host_only
-        && is_equal(new.path, cookie.texts.path.as_str())
+        && is_equal(new.path, cookie.identity.path.as_str())
 }
 
 /// Whether two texts are equal. Names and domains are mostly short, and short texts are compared

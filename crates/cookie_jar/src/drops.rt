@@ -172,10 +172,10 @@ fn is_overlaid(access: &Access<'_>, new: &BorrowedCookie<'_>, cookie: &Cookie) -
         (plain_cookie cookie.now) }
 {
     cookie.secure
-        && cookie.texts.name.as_str() == new.name
-        && (domain_matches(access.ip, cookie.texts.domain.as_str(), new.domain)
-            || domain_matches(access.ip, new.domain, cookie.texts.domain.as_str()))
-        && path_matches(new.path, cookie.texts.path.as_str())
+        && cookie.identity.name.as_str() == new.name
+        && (domain_matches(access.ip, cookie.identity.domain.as_str(), new.domain)
+            || domain_matches(access.ip, new.domain, cookie.identity.domain.as_str()))
+        && path_matches(new.path, cookie.identity.path.as_str())
 }
 
 fn is_none(same_site: SameSite) -> bool

@@ -21,7 +21,7 @@ mod store;
 
 pub use access::{Access, Destination};
 pub use cause::CookieDrop;
-pub use cookie::{Cookie, SharedTexts};
+pub use cookie::{Cookie, CookieIdentity};
 pub use header_text::header;
 pub use jar::Jar;
 pub use key::{CellKey, destination};

@@ -16,7 +16,7 @@ ghost use Rattle.cookie_jar.specs.Sending.{marked};
 
 use crate::access::Access;
 use crate::cause::CookieDrop;
-use crate::cookie::{BorrowedCookie, Cookie, is_expired};
+use crate::cookie::{BorrowedCookie, Cookie, cookie_at, is_expired};
 use crate::drops::{is_not_ascii_domain, later_drop};
 use crate::jar::Jar;
 use crate::new_cookie::{lower_domain, made, own_domain, replaced_creation};
@@ -216,7 +216,7 @@ fn plan_of(
     Ok(Plan {
         kind: stored_kind(new, old, now),
         steps: steps(alloc, kind, tally, cookies, &fresh, place, now)?,
-        fresh: fresh.to_cookie(alloc)?,
+        fresh: fresh.to_cookie(alloc, cookie_at(cookies, place))?,
     })
 }
 

@@ -81,7 +81,7 @@ fn goes_out(kind: CellKind, access: &Access<'_>, now: i64, cookie: &Cookie) -> b
 {
     is_seen(kind, access, cookie)
         && is_of_host(access, cookie)
-        && path_matches(access.path, cookie.texts.path.as_str())
+        && path_matches(access.path, cookie.identity.path.as_str())
         && !is_expired(cookie.expiry, now)
         && (access.https || !cookie.secure)
         && (!access.script || !cookie.http_only)
@@ -107,9 +107,9 @@ fn is_of_host(access: &Access<'_>, cookie: &Cookie) -> bool
     ensures { result ≡ spec.is_of_host (plain_access access.now) (plain_cookie cookie.now) }
 {
     if cookie.host_only {
-        is_equal(access.host, cookie.texts.domain.as_str())
+        is_equal(access.host, cookie.identity.domain.as_str())
     } else {
-        domain_matches(access.ip, access.host, cookie.texts.domain.as_str())
+        domain_matches(access.ip, access.host, cookie.identity.domain.as_str())
     }
 }
 

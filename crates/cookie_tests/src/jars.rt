@@ -42,7 +42,7 @@ fn is_planned(
     };
     Ok(
         match jar.plan(alloc, &cookie, &access_of(host, "/"), list, 1) {
-            Ok(plan) => is_only_one(&plan) && want == Ok(plan.fresh().texts.path.as_str()),
+            Ok(plan) => is_only_one(&plan) && want == Ok(plan.fresh().identity.path.as_str()),
             Err(why) => want == Err(why),
         },
     )
@@ -278,7 +278,7 @@ fn is_marked_apart(alloc: Global, jar: &mut Jar) -> Result<bool, Fail> {
         return Ok(false);
     };
     let marked = cookie.creation == 1 && cookie.last == 9;
-    Ok(marked && copy.texts.value.as_str() == "2" && copy.last == 3)
+    Ok(marked && copy.value.as_str() == "2" && copy.last == 3)
 }
 
 #[test]

@@ -81,10 +81,10 @@ fn same_cookie(a: &Cookie, b: &Cookie) -> bool
 fn same_texts(a: &Cookie, b: &Cookie) -> bool
     ensures { IsTrue result ↔ (texts_of (plain_cookie a.now) ≡ texts_of (plain_cookie b.now)) }
 {
-    a.texts.name == b.texts.name
-        && a.texts.value == b.texts.value
-        && a.texts.domain == b.texts.domain
-        && a.texts.path == b.texts.path
+    a.identity.name == b.identity.name
+        && a.value == b.value
+        && a.identity.domain == b.identity.domain
+        && a.identity.path == b.identity.path
 }
 
 fn same_flags(a: &Cookie, b: &Cookie) -> bool

@@ -11,7 +11,7 @@ use crate::fields::{byte_at, signed_at, text_at};
 use crate::names::{cell_at, is_host_of};
 use crate::stop::Stop;
 use agent_base::NoMemory;
-use cookie_jar::{CellKey, Cookie, SharedTexts};
+use cookie_jar::{CellKey, Cookie, CookieIdentity};
 use setcookie_parse::SameSite;
 use std::alloc::Global;
 use std::rc::Rc;
@@ -109,23 +109,28 @@ fn marks_at(bytes: &mut &[u8]) -> Result<Marks, Stop>
     })
 }
 
-// The texts over memory of their own.
-fn shared(alloc: Global, texts: &Texts<'_>) -> Result<Rc<SharedTexts>, NoMemory>
+// What is put where copies of a cookie share it.
+fn shared<T: Drop>(alloc: Global, own: T) -> Result<Rc<T>, NoMemory>
+    ensures { IfOk result (λ rc. rc_value rc ≡ own) }
+{
+    match Rc::new(alloc, own) {
+        Ok(rc) => Ok(rc),
+        Err(_) => Err(NoMemory),
+    }
+}
+
+// The name, domain and path over memory of their own.
+fn identity(alloc: Global, texts: &Texts<'_>) -> Result<Rc<CookieIdentity>, NoMemory>
     ensures { IfOk result (λ own. (string_bytes (rc_value own).name ≡ texts.now.name.now)
-        × (string_bytes (rc_value own).value ≡ texts.now.value.now)
         × (string_bytes (rc_value own).domain ≡ texts.now.domain.now)
         × (string_bytes (rc_value own).path ≡ texts.now.path.now)) }
 {
-    let texts = SharedTexts {
+    let own = CookieIdentity {
         name: String::from_str(alloc, texts.name)?,
-        value: String::from_str(alloc, texts.value)?,
         domain: String::from_str(alloc, texts.domain)?,
         path: String::from_str(alloc, texts.path)?,
     };
-    match Rc::new(alloc, texts) {
-        Ok(texts) => Ok(texts),
-        Err(_) => Err(NoMemory),
-    }
+    shared(alloc, own)
 }
 
 #[tactic(auto, unfolding(crate::specs::Reading::cookie_at))]
@@ -135,9 +140,9 @@ fn cookie_at(alloc: Global, bytes: &mut &[u8]) -> Result<Cookie, Stop>
 {
     let texts = texts_at(bytes)?;
     let marks = marks_at(bytes)?;
-    let texts = shared(alloc, &texts)?;
     Ok(Cookie {
-        texts,
+        identity: identity(alloc, &texts)?,
+        value: shared(alloc, String::from_str(alloc, texts.value)?)?,
         host_only: marks.flags.host_only,
         secure: marks.flags.secure,
         http_only: marks.flags.http_only,
@@ -161,10 +166,10 @@ fn begins_with_slash(path: &str) -> bool
 fn is_sound(partition: bool, cookie: &Cookie) -> bool
     ensures { result ≡ spelled.is_sound partition (plain_cookie cookie.now) }
 {
-    let pair = cookie.texts.name.len() + cookie.texts.value.len();
+    let pair = cookie.identity.name.len() + cookie.value.len();
     1 <= pair
         && pair <= PAIR_LIMIT
-        && begins_with_slash(cookie.texts.path.as_str())
+        && begins_with_slash(cookie.identity.path.as_str())
         && (cookie.secure || !partition)
 }
 
@@ -202,7 +207,7 @@ fn suits(
     is_host_of(
         alloc,
         domain_of_cell(cell),
-        cookie.texts.domain.as_str(),
+        cookie.identity.domain.as_str(),
         list,
     )
 }

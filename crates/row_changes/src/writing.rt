@@ -129,10 +129,10 @@ fn put_texts(out: &mut Vec<u8>, cookie: &Cookie) -> Result<(), NoMemory>
     ensures texts { OnOk result (HasCookieTexts (plain_cookie cookie.now)) }
     ensures front { Grown out.old.items out.new.items }
 {
-    put_text(out, cookie.texts.name.as_str())?;
-    put_text(out, cookie.texts.value.as_str())?;
-    put_text(out, cookie.texts.domain.as_str())?;
-    put_text(out, cookie.texts.path.as_str())
+    put_text(out, cookie.identity.name.as_str())?;
+    put_text(out, cookie.value.as_str())?;
+    put_text(out, cookie.identity.domain.as_str())?;
+    put_text(out, cookie.identity.path.as_str())
 }
 
 // The expiry of a cookie, which every cookie of a row change has.

@@ -94,7 +94,7 @@ fn put_marks(writer: &mut Writer, cookie: &Cookie, expiry: i64) -> Result<(), No
     ensures { Puts result writer.old writer.new (mark_tokens (plain_cookie cookie.now) expiry) }
 {
     put_moment(writer, "creation", cookie.creation)?;
-    put_text(writer, "domain", cookie.texts.domain.as_str())?;
+    put_text(writer, "domain", cookie.identity.domain.as_str())?;
     put_moment(writer, "expiry", expiry)?;
     put_truth(writer, "host_only", cookie.host_only)?;
     put_truth(writer, "http_only", cookie.http_only)
@@ -110,13 +110,13 @@ fn put_later(
     ensures { Puts result writer.old writer.new
         (last_tokens (spec.later_members (plain_cell cell.now) (plain_cookie cookie.now))) }
 {
-    put_text(writer, "name", cookie.texts.name.as_str())?;
-    put_text(writer, "path", cookie.texts.path.as_str())?;
+    put_text(writer, "name", cookie.identity.name.as_str())?;
+    put_text(writer, "path", cookie.identity.path.as_str())?;
     put_text(writer, "row", "cookie")?;
     put_text(writer, "same_site", same_site_text(cookie.same_site))?;
     put_truth(writer, "secure", cookie.secure)?;
     put_top(alloc, writer, cell)?;
-    put_text(writer, "value", cookie.texts.value.as_str())?;
+    put_text(writer, "value", cookie.value.as_str())?;
     end(writer)
 }
 

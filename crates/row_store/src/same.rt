@@ -160,10 +160,10 @@ fn same_texts(a: &Cookie, b: &Cookie) -> bool
         IsTrue result ↔ (c.name ≡ d.name) × (c.value ≡ d.value) × (c.domain ≡ d.domain)
         × (c.path ≡ d.path) }
 {
-    a.texts.name == b.texts.name
-        && a.texts.value == b.texts.value
-        && a.texts.domain == b.texts.domain
-        && a.texts.path == b.texts.path
+    a.identity.name == b.identity.name
+        && a.value == b.value
+        && a.identity.domain == b.identity.domain
+        && a.identity.path == b.identity.path
 }
 
 fn same_flags(a: &Cookie, b: &Cookie) -> bool

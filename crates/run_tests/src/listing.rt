@@ -33,7 +33,7 @@ fn short(alloc: Global, change: &Change) -> Result<String, Fail> {
         Change::CookieInsert { place, cookie, .. } => {
             format!(in alloc;
                 "{place}: {}={}, {}",
-                cookie.texts.name, cookie.texts.value, cookie.last
+                cookie.identity.name, cookie.value, cookie.last
             )?
         }
         _ => String::from_str(alloc, "another")?,

@@ -5,7 +5,7 @@ use crate::bodies::list_of;
 use Fields::{Key, Own, Partition, Permission};
 use Flaw::{Domain, Letters, NoExpiry, NotSecure, Nothing, Path, Used};
 use access_grants::GrantRow;
-use cookie_jar::{CellKey, Cookie, SharedTexts};
+use cookie_jar::{CellKey, Cookie, CookieIdentity};
 use origin_site::{Address, Site};
 use row_changes::Change;
 use row_store::Rows;
@@ -198,16 +198,16 @@ fn with_flaw(alloc: Global, cookie: &Cookie, flaw: Flaw) -> Result<Cookie, Fail>
     let path = if let Path(path) = flaw { path } else { "/" };
     let domain = match flaw {
         Domain(domain) => domain,
-        _ => cookie.texts.domain.as_str(),
+        _ => cookie.identity.domain.as_str(),
     };
-    let texts = SharedTexts {
+    let identity = CookieIdentity {
         name: String::new(alloc),
-        value: letters(alloc, count)?,
         domain: String::from_str(alloc, domain)?,
         path: String::from_str(alloc, path)?,
     };
     Ok(Cookie {
-        texts: Rc::new(alloc, texts)?,
+        identity: Rc::new(alloc, identity)?,
+        value: Rc::new(alloc, letters(alloc, count)?)?,
         host_only: cookie.host_only,
         secure: flaw != NotSecure,
         http_only: cookie.http_only,

@@ -211,7 +211,7 @@ fn may_replace(jar: &Jar, now: u64, cookie: &CookieText<'_>) -> bool
 
 fn has_name(jar: &Jar, place: usize, name: &str) -> bool {
     match jar.cookie(place) {
-        Some(cookie) => cookie.texts.name.as_str() == name,
+        Some(cookie) => cookie.identity.name.as_str() == name,
         None => false,
     }
 }

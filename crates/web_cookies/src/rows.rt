@@ -198,10 +198,10 @@ fn is_same_at(jar: &Jar, place: usize, cookie: &Cookie) -> bool
 fn is_same(cookie: &Cookie, other: &Cookie) -> bool
     ensures { result ≡ spec.same (plain_cookie cookie.now) (plain_cookie other.now) }
 {
-    cookie.texts.name == other.texts.name
-        && cookie.texts.domain == other.texts.domain
+    cookie.identity.name == other.identity.name
+        && cookie.identity.domain == other.identity.domain
         && cookie.host_only == other.host_only
-        && cookie.texts.path == other.texts.path
+        && cookie.identity.path == other.identity.path
 }
 
 // The bytes that count in a jar.
@@ -233,9 +233,7 @@ fn counted(jar: &Jar, cookie: &Cookie) -> u128
 {
     match jar.kind() {
         CellKind::Own => 0,
-        CellKind::Partition => {
-            cookie.texts.name.len() as u128 + cookie.texts.value.len() as u128
-        }
+        CellKind::Partition => cookie.identity.name.len() as u128 + cookie.value.len() as u128,
     }
 }
 

@@ -1,10 +1,19 @@
-use Rattle.std.proofs.Common.{rules, ◌≡◌, map, w64, to_z, of_z}
-use Rattle.std.specs.Prelude.{option_map, is_some, unwrap_or}
+use Rattle.std.proofs.Common.{rules, ◌≡◌, map, sym, subst, w64, to_z, of_z}
+use Rattle.std.specs.Prelude.{IfSome, IsTrue, option_map, is_some, unwrap_or}
 use Rattle.cookie_jar.specs.Borrowed.{plain_borrowed}
+use Rattle.cookie_jar.specs.Cookie.{same}
 use Rattle.cookie_jar.specs.NewCookie.{replaced, kind_with}
 use Rattle.cookie_jar.specs.Plain.{plain_cookie}
-use Rattle.cookie_jar.proofs.NewCookieLemmas.{plan_is, steps_at}
+use Rattle.cookie_jar.proofs.NewCookieLemmas.{plan_is, same_at_place, steps_at}
 use Rattle.cookie_jar.proofs.plan.plan_of.Goals as goal
+
+pub to_cookie-requires : goal.to_cookie-requires
+to_cookie-requires c =
+    let new = plain_borrowed c.args.new.now in
+    record {
+      same = subst (λ o. IfSome o (λ x. IsTrue (same new x))) (sym c.cookie_at.ensures)
+          (same_at_place new (map plain_cookie c.args.cookies.now) c.place_of-place.result c.place_of-place.ensures.value);
+    }
 
 pub returns : goal.returns
 returns c =

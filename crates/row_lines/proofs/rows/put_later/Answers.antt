@@ -7,11 +7,11 @@ use Rattle.row_lines.proofs.rows.put_later.Goals as goal
 pub returns : goal.returns
 returns c =
     let f0 = rw (c.same_site_text.ensures) at c.in_ok-put_text-4.ensures in
-    let t1 : c.as_str.result.now ≡ string_bytes (rc_value c.args.cookie.now.texts).name = search rules in
+    let t1 : c.as_str.result.now ≡ string_bytes (rc_value c.args.cookie.now.identity).name = search rules in
     let f1 = rw t1 at c.in_ok-put_text.ensures in
-    let t2 : c.as_str-2.result.now ≡ string_bytes (rc_value c.args.cookie.now.texts).path = search rules in
+    let t2 : c.as_str-2.result.now ≡ string_bytes (rc_value c.args.cookie.now.identity).path = search rules in
     let f2 = rw t2 at c.in_ok-put_text-2.ensures in
-    let t3 : c.as_str-3.result.now ≡ string_bytes (rc_value c.args.cookie.now.texts).value = search rules in
+    let t3 : c.as_str-3.result.now ≡ string_bytes (rc_value c.args.cookie.now.value) = search rules in
     let f3 = rw t3 at c.in_ok-put_text-5.ensures in
     let s6 = joined f3 c.end.ensures in
     let s5 = joined c.in_ok-put_top.ensures s6 in

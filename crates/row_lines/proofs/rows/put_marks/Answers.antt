@@ -10,6 +10,6 @@ returns c =
     let f0 = rw t0 at c.in_ok-put_moment.ensures in
     let t1 : to_z w64 (of_z w64 c.args.expiry) ≡ c.args.expiry = search rules in
     let f1 = rw t1 at c.in_ok-put_moment-2.ensures in
-    let t2 : c.as_str.result.now ≡ string_bytes (rc_value c.args.cookie.now.texts).domain = search rules in
+    let t2 : c.as_str.result.now ≡ string_bytes (rc_value c.args.cookie.now.identity).domain = search rules in
     let f2 = rw t2 at c.in_ok-put_text.ensures in
     joined f0 (joined f2 (joined f1 (joined c.in_ok-put_truth.ensures c.put_truth-2.ensures)))

@@ -8,8 +8,10 @@ use Rattle.access_grants.specs.Grant.{PlainGrant}
 use Rattle.access_grants.specs.declared.outcome.Outcome.{Outcome}
 use Rattle.access_grants.specs.declared.permission.Permission.{Permission}
 use Rattle.frame_tree.specs.Document.{PlainDocument}
+use Rattle.frame_tree.specs.declared.tab.TreeFault.{TreeFault}
 use Rattle.frame_tree.specs.Tree.{document_of, top_site}
-use Rattle.live_state.specs.FramesInPlace.{IsPutIn, frames_at, requested}
+use Rattle.live_state.specs.FramesInPlace.{ChangesTab, frames_at, requested}
+use Rattle.live_state.specs.Queues.{frames_by}
 use Rattle.live_state.specs.Tabs.{PlainLive, PlainTab, tab_at}
 use Rattle.script_actions.specs.declared.words.Prompt.{Prompt}
 use Rattle.reply_lines.specs.Reply.{PlainBody, Plain}
@@ -71,12 +73,12 @@ pub asked_done : (rules : List Rule) (now : ℕ) (top : PlainSite) (at : Label) 
     → outcome_of top (embedded_site rules document) (access_facts rules now at.frame tab.frames document)
     (answer_of answer) now old.grants ≡ Some outcome
     → frames_at at.tab live.tabs ≡ requested outcome.sets_flag outcome.consumes at.frame tab.frames
-    → IsPutIn at.tab None old.live.tabs live.tabs → top_site (frames_at at.tab live.tabs) ≡ top_site tab.frames
+    → ChangesTab {T = Unit {0}} {E = TreeFault} at.tab None (Ok tt) old.live live
     → grants ≡ grants_requested outcome.kept top (embedded_site rules document) old.grants
     → body ≡ Plain (decision_word outcome.decision)
     → IsDone (request_access rules now top at answer tab (cells_of old) (held_of old)) old
     (record old { live = live; grants = grants }) body
-asked_done rules now top at answer tab document outcome old live grants body found there comes frames put site rows says =
+asked_done rules now top at answer tab document outcome old live grants body found there comes frames changes rows says =
     let mid : HoldingsView = record old { live = live } in
     let new : HoldingsView = record old { live = live; grants = grants } in
     let own = embedded_site rules document in
@@ -87,7 +89,8 @@ asked_done rules now top at answer tab document outcome old live grants body fou
     (grants_held old.live.tabs old.cookies old.grants old.storage) ∙ comes))
     (frames_done at.tab tab None (λ frames. keeps_grant outcome.kept top own (Plain (decision_word outcome.decision)))
     (Ok (requested outcome.sets_flag outcome.consumes at.frame tab.frames)) (frames_at at.tab live.tabs)
-    body old mid new found (ap Ok (sym frames)) site put refl refl (no_change old.cookies)
+    body old mid new found (ap Ok (sym frames)) (changes.site ∙ ap (λ t. top_site (frames_by t)) found) changes.put
+    refl refl (no_change old.cookies)
     (kept_done outcome.kept top own (Plain (decision_word outcome.decision)) body mid grants rows says)))
 
 -- its row change is that of what is kept

@@ -1,21 +1,23 @@
 -- The open tabs after a change of one, at its place.
-use Rattle.std.proofs.Common.{◌≡◌, ◌<◌, ℕ, Bool, false, true, cond, not, List, [], length, get_or, map, set, Option, Some, refl, ap, sym, subst, ◌∙◌}
+use Rattle.std.proofs.Common.{◌≡◌, ◌<◌, ◌-◌, ℕ, Bool, false, true, cond, not, List, [], length, get_or, map, set, Option, Some, refl, ap, sym, subst, ◌∙◌}
 use Rattle.std.specs.Prelude.{◌&&◌, ◌==◌, None, OnOk, Result, if◌then◌else◌, option_map}
 use Rattle.std.specs.BTreeMap.{BTreeMap}
 use Rattle.std.specs.Global.{Vec}
 use Rattle.std.proofs.lemmas.Bool.{eq-eqb}
-use Rattle.std.proofs.lemmas.Result.{on_ok_weaker}
+use Rattle.std.proofs.lemmas.List.{length-set, set-get_or}
+use Rattle.std.proofs.lemmas.Result.{on_err_weaker, on_ok_weaker}
 use Rattle.agent_base.specs.declared.refusals.Label.{Label}
+use Rattle.origin_site.specs.Site.{PlainSite}
 use Rattle.origin_site.specs.declared.site.Site.{Site}
 use Rattle.frame_tree.specs.Calls.{consumed, flagged, with_mark}
 use Rattle.frame_tree.specs.Tree.{IsTree, PlainFrame, top_site}
 use Rattle.frame_tree.proofs.ShapeLemmas.{tree-mark}
-use Rattle.live_state.specs.ExistingQueues.{ChangesFrames, PlainOpenTab}
-use Rattle.live_state.specs.FramesInPlace.{IsPutIn, frames_at, given, requested}
+use Rattle.live_state.specs.ExistingQueues.{ChangesFrames, PlainOpenTab, ready_tab}
+use Rattle.live_state.specs.FramesInPlace.{ChangesTab, IsPutIn, frames_at, given, requested}
 use Rattle.live_state.specs.Queues.{frames_by, goes, is_among}
 use Rattle.live_state.specs.SiteTabs.{AreIndexed}
 use Rattle.live_state.specs.TabPlaces.{IsAt, IsGap}
-use Rattle.live_state.specs.Tabs.{PlainTab, stays, tab_at, tabs_put}
+use Rattle.live_state.specs.Tabs.{PlainLive, PlainTab, stays, tab_at, tabs_put}
 use Rattle.live_state.proofs.IndexStepLemmas.{indexed-queues, indexed-same}
 use Rattle.live_state.proofs.LiveLemmas.{changed-set, found, found-written, live_ready, ready-at, ready-kept, ready-set, tab-found}
 use Rattle.live_state.proofs.SearchLemmas.{plain_of}
@@ -94,29 +96,48 @@ module _ {n : ℕ} {tabs : List PlainTab} {ts : List PlainOpenTab} {place : ℕ}
   tabs-changed change others own =
       changed-set n change others ts place is.at old new is.within is.read own ∙ ap (map change) is.seen
 
+-- the open tabs as contracts see them, with room for so many in all, and with these sites
+abbrev pub live_of : (capacity : ℕ) → List (PlainSite × Bool) → List PlainOpenTab → PlainLive
+live_of capacity sites ts = record {
+  tabs = plain_of ts;
+  ready = map ready_tab ts;
+  room = capacity - length ts;
+  sites = sites;
+}
+
 -- a call changed the frames of the tab
 module _ {n : ℕ} {tabs : List PlainTab} {ts : List PlainOpenTab} {place : ℕ} {old new : PlainOpenTab} {T E : Type 0} {result : Result T E} {fresh : Option ℕ}
     (is : IsWritten n tabs ts place old new) (changes : ChangesFrames result fresh old new) where
   -- the tabs have the tab with its frames
-  pub put-in : OnOk result (IsPutIn n fresh tabs (plain_of (set ts place new)))
-  put-in = on_ok_weaker result (λ remade.
+  put_in : OnOk result (IsPutIn n fresh (plain_of ts) (plain_of (set ts place new)))
+  put_in = on_ok_weaker result (λ remade.
       put-open n new.plain.frames fresh ts place is.at old new is.within is.read remade
-      ∙ ap (λ frames. tabs_put n frames fresh (plain_of ts)) (sym (frames_after is))
-      ∙ ap (tabs_put n (frames_at n (plain_of (set ts place new))) fresh) is.seen) changes.put
-
-  -- it is at its site still
-  pub site-in : top_site (frames_at n (plain_of (set ts place new))) ≡ top_site (frames_at n tabs)
-  site-in = framed is (λ before after. top_site after ≡ top_site before) changes.site
+      ∙ ap (λ frames. tabs_put n frames fresh (plain_of ts)) (sym (frames_after is))) changes.put
 
   -- what was ready and stays is ready still
-  pub kept-in : (l : Label) → goes n (frames_at n (plain_of (set ts place new))) fresh l ≡ false → live_ready l ts ≡ true
+  kept_in : (l : Label) → goes n (frames_at n (plain_of (set ts place new))) fresh l ≡ false → live_ready l ts ≡ true
       → live_ready l (set ts place new) ≡ true
-  kept-in l stay ready =
+  kept_in l stay ready =
       ready-written is l
       (λ here. changes.kept l.frame
       (ap (λ fs. not (stays fresh fs l.frame)) (sym (frames_after is))
       ∙ ap (λ b. b && not (stays fresh (frames_at n (plain_of (set ts place new))) l.frame)) (sym (eq-eqb l.tab n here))
       ∙ stay)) ready
+
+  -- so the open tabs are changed there and nowhere else, as contracts see them
+  pub changes-in : (capacity : ℕ) {sites : List (PlainSite × Bool)} {live : PlainLive} → live_of capacity sites ts ≡ live
+      → ChangesTab n fresh result live (live_of capacity sites (set ts place new))
+  changes-in capacity {sites} seen =
+      subst (λ before. ChangesTab n fresh result before (live_of capacity sites (set ts place new))) seen (record {
+        put = put_in;
+        unchanged =
+            on_err_weaker result
+            (λ same. ap (live_of capacity sites) (ap (set ts place) (same ∙ is.read) ∙ set-get_or ts place old)) changes.unchanged;
+        site = ap top_site (frames_after is) ∙ changes.site ∙ ap (λ o. top_site (frames_by o)) (sym (tab-here n ts place is.at old is.within is.read));
+        room = ap (λ count. capacity - count) (length-set ts place new);
+        sites = refl;
+        kept = kept_in;
+      })
 
   -- the map of the tabs' numbers is theirs still
   pub indexed-in : (numbers : BTreeMap Site (Vec ℕ)) → AreIndexed (plain_of ts) numbers → AreIndexed (plain_of (set ts place new)) numbers

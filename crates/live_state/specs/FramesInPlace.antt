@@ -1,11 +1,11 @@
 -- The open tabs after a change of the frames of one.
 -- Source: HTML, "Navigables" and "Navigation"; Storage Access API, "requestStorageAccess()".
 -- Our own choice: a tab that is not open has no frame, so a call that names one is refused.
-use Rattle.std.specs.Prelude.{◌≡◌, ℕ, Bool, List, Option, Some, if◌then◌else◌}
+use Rattle.std.specs.Prelude.{◌≡◌, ℕ, Bool, List, Option, Some, Result, OnErr, OnOk, if◌then◌else◌}
 use Rattle.frame_tree.specs.Calls.{consumed, flagged, with_document}
-use Rattle.frame_tree.specs.Tree.{PlainFrame}
-use Rattle.live_state.specs.Queues.{frames_by}
-use Rattle.live_state.specs.Tabs.{PlainTab, made_tab, tab_at, tabs_put}
+use Rattle.frame_tree.specs.Tree.{PlainFrame, top_site}
+use Rattle.live_state.specs.Queues.{StayReadyBut, frames_by, goes}
+use Rattle.live_state.specs.Tabs.{PlainLive, PlainTab, made_tab, tab_at, tabs_put}
 
 -- the frames of the tab of a number, and none where it is not open
 abbrev pub frames_at : ℕ → List PlainTab → List PlainFrame
@@ -14,6 +14,17 @@ frames_at number tabs = frames_by (tab_at number tabs)
 -- the tabs are those before, with the frames that this one has now
 abbrev pub IsPutIn : ℕ → Option ℕ → (old new : List PlainTab) → Type 0
 IsPutIn number fresh old new = new ≡ tabs_put number (frames_at number new) fresh old
+
+-- a call changes the frames of one open tab, and nothing else. The tab keeps its site, and each
+-- ready queue that stays is ready still. A refusal leaves all as it was.
+pub record ChangesTab {T E : Type 0} (number : ℕ) (fresh : Option ℕ) (result : Result T E)
+    (old new : PlainLive) : Type 0 where
+  pub put : OnOk result (IsPutIn number fresh old.tabs new.tabs)
+  pub unchanged : OnErr result (new ≡ old)
+  pub site : top_site (frames_at number new.tabs) ≡ top_site (frames_at number old.tabs)
+  pub room : new.room ≡ old.room
+  pub sites : new.sites ≡ old.sites
+  pub kept : StayReadyBut (goes number (frames_at number new.tabs) fresh) old new
 
 -- the frames with storage access in the document of this one, where it is given
 abbrev pub given : (gives : Bool) → ℕ → List PlainFrame → List PlainFrame

@@ -1,12 +1,13 @@
 //! Storage access of documents.
-ghost use Rattle.std.specs.Prelude.{◌≡◌, ◌≤◌, ◌<◌, IfOk, IfSome, List, None, Some, true};
+ghost use Rattle.std.specs.Prelude.{◌≡◌, ◌≤◌, ◌<◌, IfOk, IfSome, List, None, Ok, Some, true};
 ghost use Rattle.std.specs.Option.{option_map};
 ghost use Rattle.suffix_list.specs.Suffix.{Rule};
 ghost use Rattle.origin_site.specs.Plain.{plain_site};
 ghost use Rattle.access_grants.specs.Plain.{plain_grant};
+ghost use Rattle.frame_tree.specs.declared.tab.TreeFault.{TreeFault};
 ghost use Rattle.frame_tree.specs.Plain.{plain_document};
-ghost use Rattle.frame_tree.specs.Tree.{document_of, top_site};
-ghost use Rattle.live_state.specs.FramesInPlace.{IsPutIn, frames_at, requested};
+ghost use Rattle.frame_tree.specs.Tree.{document_of};
+ghost use Rattle.live_state.specs.FramesInPlace.{ChangesTab, frames_at, requested};
 ghost use Rattle.live_state.specs.Queues.{has_document};
 ghost use Rattle.live_state.specs.Tabs.{is_open};
 ghost use Rattle.agent_model.specs.Rest.{last_moment};
@@ -166,9 +167,7 @@ fn finish(live: &mut Live, at: Label, outcome: Outcome)
     ensures frames { let before = frames_at at.tab live.old.tabs in
         let after = requested outcome.sets_flag outcome.consumes at.frame before in
         frames_at at.tab live.new.tabs ≡ after }
-    ensures put { IsPutIn at.tab None live.old.tabs live.new.tabs }
-    ensures site { top_site (frames_at at.tab live.new.tabs)
-        ≡ top_site (frames_at at.tab live.old.tabs) }
+    ensures changes { ChangesTab {E = TreeFault} at.tab None (Ok result) live.old live.new }
 {
     let Ok(()) = live.finish_request(at, outcome.sets_flag, outcome.consumes) else {
         unreachable!()

@@ -6,8 +6,7 @@ ghost use Rattle.origin_site.specs.Plain.{plain_address};
 ghost use Rattle.frame_tree.specs.Calls.{navigated};
 ghost use Rattle.frame_tree.specs.Plain.{plain_sandbox};
 ghost use Rattle.frame_tree.specs.Sandbox.{sandbox_of};
-ghost use Rattle.frame_tree.specs.Tree.{top_site};
-ghost use Rattle.live_state.specs.FramesInPlace.{IsPutIn, frames_at};
+ghost use Rattle.live_state.specs.FramesInPlace.{ChangesTab, frames_at};
 ghost use Rattle.live_state.specs.Tabs.{is_open};
 ghost use Rattle.script_actions.specs.Plain.{head_field_of};
 ghost use Rattle.reply_lines.specs.Plain.{body_of};
@@ -223,10 +222,7 @@ fn add(
         (frames_added list.now.rules at parent (plain_address url.now)
         (option_map (λ text. string_bytes text.value) sandbox.now) deny
         (frames_at at.tab live.old.tabs)) result }
-    ensures put { OnOk result (IsPutIn at.tab None live.old.tabs live.new.tabs) }
-    ensures site { top_site (frames_at at.tab live.new.tabs)
-        ≡ top_site (frames_at at.tab live.old.tabs) }
-    ensures unchanged { OnErr result (live.new ≡ live.old) }
+    ensures changes { ChangesTab at.tab None result live.old live.new }
     ensures number { nat_lt at.frame most_frames ≡ true }
 {
     let url = url.copy(alloc)?;
@@ -255,10 +251,7 @@ fn navigate(
     ensures answer { Answers (λ _. frames_at at.tab live.new.tabs) TreeFault.NoMemory
         (where_below at.frame (navigated list.now.rules at.frame (plain_address url.now) keep_flag
         (frames_at at.tab live.old.tabs))) result }
-    ensures put { OnOk result (IsPutIn at.tab (Some at.frame) live.old.tabs live.new.tabs) }
-    ensures site { top_site (frames_at at.tab live.new.tabs)
-        ≡ top_site (frames_at at.tab live.old.tabs) }
-    ensures unchanged { OnErr result (live.new ≡ live.old) }
+    ensures changes { ChangesTab at.tab (Some at.frame) result live.old live.new }
 {
     if at.frame == 0 {
         return Err(TreeFault::NoFrame);
@@ -271,10 +264,7 @@ fn navigate(
 fn remove(live: &mut Live, at: Label) -> Result<(), TreeFault>
     ensures answer { Answers (λ _. frames_at at.tab live.new.tabs) TreeFault.NoMemory
         (frames_removed at (frames_at at.tab live.old.tabs)) result }
-    ensures put { OnOk result (IsPutIn at.tab None live.old.tabs live.new.tabs) }
-    ensures site { top_site (frames_at at.tab live.new.tabs)
-        ≡ top_site (frames_at at.tab live.old.tabs) }
-    ensures unchanged { OnErr result (live.new ≡ live.old) }
+    ensures changes { ChangesTab at.tab None result live.old live.new }
 {
     if at.frame == 0 {
         return Err(TreeFault::NoFrame);
@@ -290,10 +280,7 @@ fn click(live: &mut Live, at: Label, now: u64) -> Result<(), TreeFault>
     requires { now ≤ last_moment }
     ensures answer { Answers (λ _. frames_at at.tab live.new.tabs) TreeFault.NoMemory
         (frames_clicked now at (frames_at at.tab live.old.tabs)) result }
-    ensures put { OnOk result (IsPutIn at.tab None live.old.tabs live.new.tabs) }
-    ensures site { top_site (frames_at at.tab live.new.tabs)
-        ≡ top_site (frames_at at.tab live.old.tabs) }
-    ensures unchanged { OnErr result (live.new ≡ live.old) }
+    ensures changes { ChangesTab at.tab None result live.old live.new }
 {
     match live.activate(at, now as i64) {
         Ok(()) => Ok(()),

@@ -1,13 +1,11 @@
 //! Changes of the frames of an open tab, in its place.
-ghost use Rattle.std.specs.Prelude.{◌≡◌, ◌≢◌, ◌<◌, Err, None, Some, OnErr, OnOk};
+ghost use Rattle.std.specs.Prelude.{◌≡◌, ◌≢◌, ◌<◌, Err, None, Some};
 ghost use Rattle.agent_base.specs.Answers.{Answers};
 ghost use Rattle.origin_site.specs.Plain.{plain_address};
 ghost use Rattle.frame_tree.specs.Calls.{IsDoneAt, activated, added, navigated, without};
 ghost use Rattle.frame_tree.specs.Plain.{plain_sandbox};
-ghost use Rattle.frame_tree.specs.Tree.{top_site};
 ghost use Rattle.frame_tree.specs.declared.tab.TreeFault.{TreeFault};
-ghost use Rattle.live_state.specs.FramesInPlace.{IsPutIn, frames_at, requested};
-ghost use Rattle.live_state.specs.Queues.{StayReadyBut, goes};
+ghost use Rattle.live_state.specs.FramesInPlace.{ChangesTab, frames_at, requested};
 
 use crate::Live;
 use crate::live::place_of;
@@ -36,13 +34,7 @@ impl Live {
         ensures decided { let before = frames_at at.tab self.old.tabs in
             (why : TreeFault) → added list.now.rules parent at.frame (plain_address address)
             (plain_sandbox sandbox) deny before ≡ Err why → result ≡ Err why }
-        ensures put { OnOk result (IsPutIn at.tab None self.old.tabs self.new.tabs) }
-        ensures site { top_site (frames_at at.tab self.new.tabs)
-            ≡ top_site (frames_at at.tab self.old.tabs) }
-        ensures unchanged { OnErr result (self.new ≡ self.old) }
-        ensures room { (self.new.room ≡ self.old.room) × (self.new.sites ≡ self.old.sites) }
-        ensures kept { let made = frames_at at.tab self.new.tabs in
-            StayReadyBut (goes at.tab made None) self.old self.new }
+        ensures changes { ChangesTab at.tab None result self.old self.new }
     {
         match place_of(self.tabs.as_slice(), at.tab) {
             Ok(place) => {
@@ -68,13 +60,7 @@ impl Live {
         ensures decided { let before = frames_at at.tab self.old.tabs in
             (why : TreeFault) → navigated list.now.rules at.frame (plain_address address)
             keep_flag before ≡ Err why → result ≡ Err why }
-        ensures put { OnOk result (IsPutIn at.tab (Some at.frame) self.old.tabs self.new.tabs) }
-        ensures site { top_site (frames_at at.tab self.new.tabs)
-            ≡ top_site (frames_at at.tab self.old.tabs) }
-        ensures unchanged { OnErr result (self.new ≡ self.old) }
-        ensures room { (self.new.room ≡ self.old.room) × (self.new.sites ≡ self.old.sites) }
-        ensures kept { let made = frames_at at.tab self.new.tabs in
-            StayReadyBut (goes at.tab made (Some at.frame)) self.old self.new }
+        ensures changes { ChangesTab at.tab (Some at.frame) result self.old self.new }
     {
         match place_of(self.tabs.as_slice(), at.tab) {
             Ok(place) => self.tabs[place].navigate_frame(at.frame, address, keep_flag, list),
@@ -89,13 +75,7 @@ impl Live {
         ensures removed { let before = frames_at at.tab self.old.tabs in
             IsDoneAt at.frame before (frames_at at.tab self.new.tabs) (without at.frame before)
             result }
-        ensures put { OnOk result (IsPutIn at.tab None self.old.tabs self.new.tabs) }
-        ensures site { top_site (frames_at at.tab self.new.tabs)
-            ≡ top_site (frames_at at.tab self.old.tabs) }
-        ensures unchanged { OnErr result (self.new ≡ self.old) }
-        ensures room { (self.new.room ≡ self.old.room) × (self.new.sites ≡ self.old.sites) }
-        ensures kept { let made = frames_at at.tab self.new.tabs in
-            StayReadyBut (goes at.tab made None) self.old self.new }
+        ensures changes { ChangesTab at.tab None result self.old self.new }
     {
         match place_of(self.tabs.as_slice(), at.tab) {
             Ok(place) => self.tabs[place].remove_frame(at.frame),
@@ -108,13 +88,7 @@ impl Live {
         ensures activated { let before = frames_at at.tab self.old.tabs in
             IsDoneAt at.frame before (frames_at at.tab self.new.tabs)
             (activated at.frame now before) result }
-        ensures put { OnOk result (IsPutIn at.tab None self.old.tabs self.new.tabs) }
-        ensures site { top_site (frames_at at.tab self.new.tabs)
-            ≡ top_site (frames_at at.tab self.old.tabs) }
-        ensures unchanged { OnErr result (self.new ≡ self.old) }
-        ensures room { (self.new.room ≡ self.old.room) × (self.new.sites ≡ self.old.sites) }
-        ensures kept { let made = frames_at at.tab self.new.tabs in
-            StayReadyBut (goes at.tab made None) self.old self.new }
+        ensures changes { ChangesTab at.tab None result self.old self.new }
     {
         match place_of(self.tabs.as_slice(), at.tab) {
             Ok(place) => self.tabs[place].activate(at.frame, now),
@@ -129,13 +103,7 @@ impl Live {
         ensures requested { let before = frames_at at.tab self.old.tabs in
             IsDoneAt at.frame before (frames_at at.tab self.new.tabs)
             (requested gives consumes at.frame before) result }
-        ensures put { OnOk result (IsPutIn at.tab None self.old.tabs self.new.tabs) }
-        ensures site { top_site (frames_at at.tab self.new.tabs)
-            ≡ top_site (frames_at at.tab self.old.tabs) }
-        ensures unchanged { OnErr result (self.new ≡ self.old) }
-        ensures room { (self.new.room ≡ self.old.room) × (self.new.sites ≡ self.old.sites) }
-        ensures kept { let made = frames_at at.tab self.new.tabs in
-            StayReadyBut (goes at.tab made None) self.old self.new }
+        ensures changes { ChangesTab at.tab None result self.old self.new }
     {
         match place_of(self.tabs.as_slice(), at.tab) {
             Ok(place) => self.tabs[place].finish_request(at.frame, gives, consumes),

@@ -78,8 +78,8 @@ invariant_of-self-2 c =
     let frames = frames_at c.args.at.tab c.self.inside.live.tabs in
     trees_in_place c.args.at.tab None c.self.inside.live c.add-done.new.live
     (frames_added rules c.args.at c.args.parent url sandbox c.args.deny frames)
-    c.add-done.result c.add-done.ensures.answer c.add-done.ensures.put
-    c.add-done.ensures.unchanged (ap (λ (h : HoldingsView). is_open c.args.at.tab h.live.tabs) c.self.view_is
+    c.add-done.result c.add-done.ensures.answer c.add-done.ensures.changes
+    (ap (λ (h : HoldingsView). is_open c.args.at.tab h.live.tabs) c.self.view_is
     ∙ c.requires.«open») (λ tree. tree_added frames tree rules c.args.at c.args.parent url sandbox
     c.args.deny c.add-done.ensures.number) c.self.invariant
 
@@ -125,8 +125,8 @@ returns c = rw (← c.self.view_is) (
           load_in_place c.args.at.tab None (request rules c.args.now
           (frame_use rules site c.args.parent tab.frames url) head) c.in_ok-prepared.prepared own old new
           (frames_added rules c.args.at c.args.parent url sandbox c.args.deny tab.frames) refl refl ready.keeps ready.ready
-          c.add-done.ensures.site c.add-done.result (answered tab found)
-          c.add-done.ensures.put c.add-done.ensures.unchanged tab found c.load_answer.result c.load_answer.ensures.performed;
+          c.add-done.result (answered tab found) c.add-done.ensures.changes tab found
+          c.load_answer.result c.load_answer.ensures.performed;
       limit = c.cut_refused.ensures.limit ∙ c.write_rows.ensures.limit;
       changes = λ tab site found top.
           let ready = prepared tab site found top in

@@ -19,7 +19,7 @@ invariant_of-self c =
     let new : HoldingsView = record (shown c.self.inside) { live = c.click-done.new.live } in
     let frames = frames_at c.args.at.tab old.live.tabs in
     trees_in_place c.args.at.tab None old.live new.live (frames_clicked c.args.now c.args.at frames)
-    c.click-done.result c.click-done.ensures.answer c.click-done.ensures.put c.click-done.ensures.unchanged
+    c.click-done.result c.click-done.ensures.answer c.click-done.ensures.changes
     (ap (λ (h : HoldingsView). is_open c.args.at.tab h.live.tabs) c.self.view_is ∙ c.requires.«open»)
     (λ tree. tree_clicked frames tree c.args.now c.args.at) c.self.invariant
 
@@ -34,7 +34,6 @@ returns c = rw (← c.self.view_is) (record {
       old new c.frames_answer.result c.answer.ensures
       (ap (λ t. frames_clicked c.args.now c.args.at (frames_by t)) found)
       (acts_in_place c.args.at.tab None old new (frames_clicked c.args.now c.args.at frames) refl refl
-      (no_change c.self.inside.cookies) c.click-done.ensures.site c.click-done.result
-      c.click-done.ensures.answer c.click-done.ensures.put c.click-done.ensures.unchanged
+      (no_change c.self.inside.cookies) c.click-done.result c.click-done.ensures.answer c.click-done.ensures.changes
       tab found (body_of c.answer.result) c.frames_answer.result c.frames_answer.ensures.answered);
 })

@@ -75,8 +75,8 @@ invariant_of-self-2 c =
     (subst (λ r. Answers (λ _. frames_at c.args.at.tab c.navigate-done.new.live.tabs) NoMemory r c.navigate-done.result)
     (navigated_by rules c.args.at url c.args.by_self c.self.inside.live.tabs c.open_tab-tab.result.now
     c.in_ok-granted.granted (sym c.open_tab-tab.ensures.tab) c.in_ok-granted.ensures.granted)
-    c.navigate-done.ensures.answer) c.navigate-done.ensures.put
-    c.navigate-done.ensures.unchanged (ap (λ (h : HoldingsView). is_open c.args.at.tab h.live.tabs)
+    c.navigate-done.ensures.answer) c.navigate-done.ensures.changes
+    (ap (λ (h : HoldingsView). is_open c.args.at.tab h.live.tabs)
     c.self.view_is ∙ c.requires.«open») (λ tree. tree_navigated frames tree rules c.args.at url
     c.args.by_self) c.self.invariant
 
@@ -128,9 +128,8 @@ returns c = rw (← c.self.view_is) (
           (request rules c.args.now (nav_use rules site c.args.at.frame tab.frames url c.args.by_self
           c.args.method) head) c.in_ok-prepared.prepared own old new
           (frames_navigated rules c.args.at url c.args.by_self tab.frames) refl refl ready.keeps ready.ready
-          c.navigate-done.ensures.site c.navigate-done.result (answered tab found)
-          c.navigate-done.ensures.put c.navigate-done.ensures.unchanged tab found c.load_answer.result
-          c.load_answer.ensures.performed;
+          c.navigate-done.result (answered tab found) c.navigate-done.ensures.changes tab found
+          c.load_answer.result c.load_answer.ensures.performed;
       limit = c.cut_refused.ensures.limit ∙ c.write_rows.ensures.limit;
       changes = λ tab site found top.
           let ready = prepared tab site found top in

@@ -19,7 +19,7 @@ invariant_of-self c =
     let new : HoldingsView = record (shown c.self.inside) { live = c.remove-done.new.live } in
     let frames = frames_at c.args.at.tab old.live.tabs in
     trees_in_place c.args.at.tab None old.live new.live (frames_removed c.args.at frames)
-    c.remove-done.result c.remove-done.ensures.answer c.remove-done.ensures.put c.remove-done.ensures.unchanged
+    c.remove-done.result c.remove-done.ensures.answer c.remove-done.ensures.changes
     (ap (λ (h : HoldingsView). is_open c.args.at.tab h.live.tabs) c.self.view_is ∙ c.requires.«open»)
     (λ tree. tree_removed frames tree c.args.at) c.self.invariant
 
@@ -33,7 +33,6 @@ returns c = rw (← c.self.view_is) (record {
       (frames_removed c.args.at tab.frames) old new c.frames_answer.result c.answer.ensures
       (ap (λ t. frames_removed c.args.at (frames_by t)) found)
       (acts_in_place c.args.at.tab None old new (frames_removed c.args.at frames) refl refl
-      (no_change c.self.inside.cookies) c.remove-done.ensures.site c.remove-done.result
-      c.remove-done.ensures.answer c.remove-done.ensures.put c.remove-done.ensures.unchanged
+      (no_change c.self.inside.cookies) c.remove-done.result c.remove-done.ensures.answer c.remove-done.ensures.changes
       tab found (body_of c.answer.result) c.frames_answer.result c.frames_answer.ensures.answered);
 })

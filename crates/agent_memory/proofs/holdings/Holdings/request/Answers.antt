@@ -93,10 +93,10 @@ invariant_of-self-2 c =
     let frames = frames_at at.tab c.self.inside.live.tabs in
     trees_in_place at.tab None c.self.inside.live c.finish.new.live
     (Ok (requested outcome.sets_flag outcome.consumes at.frame frames)) (Ok tt) (ap Ok (sym c.finish.ensures.frames))
-    c.finish.ensures.put tt (ap (λ (h : HoldingsView). is_open at.tab h.live.tabs) c.self.view_is ∙ c.requires.«open»)
+    c.finish.ensures.changes (ap (λ (h : HoldingsView). is_open at.tab h.live.tabs) c.self.view_is ∙ c.requires.«open»)
     (λ tree. (
       tree_requested frames tree outcome.sets_flag outcome.consumes at.frame,
-      ap top_site (sym c.finish.ensures.frames) ∙ c.finish.ensures.site,
+      ap top_site (sym c.finish.ensures.frames) ∙ c.finish.ensures.changes.site,
     )) c.self.invariant
 
 -- the document is that of the frame, the permission is under the site of the tab, and the outcome is that of the table
@@ -136,7 +136,7 @@ returns-clause-acts c = rw (← c.self.view_is) (λ tab site found top.
     (plain_document c.in-Some.document.now) outcome old
     c.finish.new.live c.keep.new.grants.rows (body_of c.answer-2.result) found is.0 is.2
     (c.finish.ensures.frames ∙ ap (λ t. requested outcome.sets_flag outcome.consumes c.args.at.frame (frames_by t)) found)
-    c.finish.ensures.put (c.finish.ensures.site ∙ ap (λ t. top_site (frames_by t)) found)
+    c.finish.ensures.changes
     (c.keep.ensures.rows ∙ (λ i. rows_kept (c.in_ok-row.ensures.row i) (c.in_ok-row.ensures.same i))
     ∙ rows_are outcome.kept (plain_site c.top_site-top.result.now) (plain_site c.in_ok-site.site) old.grants
     ∙ λ i. grants_requested outcome.kept (is.1 i) (c.in_ok-site.ensures.site i) old.grants)

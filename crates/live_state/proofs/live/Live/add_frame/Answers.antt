@@ -7,8 +7,7 @@ use Rattle.frame_tree.specs.declared.tab.TreeFault.{TreeFault}
 use Rattle.frame_tree.specs.declared.tab.TreeFault.TheVariants.{NoMemory}
 use Rattle.frame_tree.specs.Calls.{added}
 use Rattle.frame_tree.specs.Plain.{plain_sandbox}
-use Rattle.live_state.specs.Queues.{is_ready}
-use Rattle.live_state.proofs.FramesInPlaceLemmas.{IsWritten, framed, frames-gap, indexed-in, kept-in, put-in, site-in, written}
+use Rattle.live_state.proofs.FramesInPlaceLemmas.{IsWritten, changes-in, framed, frames-gap, indexed-in, written}
 use Rattle.live_state.proofs.live.Live.add_frame.Goals as goal
 use Rattle.live_state.proofs.live.Live.add_frame.Goals.{After-self-1}
 
@@ -27,15 +26,8 @@ pub returns-in-Ok-clause-decided : goal.returns-in-Ok-clause-decided
 returns-in-Ok-clause-decided c =
     framed (changed c) (λ before after. (why : TreeFault) → added c.args.list.now.rules c.args.parent c.args.at.frame (plain_address c.args.address) (plain_sandbox c.args.sandbox) c.args.deny before ≡ Err why → c.add_frame.result ≡ Err why) c.add_frame.ensures.decided
 
-pub returns-in-Ok-clause-put : goal.returns-in-Ok-clause-put
-returns-in-Ok-clause-put c = put-in (changed c) c.add_frame.ensures.changes
-
-pub returns-in-Ok-clause-site : goal.returns-in-Ok-clause-site
-returns-in-Ok-clause-site c = site-in (changed c) c.add_frame.ensures.changes
-
-pub returns-in-Ok-clause-kept : goal.returns-in-Ok-clause-kept
-returns-in-Ok-clause-kept c = λ other stay ready.
-    kept-in (changed c) c.add_frame.ensures.changes other stay (ap (λ live. is_ready live other) c.self.view_is ∙ ready)
+pub returns-in-Ok-clause-changes : goal.returns-in-Ok-clause-changes
+returns-in-Ok-clause-changes c = changes-in (changed c) c.add_frame.ensures.changes _ c.self.view_is
 
 pub returns-in-Err-clause-answer : goal.returns-in-Err-clause-answer
 returns-in-Err-clause-answer c =

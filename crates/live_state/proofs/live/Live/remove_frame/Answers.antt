@@ -1,9 +1,8 @@
 -- The frames of the tab at the place, or of none.
-use Rattle.std.proofs.Common.{ap, refl, rules, ◌∙◌}
+use Rattle.std.proofs.Common.{ap, refl, rules}
 use Rattle.frame_tree.specs.Tree.{has_frame}
 use Rattle.frame_tree.specs.Calls.{IsDoneAt, without}
-use Rattle.live_state.specs.Queues.{is_ready}
-use Rattle.live_state.proofs.FramesInPlaceLemmas.{IsWritten, framed, frames-gap, indexed-in, kept-in, put-in, site-in, written}
+use Rattle.live_state.proofs.FramesInPlaceLemmas.{IsWritten, changes-in, framed, frames-gap, indexed-in, written}
 use Rattle.live_state.proofs.live.Live.remove_frame.Goals as goal
 use Rattle.live_state.proofs.live.Live.remove_frame.Goals.{After-self-1}
 
@@ -19,15 +18,8 @@ returns-in-Ok-clause-removed c =
     framed (changed c) (λ before after. IsDoneAt c.args.at.frame before after (without c.args.at.frame before) c.remove_frame.result)
     c.remove_frame.ensures.removed
 
-pub returns-in-Ok-clause-put : goal.returns-in-Ok-clause-put
-returns-in-Ok-clause-put c = put-in (changed c) c.remove_frame.ensures.changes
-
-pub returns-in-Ok-clause-site : goal.returns-in-Ok-clause-site
-returns-in-Ok-clause-site c = site-in (changed c) c.remove_frame.ensures.changes
-
-pub returns-in-Ok-clause-kept : goal.returns-in-Ok-clause-kept
-returns-in-Ok-clause-kept c = λ other stay ready.
-    kept-in (changed c) c.remove_frame.ensures.changes other stay (ap (λ live. is_ready live other) c.self.view_is ∙ ready)
+pub returns-in-Ok-clause-changes : goal.returns-in-Ok-clause-changes
+returns-in-Ok-clause-changes c = changes-in (changed c) c.remove_frame.ensures.changes _ c.self.view_is
 
 pub returns-in-Err-clause-removed : goal.returns-in-Err-clause-removed
 returns-in-Err-clause-removed c =

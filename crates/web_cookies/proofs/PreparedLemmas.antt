@@ -2,6 +2,7 @@
 use Rattle.std.proofs.Common.{◌≡◌, ℕ, Bool, true, false, cond, List, map, Option, Some, None, pos, refl, sym, ap, subst, ◌∙◌}
 use Rattle.std.specs.Prelude.{IfSome, is_some, ◌==◌, ◌&&◌, length}
 use Rattle.std.specs.Ordering.{eq_by_cmp}
+use Rattle.std.specs.Rc.{rc_value}
 use Rattle.key_map.specs.Entries.{map_get, map_put, map_set}
 use Rattle.partition_limits.specs.declared.tally.CellKind.TheVariants as kind
 use Rattle.suffix_list.specs.Suffix.{Rule}
@@ -23,10 +24,13 @@ use Rattle.row_changes.specs.Plain.{plain_change}
 use Rattle.web_cookies.specs.Words.{AreStored, IsStored}
 use Rattle.web_cookies.specs.Stored.{Entries, IsDoneBy, held_with, shared_in}
 use Rattle.web_cookies.specs.Cells.{HaveKinds, cell_order, cookies_at, jar_at, kind_of}
-use Rattle.web_cookies.specs.Prepared.{HasPlace, IsReady, IsReadyIf, Prepares, changed, changed_if, cookies_after}
+use Rattle.web_cookies.specs.Becoming.{becomes_of}
+use Rattle.web_cookies.specs.Keys.{own_of, partition_of}
+use Rattle.web_cookies.specs.Prepared.{AreReady, HasPlace, HasPlaceIf, Prepares, changed, changed_if, cookies_after}
 use Rattle.web_cookies.specs.declared.change.Becomes.{Becomes}
 use Rattle.web_cookies.specs.declared.change.Becomes.TheVariants.{Marked, Stored}
-use Rattle.web_cookies.specs.CellsOfUse.{CanBeDone, HasPlaceIf, HoldSame, IsChange, KeepKeys, LeavesBoth, cookies_if, found, is_key, left_at, own_key, partition_key}
+use Rattle.web_cookies.specs.declared.change.BothChanges.{BothChanges}
+use Rattle.web_cookies.specs.CellsOfUse.{AreKeysOf, HasKey, HoldSame, KeepKeys, LeaveBoth, cookies_if, found, is_key, left_at, own_key, partition_key}
 use Rattle.web_cookies.specs.declared.prepared.Prepared.{Prepared}
 use Rattle.web_cookies.proofs.OrderOfCells.{alike, cell_order_total, equal_keys, order, own_tie}
 use Rattle.key_map.proofs.PlainKeyLemmas as plain
@@ -64,18 +68,46 @@ module _ (rules : List Rule) (now : ℕ) (how : CookieUse) (entries : Entries) (
 
 -- ---- what is prepared
 
-module _ (rules : List Rule) (how : CookieUse) (entries : Entries) (prepared : Prepared) where
-  -- an effect that leaves what was prepared
-  pub prepares_left : (both : BothCells) (changes : List PlainChange) (does : Effect) → CanBeDone prepared entries → LeavesBoth rules how both entries prepared
-      → map plain_change prepared.rows.items ≡ changes
-      → ((held : Holdings) → does (shared_in entries) (held_with entries held) ≡ leaves rules how both changes (body_of prepared.body) (shared_in entries) (held_with entries held))
-      → Prepares does entries prepared
-  prepares_left both changes does can left rows is = record {
-    own = can.own;
-    partition = can.partition;
-    done = λ new after. done_leaves rules how both entries new (λ key. after key ∙ left key) does changes (body_of prepared.body) is;
-    rows = λ held. rows ∙ sym (ap (λ d. d.changes) (is held));
-  }
+-- an effect that leaves what was prepared
+prepares_left : (rules : List Rule) (how : CookieUse) (entries : Entries) (prepared : Prepared) (both : BothCells) (changes : List PlainChange) (does : Effect)
+    → AreReady prepared.cells entries → LeaveBoth rules how both entries prepared.cells
+    → map plain_change prepared.rows.items ≡ changes
+    → ((held : Holdings) → does (shared_in entries) (held_with entries held) ≡ leaves rules how both changes (body_of prepared.body) (shared_in entries) (held_with entries held))
+    → Prepares does entries prepared
+prepares_left rules how entries prepared both changes does ready left rows is = record {
+  ready = ready;
+  done = λ new after. done_leaves rules how both entries new (λ key. after key ∙ left.left key) does changes (body_of prepared.body) is;
+  rows = λ held. rows ∙ sym (ap (λ d. d.changes) (is held));
+}
+
+-- what both cells become, where the keys are those of a use
+module _ (rules : List Rule) (how : CookieUse) (entries : Entries) (cells : BothChanges) (keys : AreKeysOf rules how (rc_value cells.keys)) where
+  abbrev own_makes : Cookies → Cookies
+  own_makes = becomes_of kind.Own cells.own
+
+  abbrev partition_makes : Cookies → Cookies
+  partition_makes = becomes_of kind.Partition cells.partition
+
+  abbrev made : BothCells
+  made = record { own = own_makes (found rules how entries).own; partition = partition_makes (found rules how entries).partition }
+
+  abbrev after : PlainKey → Cookies
+  after key = cookies_after cells key (cookies_at key entries)
+
+  abbrev wanted : PlainKey → Cookies
+  wanted key = left_at rules how made key (cookies_at key entries)
+
+  own_changed : (key : PlainKey) (cookies : Cookies)
+      → changed_if (own_of (rc_value cells.keys)) cells.own key cookies ≡ cond (is_key key (own_key rules how)) (own_makes cookies) cookies
+  own_changed key cookies = ap (λ cell. changed_if cell cells.own key cookies) keys.own ∙ at (uses_own how)
+    where
+      at : (b : Bool) → changed_if (cond b (Some (OwnCell (cookie_domain rules how))) None) cells.own key cookies
+          ≡ cond (is_key key (cond b (Some (OwnCell (cookie_domain rules how))) None)) (own_makes cookies) cookies
+      at true = refl
+      at false = refl
+
+  after_is : (key : PlainKey) → after key ≡ changed (partition_key rules how) cells.partition key (changed_if (own_of (rc_value cells.keys)) cells.own key (cookies_at key entries))
+  after_is key = ap (λ cell. changed cell cells.partition key (changed_if (own_of (rc_value cells.keys)) cells.own key (cookies_at key entries))) keys.partition
 
   not_own : is_key (partition_key rules how) (own_key rules how) ≡ false
   not_own = at (uses_own how)
@@ -84,49 +116,38 @@ module _ (rules : List Rule) (how : CookieUse) (entries : Entries) (prepared : P
       at true = refl
       at false = refl
 
-  -- both cells become what these make of them
-  module _ (own_makes partition_makes : Cookies → Cookies)
-      (own : IsChange (own_key rules how) own_makes prepared.own)
-      (partition : IsChange (Some (partition_key rules how)) partition_makes (Some prepared.partition)) where
-    abbrev made : BothCells
-    made = record { own = own_makes (found rules how entries).own; partition = partition_makes (found rules how entries).partition }
+  at_partition : after (partition_key rules how) ≡ wanted (partition_key rules how)
+  at_partition =
+      let key = partition_key rules how in
+      let cookies = cookies_at key entries in
+      let before = changed_if (own_of (rc_value cells.keys)) cells.own key cookies in
+      after_is key
+      ∙ ap (λ b. cond b (partition_makes before) before) (own_tie key)
+      ∙ ap partition_makes (own_changed key cookies ∙ ap (λ b. cond b (own_makes cookies) cookies) not_own)
+      ∙ sym (ap (λ b. cond b made.partition (cond (is_key key (own_key rules how)) made.own cookies)) (own_tie key))
 
-    abbrev after : PlainKey → Cookies
-    after key = cookies_after prepared key (cookies_at key entries)
+  own_cookies : (key : PlainKey) (own : Option PlainKey) (b : Bool) → is_key key own ≡ b
+      → cond b (own_makes (cookies_at key entries)) (cookies_at key entries) ≡ cond b (own_makes (cookies_if own entries)) (cookies_at key entries)
+  own_cookies key own false is = refl
+  own_cookies key None true is = cc
+  own_cookies key (Some other) true is = ap (λ k. own_makes (cookies_at k entries)) (equal_keys key other is)
 
-    abbrev wanted : PlainKey → Cookies
-    wanted key = left_at rules how made key (cookies_at key entries)
+  elsewhere : (key : PlainKey) → eq_by_cmp cell_order key (partition_key rules how) ≡ false → after key ≡ wanted key
+  elsewhere key apart =
+      let cookies = cookies_at key entries in
+      let before = changed_if (own_of (rc_value cells.keys)) cells.own key cookies in
+      after_is key
+      ∙ ap (λ b. cond b (partition_makes before) before) apart
+      ∙ own_changed key cookies
+      ∙ own_cookies key (own_key rules how) (is_key key (own_key rules how)) refl
+      ∙ sym (ap (λ b. cond b made.partition (cond (is_key key (own_key rules how)) made.own cookies)) apart)
 
-    at_partition : after (partition_key rules how) ≡ wanted (partition_key rules how)
-    at_partition =
-        let key = partition_key rules how in
-        let cookies = cookies_at key entries in
-        partition key (changed_if prepared.own key cookies)
-        ∙ ap (λ b. cond b (partition_makes (changed_if prepared.own key cookies)) (changed_if prepared.own key cookies)) (own_tie key)
-        ∙ ap partition_makes (own key cookies ∙ ap (λ b. cond b (own_makes cookies) cookies) not_own)
-        ∙ sym (ap (λ b. cond b made.partition (cond (is_key key (own_key rules how)) made.own cookies)) (own_tie key))
-
-    own_cookies : (key : PlainKey) (own : Option PlainKey) (b : Bool) → is_key key own ≡ b
-        → cond b (own_makes (cookies_at key entries)) (cookies_at key entries) ≡ cond b (own_makes (cookies_if own entries)) (cookies_at key entries)
-    own_cookies key own false is = refl
-    own_cookies key None true is = cc
-    own_cookies key (Some other) true is = ap (λ k. own_makes (cookies_at k entries)) (equal_keys key other is)
-
-    elsewhere : (key : PlainKey) → eq_by_cmp cell_order key (partition_key rules how) ≡ false → after key ≡ wanted key
-    elsewhere key apart =
-        let cookies = cookies_at key entries in
-        partition key (changed_if prepared.own key cookies)
-        ∙ ap (λ b. cond b (partition_makes (changed_if prepared.own key cookies)) (changed_if prepared.own key cookies)) apart
-        ∙ own key cookies
-        ∙ own_cookies key (own_key rules how) (is_key key (own_key rules how)) refl
-        ∙ sym (ap (λ b. cond b made.partition (cond (is_key key (own_key rules how)) made.own cookies)) apart)
-
-    pub made_left : LeavesBoth rules how made entries prepared
-    made_left = λ key. at key (eq_by_cmp cell_order key (partition_key rules how)) refl
-      where
-        at : (key : PlainKey) (b : Bool) → eq_by_cmp cell_order key (partition_key rules how) ≡ b → after key ≡ wanted key
-        at key true tie = subst (λ k. after k ≡ wanted k) (sym (equal_keys key (partition_key rules how) tie)) at_partition
-        at key false apart = elsewhere key apart
+  pub made_left : LeaveBoth rules how made entries cells
+  made_left = record { left = λ key. at key (eq_by_cmp cell_order key (partition_key rules how)) refl }
+    where
+      at : (key : PlainKey) (b : Bool) → eq_by_cmp cell_order key (partition_key rules how) ≡ b → after key ≡ wanted key
+      at key true tie = subst (λ k. after k ≡ wanted k) (sym (equal_keys key (partition_key rules how) tie)) at_partition
+      at key false apart = elsewhere key apart
 
 -- ---- what was prepared is done
 
@@ -135,14 +156,16 @@ place_kept key (Marked places now new) old mid kept place = tt
 place_kept key (Stored jar) old mid kept place = kept key place
 
 -- both changes, one after the other
-pub both_done : (prepared : Prepared) (old mid new : Entries)
-    → (IsReadyIf prepared.own old → (key : PlainKey) → cookies_at key mid ≡ changed_if prepared.own key (cookies_at key old))
+pub both_done : (prepared : Prepared) (old mid new : Entries) → let cells = prepared.cells in
+    (HasPlaceIf (own_of (rc_value cells.keys)) old cells.own → (key : PlainKey) → cookies_at key mid ≡ changed_if (own_of (rc_value cells.keys)) cells.own key (cookies_at key old))
     → KeepKeys old mid
-    → (IsReady prepared.partition mid → (key : PlainKey) → cookies_at key new ≡ changed prepared.partition key (cookies_at key mid))
+    → (HasPlace (partition_of (rc_value cells.keys)) mid cells.partition → (key : PlainKey) → cookies_at key new ≡ changed (partition_of (rc_value cells.keys)) cells.partition key (cookies_at key mid))
     → (does : Effect) → Prepares does old prepared → IsDoneBy does old new (body_of prepared.body)
-both_done prepared old mid new first kept second does is = is.done new (λ key.
-    second (place_kept (plain_key prepared.partition.key) prepared.partition.becomes old mid kept is.partition) key
-    ∙ ap (changed prepared.partition key) (first is.own key))
+both_done prepared old mid new first kept second does is =
+    let cells = prepared.cells in
+    is.done new (λ key.
+    second (place_kept (partition_of (rc_value cells.keys)) cells.partition old mid kept is.ready.partition) key
+    ∙ ap (changed (partition_of (rc_value cells.keys)) cells.partition key) (first is.ready.own key))
 
 -- ---- a request
 
@@ -177,7 +200,7 @@ module _ (rules : List Rule) (now : ℕ) (how : CookieUse) where
       → map plain_change prepared.rows.items ≡ (store_texts rules now how before (cookie_texts head)).changes
       → header ≡ header_text (sent now how (found rules how old))
       → body_of prepared.body ≡ Load header words
-      → LeavesBoth rules how after new prepared → CanBeDone prepared new
+      → LeaveBoth rules how after new prepared.cells → AreReady prepared.cells new
       → Prepares (request rules now how head) new prepared
   request_prepared old new head prepared before after header words same marks stores rows tells is_body left can =
       let stored = store_texts rules now how before (cookie_texts head) in
@@ -198,7 +221,7 @@ module _ (rules : List Rule) (now : ℕ) (how : CookieUse) where
       → IsStored (store_text rules now how (found rules how old) text) after word
       → map plain_change prepared.rows.items ≡ (store_text rules now how (found rules how old) text).changes
       → body_of prepared.body ≡ SetOne word
-      → LeavesBoth rules how after new prepared → CanBeDone prepared new
+      → LeaveBoth rules how after new prepared.cells → AreReady prepared.cells new
       → Prepares (set_cookie_by rules now how text) new prepared
   set_prepared old new text prepared after word same stores rows is_body left can =
       let stored = store_text rules now how (found rules how old) text in
@@ -216,18 +239,15 @@ module _ (rules : List Rule) (now : ℕ) (how : CookieUse) where
     body = ap Cookie is ∙ sym (ap (λ done. done.body) (read_is rules now how entries held));
   }
 
--- the key of an unpartitioned cell
-pub own_kind : (rules : List Rule) (how : CookieUse) (key : Option PlainKey) → key ≡ own_key rules how → IfSome key (λ k. kind_of k ≡ kind.Own)
-own_kind rules how key is = subst (λ o. IfSome o (λ k. kind_of k ≡ kind.Own)) (sym is) (at (uses_own how))
-  where
-    at : (b : Bool) → IfSome (cond b (Some (OwnCell (cookie_domain rules how))) None) (λ k. kind_of k ≡ kind.Own)
-    at true = refl
-    at false = tt
-
 -- marks have a place wherever their key is
 pub marks_place : (key : Option PlainKey) (entries : Entries) (becomes : Becomes) → ((k : PlainKey) → HasPlace k entries becomes) → HasPlaceIf key entries becomes
 marks_place None entries becomes place = tt
 marks_place (Some key) entries becomes place = place key
+
+-- what is stored has a place where its key has one
+pub stored_place : (key : Option PlainKey) (entries : Entries) (jar : PlainJar) → HasKey key entries → HasPlaceIf key entries (Stored jar)
+stored_place None entries jar place = tt
+stored_place (Some key) entries jar place = place
 
 -- ---- kinds
 

@@ -4,18 +4,16 @@ use Rattle.std.specs.Prelude.{if◌then◌else◌, is_some, option_map, string_b
 use Rattle.std.specs.Ordering.{eq_by_cmp}
 use Rattle.suffix_list.specs.Suffix.{Rule}
 use Rattle.cookie_jar.specs.Cookie.{PlainJar}
-use Rattle.cookie_jar.specs.Key.{PlainKey, OwnCell, plain_key}
+use Rattle.cookie_jar.specs.Key.{PlainKey, OwnCell, PartitionCell, plain_key}
 use Rattle.agent_model.specs.CookieCells.{Cookies, Domain}
 use Rattle.agent_model.specs.CookieUse.{CookieUse, cookie_domain, key_of, uses_own}
 use Rattle.cookie_jar.specs.Sending.{joined}
 use Rattle.agent_model.specs.CookieStore.{BothCells, own_places, partition_places, sent}
 use Rattle.web_cookies.specs.Stored.{Entries}
 use Rattle.web_cookies.specs.Cells.{cell_key, cell_order, cookies_at, jar_at}
-use Rattle.web_cookies.specs.Prepared.{HasPlace, IsReady, IsReadyIf, changed_if, cookies_after}
-use Rattle.web_cookies.specs.declared.change.Becomes.{Becomes}
-use Rattle.web_cookies.specs.declared.change.CellChange.{CellChange}
+use Rattle.web_cookies.specs.Prepared.{cookies_after}
+use Rattle.web_cookies.specs.declared.change.BothChanges.{BothChanges}
 use Rattle.web_cookies.specs.declared.keys.UseKeys.{UseKeys}
-use Rattle.web_cookies.specs.declared.prepared.Prepared.{Prepared}
 use Rattle.web_cookies.specs.declared.sending.Sending.{Sending}
 
 -- the key of the unpartitioned cell of a domain, where a use has one
@@ -26,7 +24,11 @@ own_key_at domain how = if uses_own how then Some (OwnCell domain) else None
 abbrev pub own_key : List Rule → CookieUse → Option PlainKey
 own_key rules how = own_key_at (cookie_domain rules how) how
 
--- the key of the partitioned cell
+-- the key of the partitioned cell of a domain
+abbrev pub partition_key_at : Domain → CookieUse → PlainKey
+partition_key_at domain how = PartitionCell how.top how.context.bit domain
+
+-- the key of its partitioned cell
 abbrev pub partition_key : List Rule → CookieUse → PlainKey
 partition_key rules how = cell_key (key_of rules how)
 
@@ -63,29 +65,11 @@ left_at rules how both key cookies =
     if eq_by_cmp cell_order key (partition_key rules how) then both.partition
     else (if is_key key (own_key rules how) then both.own else cookies)
 
--- what was prepared leaves both cells of a use so
-abbrev pub LeavesBoth : List Rule → CookieUse → BothCells → Entries → Prepared → Type 0
-LeavesBoth rules how both entries prepared =
-    (key : PlainKey)
-    → cookies_after prepared key (cookies_at key entries)
-    ≡ left_at rules how both key (cookies_at key entries)
-
--- a change makes this of the cookies of a key, where there is a key
-abbrev pub IsChange : Option PlainKey → (Cookies → Cookies) → Option CellChange → Type 0
-IsChange key becomes change =
-    (q : PlainKey) (cookies : Cookies)
-    → changed_if change q cookies
-    ≡ (if is_key q key then becomes cookies else cookies)
-
--- it can be done where the key has a place
-abbrev pub HasPlaceIf : Option PlainKey → Entries → Becomes → Type 0
-HasPlaceIf None entries becomes = ⊤
-HasPlaceIf (Some key) entries becomes = HasPlace key entries becomes
-
--- what was prepared can be done to these cookies
-pub record CanBeDone (prepared : Prepared) (entries : Entries) : Type 0 where
-  pub own : IsReadyIf prepared.own entries
-  pub partition : IsReady prepared.partition entries
+-- changes leave both cells of a use so
+pub record LeaveBoth (rules : List Rule) (how : CookieUse) (both : BothCells) (entries : Entries)
+    (changes : BothChanges) : Type 0 where
+  pub left : (key : PlainKey) → cookies_after changes key (cookies_at key entries)
+      ≡ left_at rules how both key (cookies_at key entries)
 
 -- each key has the cookies that it had
 abbrev pub HoldSame : (old new : Entries) → Type 0

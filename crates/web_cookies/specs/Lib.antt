@@ -2,6 +2,7 @@
 pub mod Stored
 pub mod Uses
 pub mod Cells
+pub mod Keys
 pub mod Becoming
 pub mod Prepared
 pub mod Rows

@@ -3,7 +3,8 @@
 -- Source: none.
 use Rattle.std.specs.Prelude.{◌≡◌, ⊤, true, Option, Some, None, is_some, map, if◌then◌else◌}
 use Rattle.std.specs.Ordering.{eq_by_cmp}
-use Rattle.cookie_jar.specs.Key.{PlainKey, plain_key}
+use Rattle.std.specs.Rc.{rc_value}
+use Rattle.cookie_jar.specs.Key.{PlainKey}
 use Rattle.reply_lines.specs.Plain.{body_of}
 use Rattle.agent_model.specs.CookieCells.{Cookies}
 use Rattle.row_changes.specs.Plain.{plain_change}
@@ -12,9 +13,10 @@ use Rattle.agent_model.specs.Partition.{Holdings}
 use Rattle.web_cookies.specs.Stored.{Entries, IsDoneBy, held_with, shared_in}
 use Rattle.web_cookies.specs.Cells.{cell_order, cookies_at, jar_at, kind_of}
 use Rattle.web_cookies.specs.Becoming.{becomes_of}
+use Rattle.web_cookies.specs.Keys.{own_of, partition_of}
 use Rattle.web_cookies.specs.declared.change.Becomes.{Becomes}
 use Rattle.web_cookies.specs.declared.change.Becomes.TheVariants.{Marked, Stored}
-use Rattle.web_cookies.specs.declared.change.CellChange.{CellChange}
+use Rattle.web_cookies.specs.declared.change.BothChanges.{BothChanges}
 use Rattle.web_cookies.specs.declared.prepared.Prepared.{Prepared}
 
 -- there is a place for what a cell becomes
@@ -22,42 +24,41 @@ abbrev pub HasPlace : PlainKey → Entries → Becomes → Type 0
 HasPlace key entries (Marked places now new) = ⊤
 HasPlace key entries (Stored jar) = is_some (jar_at key entries) ≡ true
 
--- a change can be done to these cookies
-abbrev pub IsReady : CellChange → Entries → Type 0
-IsReady change entries = HasPlace (plain_key change.key) entries change.becomes
+-- and for what one becomes that there may be
+abbrev pub HasPlaceIf : Option PlainKey → Entries → Becomes → Type 0
+HasPlaceIf None entries becomes = ⊤
+HasPlaceIf (Some key) entries becomes = HasPlace key entries becomes
 
--- the cookies of a key, once a cell was changed
-abbrev pub changed : CellChange → PlainKey → Cookies → Cookies
-changed change key cookies =
-    if eq_by_cmp cell_order key (plain_key change.key)
-    then becomes_of (kind_of (plain_key change.key)) change.becomes cookies
-    else cookies
+-- the cookies of a key, once a cell became so
+abbrev pub changed : PlainKey → Becomes → PlainKey → Cookies → Cookies
+changed cell becomes key cookies =
+    if eq_by_cmp cell_order key cell then becomes_of (kind_of cell) becomes cookies else cookies
 
--- a change that there may be can be done
-abbrev pub IsReadyIf : Option CellChange → Entries → Type 0
-IsReadyIf None entries = ⊤
-IsReadyIf (Some change) entries = IsReady change entries
+-- the cookies of a key, once a cell became so, if there is one
+abbrev pub changed_if : Option PlainKey → Becomes → PlainKey → Cookies → Cookies
+changed_if None becomes key cookies = cookies
+changed_if (Some cell) becomes key cookies = changed cell becomes key cookies
 
--- the cookies of a key, once the cell was changed where there is a change
-abbrev pub changed_if : Option CellChange → PlainKey → Cookies → Cookies
-changed_if None key cookies = cookies
-changed_if (Some change) key cookies = changed change key cookies
+-- both changes can be done to these cookies
+pub record AreReady (changes : BothChanges) (entries : Entries) : Type 0 where
+  pub own : HasPlaceIf (own_of (rc_value changes.keys)) entries changes.own
+  pub partition : HasPlace (partition_of (rc_value changes.keys)) entries changes.partition
 
--- the cookies of a key, once all was done that was prepared
-abbrev pub cookies_after : Prepared → PlainKey → Cookies → Cookies
-cookies_after prepared key cookies =
-    changed prepared.partition key (changed_if prepared.own key cookies)
+-- the cookies of a key, once both changes were done
+abbrev pub cookies_after : BothChanges → PlainKey → Cookies → Cookies
+cookies_after changes key cookies =
+    changed (partition_of (rc_value changes.keys)) changes.partition key
+    (changed_if (own_of (rc_value changes.keys)) changes.own key cookies)
 
--- it was done
-abbrev pub IsAfter : Prepared → (old new : Entries) → Type 0
-IsAfter prepared old new =
-    (key : PlainKey) → cookies_at key new ≡ cookies_after prepared key (cookies_at key old)
+-- they were done
+abbrev pub AreDone : BothChanges → (old new : Entries) → Type 0
+AreDone changes old new =
+    (key : PlainKey) → cookies_at key new ≡ cookies_after changes key (cookies_at key old)
 
 -- it was prepared for an effect on these cookies
 pub record Prepares (does : Effect) (entries : Entries) (prepared : Prepared) : Type 0 where
-  pub own : IsReadyIf prepared.own entries
-  pub partition : IsReady prepared.partition entries
-  pub done : (new : Entries) → IsAfter prepared entries new
+  pub ready : AreReady prepared.cells entries
+  pub done : (new : Entries) → AreDone prepared.cells entries new
       → IsDoneBy does entries new (body_of prepared.body)
   pub rows : (others : Holdings) → map plain_change prepared.rows.items
       ≡ (does (shared_in entries) (held_with entries others)).changes

@@ -1,12 +1,16 @@
 //! What a cell becomes.
 ghost use Rattle.std.specs.Prelude.{◌≡◌, IsTrue};
+ghost use Rattle.std.specs.Option.{ForSome};
+ghost use Rattle.std.specs.Rc.{rc_value};
 ghost use Rattle.partition_limits.specs.declared.tally.CellKind.{CellKind};
-ghost use Rattle.cookie_jar.specs.Key.{plain_key};
 ghost use Rattle.agent_model.specs.CookieCells.{Cookies};
 ghost use Rattle.web_cookies.specs.Becoming.{FitsKey, becomes_of, kind_after, replaced_in};
+ghost use Rattle.web_cookies.specs.Keys.{own_of, partition_of};
 
+use crate::keys::UseKeys;
 use crate::rows::replace_in;
-use cookie_jar::{CellKey, Cookie, Jar};
+use cookie_jar::{Cookie, Jar};
+use std::rc::Rc;
 
 /// A cookie, and the place of the same one, which it is put in.
 #[derive(Debug, Drop)]
@@ -28,13 +32,16 @@ pub enum Becomes {
     Stored(Jar),
 }
 
-/// A cell, and what its cookies become.
+/// The cells of a use, and what their cookies become. Where a use has no unpartitioned cell, what
+/// `own` says is not done.
 #[derive(Debug, Drop)]
-pub struct CellChange {
-    pub key: CellKey,
-    pub becomes: Becomes,
-    // a jar is of the kind of the cell
-    ghost fits: { FitsKey (plain_key key) becomes },
+pub struct BothChanges {
+    pub keys: Rc<UseKeys>,
+    pub own: Becomes,
+    pub partition: Becomes,
+    // a jar is of the kind of its cell
+    ghost own_fits: { ForSome (own_of (rc_value keys)) (λ key. FitsKey key own) },
+    ghost partition_fits: { FitsKey (partition_of (rc_value keys)) partition },
 }
 
 /// Whether the cookies of any cell stay as they are.

@@ -1,5 +1,7 @@
 //! The cookies of all sites, by cell.
 ghost use Rattle.std.specs.Prelude.{◌≡◌, ◌≤◌, [], IfOk, IfSome, IsOk, OnErr, OnOk, is_some, map, option_map, true};
+ghost use Rattle.std.specs.Option.{ForSome};
+ghost use Rattle.std.specs.Rc.{rc_value};
 ghost use Rattle.cookie_jar.specs.Key.{PlainKey, plain_key};
 ghost use Rattle.partition_limits.specs.declared.tally.CellKind.TheVariants as kind;
 ghost use Rattle.reply_lines.specs.Plain.{body_of};
@@ -12,11 +14,12 @@ ghost use Rattle.agent_model.specs.Rest.{last_moment};
 ghost use Rattle.web_cookies.specs.Stored.{IsDoneBy, shared_in, partitioned_in};
 ghost use Rattle.web_cookies.specs.Uses.{plain_use};
 ghost use Rattle.web_cookies.specs.Cells.{cookies_at, jar_at, kind_of};
-ghost use Rattle.web_cookies.specs.Prepared.{Prepares, IsReady, IsReadyIf, changed, changed_if};
+ghost use Rattle.web_cookies.specs.Prepared.{HasPlace, HasPlaceIf, Prepares, changed, changed_if};
+ghost use Rattle.web_cookies.specs.Becoming.{FitsKey};
 ghost use Rattle.web_cookies.specs.CellsOfUse.{AreKeysOf, HasKey, HoldSame, IsSending, KeepKeys, cookies_if, found};
 
 use crate::both::BothJars;
-use crate::change::{CellChange, is_nothing, write};
+use crate::change::{Becomes, BothChanges, is_nothing, write};
 use crate::cookie_use::CookieUse;
 use crate::keys::{UseKeys, keys_of};
 use crate::prepared::{Prepared, marking, setting, storing};
@@ -30,6 +33,7 @@ use row_changes::Change;
 use script_actions::HeadField;
 use std::alloc::Global;
 use std::marker::Model;
+use std::rc::Rc;
 use suffix_list::SuffixList;
 
 /// The cookies of all sites: a jar for each cell.
@@ -38,6 +42,9 @@ use suffix_list::SuffixList;
 #[derive(Debug, Drop)]
 pub struct Cookies {
     pub(crate) cells: KeyMap<CellKey, Jar>,
+    // The keys of the last use that was performed. Requests of a page mostly use the same cells,
+    // and then the next one makes no keys.
+    last_keys: Option<Rc<UseKeys>>,
 }
 
 impl Model for Cookies {
@@ -59,6 +66,7 @@ impl Cookies {
     {
         Cookies {
             cells: KeyMap::new(alloc),
+            last_keys: None,
         }
     }
 
@@ -66,7 +74,7 @@ impl Cookies {
     /// texts of its response are stored. Changes no cookie.
     ///
     /// Where the response has no Set-Cookie text, or one alone that replaces a cookie and does no
-    /// more, no jar is copied. Each call takes the memory of the keys of both cells.
+    /// more, no jar is copied. The keys of both cells are made where the last use had others.
     pub fn prepare(
         &mut self,
         alloc: Global,
@@ -82,7 +90,7 @@ impl Cookies {
             (request list.now.rules now (plain_use how.now) (map head_field_of head.now)) self.new
             prepared) }
     {
-        let keys = keys_of(alloc, list, how)?;
+        let keys = keys_of(alloc, list, how, &self.last_keys)?;
         let in_place = self.texts_in_place(alloc, list, now, how, &keys, head)?;
         let Some((stored, words)) = in_place else {
             return self.prepare_storing(alloc, list, now, how, head, keys);
@@ -96,14 +104,15 @@ impl Cookies {
         ensures done { (does : Effect) → Prepares does self.old prepared
             → IsDoneBy does self.old self.new (body_of result) }
     {
-        let Prepared {
+        let Prepared { cells, body, .. } = prepared;
+        let BothChanges {
+            keys,
             own,
             partition,
-            body,
-            ..
-        } = prepared;
-        self.change_if(own);
-        self.change(partition);
+        } = cells;
+        self.change_if(&keys.own, own);
+        self.change(&keys.partition, partition);
+        self.last_keys = Some(keys);
         body
     }
 
@@ -125,7 +134,7 @@ impl Cookies {
         ensures prepared { IfOk result (λ prepared. Prepares
             (set_cookie_by list.now.rules now (plain_use how.now) text.now) self.new prepared) }
     {
-        let keys = keys_of(alloc, list, how)?;
+        let keys = keys_of(alloc, list, how, &self.last_keys)?;
         let in_place = self.text_in_place(alloc, list, now, how, &keys, text)?;
         if let Some((stored, word)) = in_place {
             return Ok(setting(alloc, keys, stored, word));
@@ -149,7 +158,7 @@ impl Cookies {
             (read_cookies_by list.now.rules now (plain_use how.now)) self.now self.now
             (body_of body)) }
     {
-        let keys = keys_of(alloc, list, how)?;
+        let keys = keys_of(alloc, list, how, &self.last_keys)?;
         let Sending { text, .. } = self.sending(alloc, list, now, how, &keys)?;
         Ok(ReplyBody::Cookie { cookie: text })
     }
@@ -210,10 +219,10 @@ impl Cookies {
         now: u64,
         how: &CookieUse<'_>,
         head: &[HeadField],
-        keys: UseKeys,
+        keys: Rc<UseKeys>,
     ) -> Result<Prepared, NoMemory>
         requires now { now ≤ last_moment }
-        requires keys { AreKeysOf list.now.rules (plain_use how.now) keys }
+        requires keys { AreKeysOf list.now.rules (plain_use how.now) (rc_value keys) }
         ensures same { HoldSame self.old self.new }
         ensures prepared { IfOk result (λ prepared. Prepares
             (request list.now.rules now (plain_use how.now) (map head_field_of head.now)) self.new
@@ -307,29 +316,32 @@ impl Cookies {
         self.cells.insert(key.copy(alloc)?, Jar::new(alloc, kind))
     }
 
-    // Does a change of a cell, if there is one.
-    fn change_if(&mut self, change: Option<CellChange>)
-        ensures changed { IsReadyIf change self.old → (key : PlainKey)
-            → cookies_at key self.new ≡ changed_if change key (cookies_at key self.old) }
+    // Makes of the cookies of a cell what they become, if there is a cell.
+    fn change_if(&mut self, key: &Option<CellKey>, becomes: Becomes)
+        requires fits { ForSome (option_map plain_key key.now) (λ cell. FitsKey cell becomes) }
+        ensures changed { HasPlaceIf (option_map plain_key key.now) self.old becomes
+            → (q : PlainKey) → cookies_at q self.new
+            ≡ changed_if (option_map plain_key key.now) becomes q (cookies_at q self.old) }
         ensures kept { KeepKeys self.old self.new }
     {
-        match change {
-            Some(change) => self.change(change),
+        match key {
+            Some(key) => self.change(key, becomes),
             None => {}
         }
     }
 
-    // Does a change of a cell.
-    fn change(&mut self, change: CellChange)
-        ensures changed { IsReady change self.old → (key : PlainKey)
-            → cookies_at key self.new ≡ changed change key (cookies_at key self.old) }
+    // Makes of the cookies of a cell what they become.
+    fn change(&mut self, key: &CellKey, becomes: Becomes)
+        requires fits { FitsKey (plain_key key.now) becomes }
+        ensures changed { HasPlace (plain_key key.now) self.old becomes → (q : PlainKey)
+            → cookies_at q self.new
+            ≡ changed (plain_key key.now) becomes q (cookies_at q self.old) }
         ensures kept { KeepKeys self.old self.new }
     {
-        let CellChange { key, becomes } = change;
         if is_nothing(&becomes) {
             return;
         }
-        let Some(jar) = self.cells.get_mut(&key) else {
+        let Some(jar) = self.cells.get_mut(key) else {
             return;
         };
         write(jar, becomes);

@@ -1,8 +1,9 @@
 -- The text is stored in place, or in copies of both cells.
-use Rattle.std.proofs.Common.{◌++◌, map, ap, ◌∙◌, subst}
-use Rattle.std.specs.Prelude.{IfSome, option_map}
-use Rattle.cookie_jar.specs.Key.{plain_key}
-use Rattle.web_cookies.specs.CellsOfUse.{found}
+use Rattle.std.proofs.Common.{◌≡◌, ◌++◌, Some, map, ap, ◌∙◌, subst}
+use Rattle.std.specs.Prelude.{IfSome}
+use Rattle.std.specs.Rc.{rc_value}
+use Rattle.web_cookies.specs.CellsOfUse.{HasKey, found}
+use Rattle.web_cookies.specs.Keys.{own_of, partition_of}
 use Rattle.web_cookies.specs.InPlace.{IsInPlace}
 use Rattle.reply_lines.specs.Plain.{body_of}
 use Rattle.row_changes.specs.Plain.{plain_change}
@@ -10,7 +11,7 @@ use Rattle.agent_model.specs.CookieStore.{store_text}
 use Rattle.web_cookies.specs.Uses.{plain_use}
 use Rattle.web_cookies.specs.Words.{IsStored}
 use Rattle.web_cookies.proofs.LeftLemmas.{shared_same, partitioned_same}
-use Rattle.web_cookies.proofs.PreparedLemmas.{own_kind, set_prepared}
+use Rattle.web_cookies.proofs.PreparedLemmas.{set_prepared}
 use Rattle.web_cookies.proofs.cookies.Cookies.prepare_set.Goals as goal
 
 pub returns-in_err-both-clause-shared : goal.returns-in_err-both-clause-shared
@@ -37,6 +38,7 @@ returns-clause-prepared c =
     let now = c.args.now in
     let how = plain_use c.args.how.now in
     let mid = c.copies.new.self in
+    let keys : c.deref-2.result.now ≡ rc_value c.in_ok-keys.keys = search in
     let rows = c.in_ok-word.ensures.rows
     ∙ ap (λ items. map plain_change items ++ (store_text rules now how c.in_ok-both.both c.args.text.now).changes) c.new-rows.ensures.items
     ∙ ap (λ both. (store_text rules now how both c.args.text.now).changes) c.in_ok-both.ensures.found in
@@ -45,10 +47,8 @@ returns-clause-prepared c =
     (ap (λ v. map plain_change v.items) c.storing.ensures.rows ∙ rows)
     (ap body_of c.storing.ensures.body)
     (c.storing.ensures.left rules how mid c.in_ok-keys.ensures.keys)
-    (c.storing.ensures.ready mid c.in_ok-both.ensures.own c.in_ok-both.ensures.partition)
-
-pub setting-requires-clause-own : goal.setting-requires-clause-own
-setting-requires-clause-own c = own_kind c.args.list.now.rules (plain_use c.args.how.now) (option_map plain_key c.in_ok-keys.keys.own) c.in_ok-keys.ensures.keys.own
+    (c.storing.ensures.ready mid (subst (λ keys. HasKey (own_of keys) mid) keys c.in_ok-both.ensures.own)
+    (subst (λ keys. HasKey (Some (partition_of keys)) mid) keys c.in_ok-both.ensures.partition))
 
 pub returns-in-Some-clause-prepared : goal.returns-in-Some-clause-prepared
 returns-in-Some-clause-prepared c =

@@ -1,6 +1,6 @@
 //! Row changes by themselves.
 use crate::bodies::{Edit, put};
-use journal::Replay;
+use journal::{Replay, ReplayFault};
 use row_changes::{Change, read_change};
 use row_store::{RowFault, Rows};
 use std::alloc::Global;
@@ -43,6 +43,21 @@ pub fn applied<'l>(alloc: Global, list: &'l SuffixList, edits: &[Edit]) -> Resul
     Ok(rows)
 }
 
+/// What empty rows answer to a frame.
+pub fn taken(
+    alloc: Global,
+    list: &SuffixList,
+    snapshot: bool,
+    body: &[u8],
+) -> Result<u64, ReplayFault> {
+    Rows::new(alloc, list).frame(snapshot, body)
+}
+
+fn have_one_state(alloc: Global, rows: &Rows<'_>, others: &Rows<'_>) -> Result<bool, Fail> {
+    let ours = rows.snapshot(alloc)?;
+    Ok(others.snapshot(alloc)?.as_slice() == ours.as_slice())
+}
+
 /// Whether rows have the state that a snapshot frame of these row changes leads to.
 pub fn is_as_taken(
     alloc: Global,
@@ -51,8 +66,5 @@ pub fn is_as_taken(
     body: &[u8],
 ) -> Result<bool, Fail> {
     let mut taken = Rows::new(alloc, list);
-    let count = taken.frame(true, body);
-    let theirs = taken.snapshot(alloc)?;
-    let ours = rows.snapshot(alloc)?;
-    Ok(count == Ok(0) && ours.as_slice() == theirs.as_slice())
+    Ok(taken.frame(true, body) == Ok(0) && have_one_state(alloc, rows, &taken)?)
 }

@@ -1,10 +1,10 @@
 //! The conditions on the state, each just inside and just outside. The row change that is tested is
 //! the last of a body, so that its offset is the length of the body without it.
-use crate::applying::{applied, apply, is_as_taken};
+use crate::applying::{applied, apply, is_as_taken, taken};
 use crate::bodies::Edit::{Clear, Insert, Mode, Numbered, Put, Remove, Replace, TakeOut, Weigh};
 use crate::bodies::{Edit, front_of, list_of, put, snapshot_of};
-use journal::{Replay, ReplayFault};
-use row_store::{RowFault, Rows};
+use journal::ReplayFault;
+use row_store::RowFault;
 use std::alloc::Global;
 use std::test::Fail;
 use suffix_list::SuffixList;
@@ -208,12 +208,12 @@ fn is_answered(alloc: Global, list: &SuffixList, case: &Case) -> Result<bool, Fa
     let mut body = front_of(alloc, case.done.len() + 1, case.done)?;
     let offset = body.len() as u64;
     put(&mut body, case.last)?;
-    let answer = Rows::new(alloc, list).frame(false, body.as_slice());
-    Ok(if case.valid {
-        answer == Ok(1)
+    let wanted = if case.valid {
+        Ok(1)
     } else {
-        answer == Err(ReplayFault::Bad(offset))
-    })
+        Err(ReplayFault::Bad(offset))
+    };
+    Ok(taken(alloc, list, false, body.as_slice()) == wanted)
 }
 
 #[test]
@@ -226,20 +226,27 @@ fn a_row_change_is_valid_by_the_state(rt: HostRuntime) -> Result<(), Fail> {
     Ok(())
 }
 
-// Whether the last row change by itself is applied, or is not valid and leaves the state.
-fn is_applied(alloc: Global, list: &SuffixList, case: &Case) -> Result<bool, Fail> {
-    let mut rows = applied(alloc, list, case.done)?;
-    let answer = apply(alloc, list, &mut rows, case.last)?;
+// The row changes that are done, and the last one where it is valid.
+fn left_by(alloc: Global, case: &Case) -> Result<Vec<u8>, Fail> {
     let mut body = snapshot_of(alloc, case.done)?;
     if case.valid {
         put(&mut body, case.last)?;
     }
+    Ok(body)
+}
+
+// Whether the last row change by itself is applied, or is not valid and leaves the state.
+fn is_applied(alloc: Global, list: &SuffixList, case: &Case) -> Result<bool, Fail> {
+    let mut rows = applied(alloc, list, case.done)?;
     let wanted = if case.valid {
         Ok(())
     } else {
         Err(RowFault::Invalid)
     };
-    Ok(answer == wanted && is_as_taken(alloc, list, &rows, body.as_slice())?)
+    if apply(alloc, list, &mut rows, case.last)? != wanted {
+        return Ok(false);
+    }
+    is_as_taken(alloc, list, &rows, &left_by(alloc, case)?)
 }
 
 #[test]
@@ -261,26 +268,26 @@ fn rows_of_cookies(alloc: Global, partitioned: bool, count: u8) -> Result<Vec<u8
     Ok(rows)
 }
 
-// What empty rows answer to a snapshot of so many cookies, and its length.
-fn answer_to(
+// Whether so many cookies are a snapshot, and one more is a fault where it begins.
+fn is_filled_by(
     alloc: Global,
+    list: &SuffixList,
     partitioned: bool,
     count: u8,
-) -> Result<(Result<u64, ReplayFault>, u64), Fail> {
-    let list = list_of(alloc, b"")?;
-    let body = rows_of_cookies(alloc, partitioned, count)?;
-    let answer = Rows::new(alloc, &list).frame(true, body.as_slice());
-    Ok((answer, body.len() as u64))
+) -> Result<bool, Fail> {
+    let mut body = rows_of_cookies(alloc, partitioned, count)?;
+    let offset = body.len() as u64;
+    let full = taken(alloc, list, true, body.as_slice());
+    put(&mut body, Numbered(partitioned, count))?;
+    let past = taken(alloc, list, true, body.as_slice());
+    Ok(full == Ok(0) && past == Err(ReplayFault::Bad(offset)))
 }
 
 #[test]
 fn a_cell_holds_180_cookies(rt: HostRuntime) -> Result<(), Fail> {
     let alloc = rt.alloc();
-    for partitioned in [false, true] {
-        let (full, length) = answer_to(alloc, partitioned, 180)?;
-        let (past, _) = answer_to(alloc, partitioned, 181)?;
-        assert_eq!(rt; full, Ok(0));
-        assert_eq!(rt; past, Err(ReplayFault::Bad(length)));
-    }
+    let list = list_of(alloc, b"")?;
+    assert!(rt; is_filled_by(alloc, &list, false, 180)?);
+    assert!(rt; is_filled_by(alloc, &list, true, 180)?);
     Ok(())
 }

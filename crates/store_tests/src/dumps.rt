@@ -47,7 +47,8 @@ const CASES: &[Case] = &[
         fails: &[],
         answer: Ok(()),
         printed: Text(
-            "{\"bit\":false,\"key\":\"k\",\"origin\":\"https://a.test\",\"row\":\"area\",\"top\":\"https://a.test\",\"value\":\"v\"}\n",
+            "{\"bit\":false,\"key\":\"k\",\"origin\":\"https://a.test\",\"row\":\"area\",\"top\":\"https://a.test\",\
+                \"value\":\"v\"}\n",
         ),
     },
     Case {
@@ -65,11 +66,17 @@ const CASES: &[Case] = &[
         fails: &[],
         answer: Ok(()),
         printed: Text(concat!(
-            "{\"bit\":false,\"key\":\"l\",\"origin\":\"https://a.test\",\"row\":\"area\",\"top\":\"https://a.test\",\"value\":\"\\\"\"}\n",
-            "{\"bit\":false,\"key\":\"k\",\"origin\":\"https://a.test\",\"row\":\"area\",\"top\":\"https://a.test\",\"value\":\"\"}\n",
+            "{\"bit\":false,\"key\":\"l\",\"origin\":\"https://a.test\",\"row\":\"area\",\"top\":\"https://a.test\",\
+                \"value\":\"\\\"\"}\n",
+            "{\"bit\":false,\"key\":\"k\",\"origin\":\"https://a.test\",\"row\":\"area\",\"top\":\"https://a.test\",\
+                \"value\":\"\"}\n",
             "{\"bit\":false,\"origin\":\"https://a.test\",\"row\":\"mode\",\"top\":\"https://a.test\"}\n",
-            "{\"bit\":null,\"creation\":1,\"domain\":\"a.test\",\"expiry\":9,\"host_only\":false,\"http_only\":false,\"name\":\"m\",\"path\":\"/\",\"row\":\"cookie\",\"same_site\":\"default\",\"secure\":true,\"top\":null,\"value\":\"xx\"}\n",
-            "{\"bit\":true,\"creation\":1,\"domain\":\"w.test\",\"expiry\":9,\"host_only\":false,\"http_only\":false,\"name\":\"n\",\"path\":\"/\",\"row\":\"cookie\",\"same_site\":\"default\",\"secure\":true,\"top\":\"https://a.test\",\"value\":\"x\"}\n",
+            "{\"bit\":null,\"creation\":1,\"domain\":\"a.test\",\"expiry\":9,\"host_only\":false,\"http_only\":false,\
+                \"name\":\"m\",\"path\":\"/\",\"row\":\"cookie\",\"same_site\":\"default\",\"secure\":true,\"top\":null,\
+                \"value\":\"xx\"}\n",
+            "{\"bit\":true,\"creation\":1,\"domain\":\"w.test\",\"expiry\":9,\"host_only\":false,\"http_only\":false,\
+                \"name\":\"n\",\"path\":\"/\",\"row\":\"cookie\",\"same_site\":\"default\",\"secure\":true,\
+                \"top\":\"https://a.test\",\"value\":\"x\"}\n",
             "{\"granted\":false,\"row\":\"grant\",\"site\":\"https://y.test\",\"top\":\"https://a.test\",\"until\":9}\n",
             "{\"granted\":true,\"row\":\"grant\",\"site\":\"https://x.test\",\"top\":\"https://a.test\",\"until\":9}\n",
         )),

@@ -1,5 +1,5 @@
 //! Frames one after another: what they lead to, and their first faults.
-use crate::applying::{applied, is_as_taken};
+use crate::applying::{applied, is_as_taken, taken};
 use crate::bodies::Edit::{Clear, Grant, Insert, Mode, Put, Remove, Replace, TakeOut};
 use crate::bodies::{Edit, change_of, list_of, snapshot_of};
 use Body::{Change, Empty, Snapshot, Two, Worked};
@@ -10,8 +10,9 @@ use std::test::Fail;
 use suffix_list::SuffixList;
 
 /// The worked body of one pair: 52 bytes.
-const WORKED: &[u8] =
-    b"\x01\x00\x00\x00\x01\x0e\x00\x00\x00https://a.test\x0e\x00\x00\x00https://a.test\x00\x01\x00\x00\x00k\x01\x00\x00\x00v";
+const WORKED: &[u8] = b"\x01\x00\x00\x00\
+    \x01\x0e\x00\x00\x00https://a.test\x0e\x00\x00\x00https://a.test\x00\
+    \x01\x00\x00\x00k\x01\x00\x00\x00v";
 
 /// Row changes of one durable change.
 #[derive(Clone, Copy)]
@@ -209,7 +210,7 @@ fn frames_one_after_another(rt: HostRuntime) -> Result<(), Fail> {
 // Whether a frame of row changes is taken as one durable change.
 fn is_taken(alloc: Global, list: &SuffixList, edits: &[Edit]) -> Result<bool, Fail> {
     let body = change_of(alloc, edits)?;
-    Ok(Rows::new(alloc, list).frame(false, body.as_slice()) == Ok(1))
+    Ok(taken(alloc, list, false, body.as_slice()) == Ok(1))
 }
 
 // Whether row changes by themselves lead to what a frame of them leads to.

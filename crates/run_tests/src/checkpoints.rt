@@ -1,5 +1,5 @@
 //! Checkpoints of a run: how long they leave the store, and what a cut within one leaves.
-use crate::shared::{OnDisk, RESTART, disk_of, left_by};
+use crate::shared::{OnDisk, RESTART, STORED, are_told, disk_of, left_by};
 use disk_model::{Cut, Disk};
 use std::alloc::Global;
 use std::test::Fail;
@@ -31,6 +31,12 @@ const BOTH: &[&str] = &[
     "{\"do\":\"set\",\"tab\":1,\"key\":\"k\",\"value\":\"v\"}",
 ];
 
+/// What they print: the reply to the second one is given before the checkpoint.
+const SET: &str = concat!(
+    "{\"cookie\":null,\"do\":\"open\",\"is\":\"ok\",\"set\":[],\"site\":\"https://a.test\"}\n",
+    "{\"do\":\"set\",\"is\":\"ok\",\"site\":\"https://a.test\"}\n",
+);
+
 /// Lines that run, what they print, in batches of how many, after how many durable changes a
 /// checkpoint is due, and how long the store is afterwards.
 const LENGTHS: &[(&[&str], &str, u16, u32, u64)] = &[
@@ -44,23 +50,7 @@ const LENGTHS: &[(&[&str], &str, u16, u32, u64)] = &[
     (BOTH, SET, 5, 1, 266),
 ];
 
-/// A pair is stored, and read before and after a restart.
-const STORED: &[&str] = &[
-    "{\"do\":\"open\",\"tab\":1,\"url\":\"https://a.test/\"}",
-    "{\"do\":\"set\",\"tab\":1,\"key\":\"k\",\"value\":\"v\"}",
-    "{\"do\":\"get\",\"tab\":1,\"key\":\"k\"}",
-    RESTART,
-    "{\"do\":\"open\",\"tab\":1,\"url\":\"https://a.test/\"}",
-    "{\"do\":\"get\",\"tab\":1,\"key\":\"k\"}",
-];
-
-/// What its first lines print: the reply to the second one is given before the checkpoint.
-const SET: &str = concat!(
-    "{\"cookie\":null,\"do\":\"open\",\"is\":\"ok\",\"set\":[],\"site\":\"https://a.test\"}\n",
-    "{\"do\":\"set\",\"is\":\"ok\",\"site\":\"https://a.test\"}\n",
-);
-
-/// What it prints where the checkpoint behind its second line is cut.
+/// What the lines of `STORED` print where the checkpoint behind the second one is cut.
 const CUT: &str = concat!(
     "{\"cookie\":null,\"do\":\"open\",\"is\":\"ok\",\"set\":[],\"site\":\"https://a.test\"}\n",
     "{\"do\":\"set\",\"is\":\"ok\",\"site\":\"https://a.test\"}\n",
@@ -71,7 +61,13 @@ const CUT: &str = concat!(
 );
 
 /// The calls of a checkpoint behind a commit on a new store: 7 made it, and 4 committed.
-const CHECKPOINT: [u64; 7] = [12, 13, 14, 15, 16, 17, 18];
+const CHECKPOINT: &[u64] = &[12, 13, 14, 15, 16, 17, 18];
+
+/// The picks that a disk can have.
+const PICKS: &[u8] = &[0, 1, 2, 3];
+
+/// How many lines are a batch.
+const BATCHES: &[u16] = &[1, 5];
 
 /// The pair is read behind a restart, and then once more.
 const READ: &[&str] = &[
@@ -111,12 +107,12 @@ fn run_of(
     }
 }
 
-// How long the store is that a run leaves, if it ends and prints as it has to.
-fn length_after(alloc: Global, run: OnDisk) -> Result<Option<u64>, Fail> {
+// Whether a run ends and prints as it has to, and leaves a store of this length.
+fn is_as_long(alloc: Global, run: OnDisk, length: u64) -> Result<bool, Fail> {
     let disk = disk_of(alloc, "", None)?;
     match left_by(alloc, disk, &[run])? {
-        Some(mut left) => Ok(left.len().ok()),
-        None => Ok(None),
+        Some(mut left) => Ok(left.len() == Ok(length)),
+        None => Ok(false),
     }
 }
 
@@ -125,28 +121,26 @@ fn a_due_checkpoint_is_made(rt: HostRuntime) -> Result<(), Fail> {
     let alloc = rt.alloc();
     for (lines, out, batch, checkpoint, length) in LENGTHS {
         let run = run_of(lines, *batch, *checkpoint, Ending::Done, out);
-        let found = length_after(alloc, run)?;
-        assert_eq!(rt;
-            found,
-            Some(*length),
+        assert!(rt;
+            is_as_long(alloc, run, *length)?,
             "a checkpoint after {checkpoint}, batches of {batch}"
         );
     }
     Ok(())
 }
 
-fn is_kept(alloc: Global, cut: Cut) -> Result<bool, Fail> {
-    let disk = disk_of(alloc, "", Some(cut))?;
+fn is_kept(alloc: Global, call: u64, pick: u8) -> Result<bool, Fail> {
+    let disk = disk_of(alloc, "", Some(Cut { call, pick }))?;
     let run = run_of(STORED, 1, 1, Ending::Done, CUT);
-    Ok(left_by(alloc, disk, &[run])?.is_some())
+    are_told(alloc, disk, &[run])
 }
 
 #[test]
 fn a_cut_within_a_checkpoint_loses_nothing(rt: HostRuntime) -> Result<(), Fail> {
     let alloc = rt.alloc();
     for call in CHECKPOINT {
-        for pick in [0, 1, 2, 3] {
-            assert!(rt; is_kept(alloc, Cut { call, pick })?, "cut {call}, {pick}");
+        for pick in PICKS {
+            assert!(rt; is_kept(alloc, *call, *pick)?, "cut {call}, {pick}");
         }
     }
     Ok(())
@@ -157,7 +151,7 @@ fn is_found_again(alloc: Global, batch: u16, call: u64) -> Result<bool, Fail> {
     let run = run_of(BOTH, batch, 1, Ending::Device, SET);
     let again = run_of(READ, 1, 0, Ending::Done, FOUND);
     match left_by(alloc, disk, &[run])? {
-        Some(left) => Ok(left_by(alloc, left.reopen(), &[again])?.is_some()),
+        Some(left) => are_told(alloc, left.reopen(), &[again]),
         None => Ok(false),
     }
 }
@@ -165,9 +159,9 @@ fn is_found_again(alloc: Global, batch: u16, call: u64) -> Result<bool, Fail> {
 #[test]
 fn a_last_checkpoint_that_is_cut_ends_as_a_device_fault(rt: HostRuntime) -> Result<(), Fail> {
     let alloc = rt.alloc();
-    for batch in [1, 5] {
+    for batch in BATCHES {
         for call in CHECKPOINT {
-            let found = is_found_again(alloc, batch, call)?;
+            let found = is_found_again(alloc, *batch, *call)?;
             assert!(rt; found, "cut {call}, batches of {batch}");
         }
     }
@@ -176,14 +170,17 @@ fn a_last_checkpoint_that_is_cut_ends_as_a_device_fault(rt: HostRuntime) -> Resu
 
 // The store is left by a run without checkpoints, in 11 calls. One opens it again, one is that of
 // the restart, and the next is the first one of the checkpoint.
-#[test]
-fn no_checkpoint_is_made_right_behind_a_restart(rt: HostRuntime) -> Result<(), Fail> {
-    let alloc = rt.alloc();
+fn is_left_behind_a_restart(alloc: Global) -> Result<bool, Fail> {
     let disk = disk_of(alloc, "", Some(Cut { call: 14, pick: 0 }))?;
     let runs = [
         run_of(BOTH, 1, 0, Ending::Done, SET),
         run_of(READ, 1, 1, Ending::Device, BEHIND_A_LINE),
     ];
-    assert!(rt; left_by(alloc, disk, &runs)?.is_some());
+    are_told(alloc, disk, &runs)
+}
+
+#[test]
+fn no_checkpoint_is_made_right_behind_a_restart(rt: HostRuntime) -> Result<(), Fail> {
+    assert!(rt; is_left_behind_a_restart(rt.alloc())?);
     Ok(())
 }

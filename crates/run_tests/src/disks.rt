@@ -1,5 +1,5 @@
 //! Runs over a disk that other runs had: what a run leaves, and what is refused.
-use crate::shared::{OnDisk, disk_of, left_by};
+use crate::shared::{OnDisk, are_told, disk_of, left_by};
 use disk_model::Cut;
 use journal::OpenFault;
 use std::alloc::Global;
@@ -166,7 +166,7 @@ const COURSES: &[Course] = &[
 fn is_as_told(alloc: Global, course: &Course) -> Result<bool, Fail> {
     let disk = disk_of(alloc, course.bytes, course.cut)?;
     match left_by(alloc, disk, course.runs)? {
-        Some(left) => Ok(left_by(alloc, left.reopen(), course.reopened)?.is_some()),
+        Some(left) => are_told(alloc, left.reopen(), course.reopened),
         None => Ok(false),
     }
 }

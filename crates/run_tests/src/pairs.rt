@@ -139,12 +139,12 @@ fn site(alloc: Global) -> Result<Site, Fail> {
     }
 }
 
-// The answer to a pair.
-fn answer_of(alloc: Global, list: &SuffixList, site: &Site, case: &Pair) -> Result<Twin, Fail> {
+// Whether a pair gets its answer.
+fn is_answered(alloc: Global, list: &SuffixList, site: &Site, case: &Pair) -> Result<bool, Fail> {
     let first = lines_of(alloc, case.first)?;
     let second = lines_of(alloc, case.second)?;
     match twin(alloc, list, site, &first, &second, options(case.batch, 1)) {
-        Ok(answer) => Ok(answer),
+        Ok(answer) => Ok(answer == case.answer),
         Err(_) => Err(Fail::from(AllocError)),
     }
 }
@@ -155,8 +155,7 @@ fn two_scripts_have_their_answer(rt: HostRuntime) -> Result<(), Fail> {
     let list = list_of(alloc, "")?;
     let site = site(alloc)?;
     for case in PAIRS {
-        let answer = answer_of(alloc, &list, &site, case)?;
-        assert_eq!(rt; answer, case.answer, "{}", case.name);
+        assert!(rt; is_answered(alloc, &list, &site, case)?, "{}", case.name);
     }
     Ok(())
 }

@@ -1,5 +1,5 @@
 //! Runs in memory over cuts and restarts: what they print, and how they end.
-use crate::shared::{RESTART, cuts_of, lines_of, list_of, options, sink};
+use crate::shared::{RESTART, STORED, cuts_of, lines_of, list_of, options, sink};
 use disk_model::Cut;
 use std::alloc::Global;
 use std::test::Fail;
@@ -17,17 +17,7 @@ struct Run {
     out: &'static str,
 }
 
-/// A pair is stored, and read before and after a restart.
-const STORED: &[&str] = &[
-    "{\"do\":\"open\",\"tab\":1,\"url\":\"https://a.test/\"}",
-    "{\"do\":\"set\",\"tab\":1,\"key\":\"k\",\"value\":\"v\"}",
-    "{\"do\":\"get\",\"tab\":1,\"key\":\"k\"}",
-    RESTART,
-    "{\"do\":\"open\",\"tab\":1,\"url\":\"https://a.test/\"}",
-    "{\"do\":\"get\",\"tab\":1,\"key\":\"k\"}",
-];
-
-/// What that prints where the commit of the pair was cut and nothing of it is left.
+/// What the lines of `STORED` print where the commit of the pair was cut and nothing is left.
 const LOST: &str = concat!(
     "{\"cookie\":null,\"do\":\"open\",\"is\":\"ok\",\"set\":[],\"site\":\"https://a.test\"}\n",
     "{\"do\":\"set\",\"is\":\"down\",\"site\":null}\n",
@@ -151,7 +141,8 @@ const RUNS: &[Run] = &[
         batch: 1,
         cut: None,
         lines: &[
-            "{\"do\":\"open\",\"tab\":9,\"url\":\"https://x.test/\",\"head\":[[\"Set-Cookie\",\"n=1; SameSite=None; Secure; Max-Age=1000\"],[\"Set-Cookie\",\"l=1; SameSite=Lax\"]]}",
+            "{\"do\":\"open\",\"tab\":9,\"url\":\"https://x.test/\",\
+                \"head\":[[\"Set-Cookie\",\"n=1; SameSite=None; Secure; Max-Age=1000\"],[\"Set-Cookie\",\"l=1; SameSite=Lax\"]]}",
             "{\"do\":\"open\",\"tab\":1,\"url\":\"https://a.test/\"}",
             "{\"do\":\"frame\",\"tab\":1,\"frame\":1,\"url\":\"https://x.test/\"}",
             "{\"do\":\"click\",\"tab\":1,\"frame\":1}",

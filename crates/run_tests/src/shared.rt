@@ -17,6 +17,16 @@ use suffix_list::SuffixList;
 /// The line that opens the store again.
 pub const RESTART: &str = "{\"do\":\"restart\"}";
 
+/// A pair is stored, and read before and after a restart.
+pub const STORED: &[&str] = &[
+    "{\"do\":\"open\",\"tab\":1,\"url\":\"https://a.test/\"}",
+    "{\"do\":\"set\",\"tab\":1,\"key\":\"k\",\"value\":\"v\"}",
+    "{\"do\":\"get\",\"tab\":1,\"key\":\"k\"}",
+    RESTART,
+    "{\"do\":\"open\",\"tab\":1,\"url\":\"https://a.test/\"}",
+    "{\"do\":\"get\",\"tab\":1,\"key\":\"k\"}",
+];
+
 /// Batches of so many lines, and a checkpoint after so many durable changes, from a moment of the
 /// year 2001 on.
 pub fn options(batch: u16, checkpoint: u32) -> Options
@@ -108,15 +118,24 @@ pub struct OnDisk {
     pub out: &'static str,
 }
 
-// Whether a run ended and printed as it has to, and the disk that it left.
-fn ran(alloc: Global, disk: MemDisk, run: &OnDisk) -> Result<(bool, MemDisk), Fail> {
-    let list = list_of(alloc, run.list)?;
+// Whether a run under a list ended and printed as it has to, and the disk that it left.
+fn ran_under(
+    alloc: Global,
+    disk: MemDisk,
+    list: &SuffixList,
+    run: &OnDisk,
+) -> Result<(bool, MemDisk), Fail> {
     let lines = lines_of(alloc, run.lines)?;
     let mut out = sink(alloc)?;
     let options = options(run.batch, run.checkpoint);
-    let Finished { ending, disk } = run_on(alloc, disk, &list, options, &lines, &mut out);
+    let Finished { ending, disk } = run_on(alloc, disk, list, options, &lines, &mut out);
     let told = ending == run.ending && out.bytes() == run.out.as_bytes();
     Ok((told, disk))
+}
+
+fn ran(alloc: Global, disk: MemDisk, run: &OnDisk) -> Result<(bool, MemDisk), Fail> {
+    let list = list_of(alloc, run.list)?;
+    ran_under(alloc, disk, &list, run)
 }
 
 /// The disk that runs leave one after another, if each ends and prints as it has to.
@@ -130,4 +149,9 @@ pub fn left_by(alloc: Global, disk: MemDisk, runs: &[OnDisk]) -> Result<Option<M
         left = next;
     }
     Ok(Some(left))
+}
+
+/// Whether runs over a disk one after another end and print as they have to.
+pub fn are_told(alloc: Global, disk: MemDisk, runs: &[OnDisk]) -> Result<bool, Fail> {
+    Ok(left_by(alloc, disk, runs)?.is_some())
 }

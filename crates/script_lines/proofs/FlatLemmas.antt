@@ -1,6 +1,7 @@
 -- An object of the common form: its members one after another, as the grammar of JSON has them.
-use Rattle.std.proofs.Common.{◌≡◌, refl, ap, sym, ◌∙◌, Bool, true, false, cond, bytes_eq, true≢false, ℕ, ◌-◌, ◌<◌, ◌≤◌, length, List, [], ◌∷◌, ◌++◌, fold}
+use Rattle.std.proofs.Common.{◌≡◌, refl, ap, sym, ◌∙◌, Bool, true, false, cond, bytes_eq, true≢false, ℕ, ◌-◌, ◌<◌, ◌≤◌, ◌+◌, length, List, [], ◌∷◌, ◌++◌, fold, get_or, take, arith}
 use Rattle.std.proofs.Common.{Option, Some, None, option_map, option_and_then}
+use Rattle.std.proofs.lemmas.List.{take_more}
 use Rattle.std.proofs.lemmas.Slice.Eq.{bytes_eq-Decides}
 use Rattle.json.specs.Token.{Token}
 use Rattle.json.specs.Json as json
@@ -83,6 +84,14 @@ found_put name k d old false other =
     get_member-put_other name k d old (λ e. absurd (true≢false (sym ((bytes_eq-Decides k name).1 (sym e)) ∙ other)))
 
 -- a name is looked up in the last member, and then in those before it
-pub found_last : (name : List ℕ) (list : List Member) (member : Member) (same : Bool) → bytes_eq member.name.now name ≡ same
+found_last : (name : List ℕ) (list : List Member) (member : Member) (same : Bool) → bytes_eq member.name.now name ≡ same
     → get_member name (members_of (list ++ member ∷ [])) ≡ cond same (Some (flat_data member.value)) (get_member name (members_of list))
 found_last name list member same is = ap (get_member name) (one_more list member) ∙ found_put name member.name.now (flat_data member.value) (members_of list) same is
+
+-- the same of so many members of a list, of which this one is the last
+pub found_at : (name : List ℕ) (list : List Member) (left : ℕ) (member : Member) (same : Bool) → 0 < left → left ≤ length list → get_or list (left - 1) member ≡ member → bytes_eq member.name.now name ≡ same
+    → get_member name (members_of (take left list)) ≡ cond same (Some (flat_data member.value)) (get_member name (members_of (take (left - 1) list)))
+found_at name list left member same some within at is =
+    let next : left ≡ left - 1 + 1 = omega arith in
+    let front : take left list ≡ take (left - 1) list ++ member ∷ [] = ap (λ k. take k list) next ∙ take_more list (left - 1) member (omega arith) ∙ ap (λ m. take (left - 1) list ++ m ∷ []) at in
+    ap (λ ms. get_member name (members_of ms)) front ∙ found_last name (take (left - 1) list) member same is

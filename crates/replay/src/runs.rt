@@ -127,11 +127,7 @@ fn command<H: Host, I: Source, O: Sink>(
             checkpoint,
             start,
         } => {
-            let options = Options {
-                start,
-                batch,
-                checkpoint,
-            };
+            let options = options(start, batch, checkpoint);
             replay(alloc, list, store, options, host, script, out)
         }
         Command::Twin {
@@ -141,15 +137,21 @@ fn command<H: Host, I: Source, O: Sink>(
             checkpoint,
             start,
         } => {
-            let options = Options {
-                start,
-                batch,
-                checkpoint,
-            };
+            let options = options(start, batch, checkpoint);
             write_twin(alloc, site, list, options, host, script, out)
         }
         Command::Dump { list, store } => dump_store(alloc, list, store, host, script, out),
         Command::Selftest { seed } => write_selftest(alloc, seed, out),
+    }
+}
+
+fn options(start: u64, batch: u16, checkpoint: u32) -> Options
+    ensures { result ≡ record { start = start; batch = batch; checkpoint = checkpoint } }
+{
+    Options {
+        start,
+        batch,
+        checkpoint,
     }
 }
 

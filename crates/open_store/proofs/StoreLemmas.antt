@@ -42,6 +42,34 @@ module _ {S : Type 0} (takes : S → Bool → List ℕ → S → ℕ → Type 0)
         → StandsForState takes empty j.digest c base j.changes
     images_stand c left = contents_stand c (at.rests.settled c left)
 
+  -- ---- other frames in the file
+
+  module _ (j k : JournalView) (v w : View) (now : List Frame → List Frame) where
+    -- a call made these frames of those that stood in the file
+    abbrev Leaves : Type 0
+    Leaves = (c : List ℕ) (frames : List Frame) → v.contents ≡ Some c → StandsInFile j c frames
+        → (d : List ℕ) × (w.contents ≡ Some d) × StandsInFile k d (now frames)
+
+    -- the store stands for the state that they lead to
+    leaves_at : (base next : S) → IsLawful v → IsLawful w → w.tells ≡ v.tells → IsAtRest k w
+        → k.shut ≡ false → StandsAt takes empty j v base → Leaves
+        → ((frames : List Frame) → Runs takes true empty 0 frames base j.changes
+        → Runs takes true empty 0 (now frames) next k.changes)
+        → StandsAt takes empty k w next
+    leaves_at base next before after tells rests usable at leaves runs = record {
+      rests = rests;
+      usable = usable;
+      stands = λ c here.
+          let was = before.told (sym tells ∙ after.tells_contents c here) in
+          let stood = at.stands was.0 was.1 in
+          let done = leaves was.0 stood.0 was.1 stood.1 in
+          let same : done.0 ≡ c = some_is done.0 c (sym done.1 ∙ here) in (
+            now stood.0,
+            subst (λ (e : List ℕ). StandsInFile k e (now stood.0)) same done.2,
+            runs stood.0 stood.2,
+          );
+    }
+
   -- ---- an empty body
 
   nothing_leads : (base next : S) (body : List ℕ) (changes : ℕ) → length body ≡ 0
@@ -75,33 +103,7 @@ module _ {S : Type 0} (takes : S → Bool → List ℕ → S → ℕ → Type 0)
   module _ (j k : JournalView) (v w : View) (body : List ℕ) (changes : ℕ)
       (some : 0 < length body) where
     abbrev Acknowledged : Type 0
-    Acknowledged = (c : List ℕ) (frames : List Frame) → v.contents ≡ Some c → StandsInFile j c frames
-        → (d : List ℕ) × (w.contents ≡ Some d)
-        × StandsInFile k d (frames ++ next_frame j body changes ∷ [])
-
-    committed_at : (base next : S) → StandsAt takes empty j v base
-        → takes base false body next changes → IsAtRest k w → k.shut ≡ false
-        → k.changes ≡ (j.changes + changes) % 2 ^ 64
-        → ((c : List ℕ) → w.contents ≡ Some c → (d : List ℕ) × (v.contents ≡ Some d))
-        → Acknowledged → StandsAt takes empty k w next
-    committed_at base next at taken rests usable count told acknowledged = record {
-      rests = rests;
-      usable = usable;
-      stands = λ c here.
-          let was = told c here in
-          let stood = at.stands was.0 was.1 in
-          let done = acknowledged was.0 stood.0 was.1 stood.1 in
-          let same : done.0 ≡ c = some_is done.0 c (sym done.1 ∙ here) in
-          let f = next_frame j body changes in
-          let frames = stood.0 ++ f ∷ [] in
-          let runs =
-          runs_push takes true empty 0 stood.0 base j.changes f next changes stood.2 some
-          taken refl in (
-            frames,
-            subst (λ (e : List ℕ). StandsInFile k e frames) same done.2,
-            subst (λ (n : ℕ). Runs takes true empty 0 frames next n) (sym count) runs,
-          );
-    }
+    Acknowledged = Leaves j k v w (λ frames. frames ++ next_frame j body changes ∷ [])
 
     pub commit_done : {T E : Type 0} (result : Result T E) → IsLawful v → IsLawful w
         → w.tells ≡ v.tells → OnOk result (IsAtRest k w) → k.shut ≡ is_err result
@@ -118,9 +120,13 @@ module _ {S : Type 0} (takes : S → Bool → List ℕ → S → ℕ → Type 0)
         → StandsAt takes empty k w next
         × (k.changes % 2 ^ 64 ≡ (j.changes + changes) % 2 ^ 64))
     commit_done (Ok x) before after tells rests shut done acknowledged = λ base next at leads.
-        let count = ap (λ (i : JournalView). i.changes) done in (
-          committed_at base next at (something_leads base next body changes some leads) rests shut
-              count (λ c told. before.told (sym tells ∙ after.tells_contents c told)) acknowledged,
+        let f = next_frame j body changes in
+        let count = ap (λ (i : JournalView). i.changes) done in
+        let taken = something_leads base next body changes some leads in (
+          leaves_at j k v w (λ frames. frames ++ f ∷ []) base next before after tells rests shut at
+              acknowledged (λ frames runs.
+              subst (λ (n : ℕ). Runs takes true empty 0 (frames ++ f ∷ []) next n) (sym count)
+              (runs_push takes true empty 0 frames base j.changes f next changes runs some taken refl)),
           ap (λ (n : ℕ). n % 2 ^ 64) count ∙ twice (j.changes + changes),
         )
     commit_done (Err e) before after tells rests shut done acknowledged = tt
@@ -150,29 +156,7 @@ module _ {S : Type 0} (takes : S → Bool → List ℕ → S → ℕ → Type 0)
 
   module _ (j k : JournalView) (v w : View) (body : List ℕ) where
     abbrev Snapped : Type 0
-    Snapped = (c : List ℕ) (frames : List Frame) → v.contents ≡ Some c → StandsInFile j c frames
-        → (d : List ℕ) × (w.contents ≡ Some d) × StandsInFile k d (snapshot_frame j body ∷ [])
-
-    snapped_at : (base next : S) (counted : ℕ) → StandsAt takes empty j v base
-        → takes empty true body next counted → IsAtRest k w → k.shut ≡ false
-        → k.changes ≡ j.changes
-        → ((c : List ℕ) → w.contents ≡ Some c → (d : List ℕ) × (v.contents ≡ Some d))
-        → Snapped → StandsAt takes empty k w next
-    snapped_at base next counted at taken rests usable count told acknowledged = record {
-      rests = rests;
-      usable = usable;
-      stands = λ c here.
-          let was = told c here in
-          let stood = at.stands was.0 was.1 in
-          let done = acknowledged was.0 stood.0 was.1 stood.1 in
-          let same : done.0 ≡ c = some_is done.0 c (sym done.1 ∙ here) in
-          let frames = snapshot_frame j body ∷ [] in (
-            frames,
-            subst (λ (e : List ℕ). StandsInFile k e frames) same done.2,
-            subst (λ (n : ℕ). Runs takes true empty 0 frames next n) (sym count)
-                (snapshot_runs j body next counted taken),
-          );
-    }
+    Snapped = Leaves j k v w (λ frames. snapshot_frame j body ∷ [])
 
     pub checkpoint_done : {T E : Type 0} (result : Result T E) → IsLawful v → IsLawful w
         → w.tells ≡ v.tells → OnOk result (IsAtRest k w) → k.shut ≡ is_err result
@@ -182,8 +166,11 @@ module _ {S : Type 0} (takes : S → Bool → List ℕ → S → ℕ → Type 0)
         → takes empty true body next counted → StandsAt takes empty k w next)
     checkpoint_done (Ok x) before after tells rests shut count acknowledged =
         λ base next counted at taken.
-        snapped_at base next counted at taken rests shut count
-        (λ c told. before.told (sym tells ∙ after.tells_contents c told)) acknowledged
+        let snapshot = snapshot_frame j body ∷ [] in
+        leaves_at j k v w (λ frames. snapshot) base next before after tells rests shut at
+        acknowledged (λ frames runs.
+        subst (λ (n : ℕ). Runs takes true empty 0 snapshot next n) (sym count)
+        (snapshot_runs j body next counted taken))
     checkpoint_done (Err e) before after tells rests shut count acknowledged = tt
 
     pub checkpoint_moments : (base next : S) (counted : ℕ) → StandsAt takes empty j v base

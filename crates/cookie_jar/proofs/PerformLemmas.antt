@@ -1,24 +1,22 @@
 -- The steps of a plan, done as removals first and then the last step.
-use Rattle.std.proofs.Common.{◌≡◌, ℤ, ℕ, zero, suc, ◌-◌, ◌<◌, ◌≤◌, Bool, true, false, cond, not, List, [], ◌∷◌, ◌++◌, take, drop, length, get_or, refl, ap, ◌∙◌, sym, arith, subst}
+use Rattle.std.proofs.Common.{◌≡◌, ℤ, ℕ, zero, suc, ◌-◌, ◌<◌, ◌≤◌, Bool, true, false, cond, List, [], ◌∷◌, ◌++◌, take, drop, length, get_or, refl, ap, ◌∙◌, sym, arith, subst}
 use Rattle.std.specs.Prelude.{◌||◌, Some, slice_get, nat_lt}
 use Rattle.std.specs.List.{list_any}
-use Rattle.std.proofs.lemmas.Bool.{ltb-true, ltb-false}
+use Rattle.std.proofs.lemmas.Bool.{ltb-true}
 use Rattle.std.proofs.lemmas.List.{length-append}
-use Rattle.std.proofs.lemmas.List.Sums.{sum_by-insert, fold-append, prefix_len-le-length}
+use Rattle.std.proofs.lemmas.List.Sums.{sum_by-insert, fold-append}
 use Rattle.partition_limits.specs.declared.tally.CellKind.{CellKind}
 use Rattle.cookie_jar.specs.declared.step.JarStep.{JarStep}
 use Rattle.cookie_jar.specs.declared.step.JarStep.TheVariants.{Insert, Replace}
 use Rattle.cookie_jar.specs.Cookie.{PlainCookie, copies, counted, keeps_limits, same}
 use Rattle.cookie_jar.specs.Lifetime.{is_expired}
 use Rattle.cookie_jar.specs.Performed.{CanPut, after_put, after_removal, after_removals}
-use Rattle.cookie_jar.specs.Steps.{after_step, after_steps, going, place_of, place_now, put_step, remove_step, removal_at, removals, live_steps, steps, stored, rank, persists_at}
-use Rattle.partition_limits.specs.Victims.{without}
-use Rattle.cookie_jar.proofs.StepLaws.{stored_fits, removals_from_all, going_apart, fresh_stays, place_end, place_within}
+use Rattle.cookie_jar.specs.Steps.{after_step, after_steps, place_of, put_step, remove_step, removal_at, removals, live_steps, steps, going, place_now, rank, persists_at}
 use Rattle.cookie_jar.specs.Cookie.{PlainJar}
 use Rattle.cookie_jar.specs.Persistent.{apply_rows, persistent_part, rows_of_steps}
 use Rattle.cookie_jar.specs.Planned.{PlainPlan, IsPlanFor}
 use Rattle.cookie_jar.proofs.PutLemmas.{all_removed, small_pair}
-use Rattle.cookie_jar.proofs.ValidLaws.{stored_once, there_now, same_self, valid_rows}
+use Rattle.cookie_jar.proofs.ValidLaws.{IsPut, last_put, same_self, valid_rows}
 
 last_is : (ss : List JarStep) (s : JarStep) → slice_get (ss ++ s ∷ []) (length (ss ++ s ∷ []) - 1) ≡ Some s
 last_is ss s = let e : length (ss ++ s ∷ []) - 1 ≡ length ss = omega (arith, length-append ss (s ∷ [])) in ap (slice_get (ss ++ s ∷ [])) e ∙ at ss
@@ -38,11 +36,9 @@ head_at f (c ∷ cs) zero lt h = plain (same f c) h
 head_at f (c ∷ cs) (suc i) lt h = head_at f cs i (omega arith) h
 
 -- the last step of a plan can be done, and leaves what the plan leaves
-pub put_done : (kind : CellKind) (fresh : PlainCookie) (cur : List PlainCookie) (place : ℕ) → place ≤ length cur
-    → (place < length cur → list_any (λ d. same fresh d) (take 1 (drop place cur)) ≡ true)
-    → keeps_limits kind (after_step fresh cur (put_step place cur)) ≡ true → ((c : PlainCookie) → copies c (after_step fresh cur (put_step place cur)) ≤ 1)
+pub put_done : (kind : CellKind) (fresh : PlainCookie) (cur : List PlainCookie) (place : ℕ) → IsPut kind fresh cur place
     → CanPut kind fresh cur (Some (put_step place cur)) × (after_put fresh cur (Some (put_step place cur)) ≡ after_step fresh cur (put_step place cur))
-put_done kind fresh cur place within there limits once = at (nat_lt place (length cur)) refl limits once
+put_done kind fresh cur place put = at (nat_lt place (length cur)) refl put.limits put.once
   where
     r : ℕ
     r = rank place cur
@@ -56,32 +52,17 @@ put_done kind fresh cur place within there limits once = at (nat_lt place (lengt
         × (after_put fresh cur (Some (cond b (Replace place r was) (Insert place r))) ≡ after_step fresh cur (cond b (Replace place r was) (Insert place r)))
     at true is limits once =
         let lt = ltb-true place (length cur) is in
-        (record { there = lt; alike = head_at fresh cur place lt (there lt); limits = limits }, refl)
+        (record { there = lt; alike = head_at fresh cur place lt (put.there lt); limits = limits }, refl)
     at false is limits once =
         let more = sum_by-insert (λ e. cond (same fresh e) 1 0) cur place fresh in
         let one : ◌≡◌ {A = ℕ} (cond (same fresh fresh) 1 0) 1 = rw (same_self fresh) refl in
-        (record { there = within; absent = omega (arith, more, one, once fresh); limits = limits }, refl)
+        (record { there = put.inside; absent = omega (arith, more, one, once fresh); limits = limits }, refl)
 
 -- a plan's removals, then its last step
 abbrev pub IsDone : CellKind → PlainCookie → List PlainCookie → List JarStep → Type 0
 IsDone kind fresh cs ss =
     CanPut kind fresh (after_removals cs ss) (slice_get ss (length ss - 1))
     × (after_put fresh (after_removals cs ss) (slice_get ss (length ss - 1)) ≡ after_steps fresh cs ss)
-
--- the place of the last step is in the cell, or at its end
-put_within : (kind : CellKind) (now : ℤ) (fresh : PlainCookie) (cs : List PlainCookie)
-    → place_now (going kind now fresh cs) (place_of fresh cs) ≤ length (without (going kind now fresh cs) cs)
-put_within kind now fresh cs = at (nat_lt (place_of fresh cs) (length cs)) refl
-  where
-    gone : List ℕ
-    gone = going kind now fresh cs
-
-    at : (b : Bool) → nat_lt (place_of fresh cs) (length cs) ≡ b → place_now gone (place_of fresh cs) ≤ length (without gone cs)
-    at true is = let lt = place_within 0 (place_of fresh cs) (place_of fresh cs) gone cs (omega arith) (ltb-true _ _ is) (fresh_stays kind now fresh cs) in omega (arith, lt)
-    at false is =
-        let end : place_of fresh cs ≡ length cs = omega (arith, ltb-false (place_of fresh cs) (length cs) is, prefix_len-le-length (λ d. not (same fresh d)) cs) in
-        let past : place_now gone (place_of fresh cs) ≡ length (without gone cs) = ap (place_now gone) end ∙ place_end 0 gone cs in
-        omega (arith, past)
 
 expired_done : (kind : CellKind) (fresh : PlainCookie) (cs : List PlainCookie) (place : ℕ) → IsDone kind fresh cs (removal_at place cs)
 expired_done kind fresh cs place = at (nat_lt place (length cs))
@@ -98,26 +79,16 @@ put_removes_none cs cur place = at (nat_lt place (length cur))
     at true = refl
     at false = refl
 
-live_done : (kind : CellKind) (now : ℤ) (fresh : PlainCookie) (cs : List PlainCookie) → counted kind fresh ≤ 10240 → ((c : PlainCookie) → copies c cs ≤ 1)
-    → is_expired now fresh ≡ false → IsDone kind fresh cs (steps kind now fresh cs)
-live_done kind now fresh cs small once live =
-    let gone = going kind now fresh cs in
+live_done : (kind : CellKind) (fresh : PlainCookie) (cs : List PlainCookie) (gone : List ℕ) (place : ℕ)
+    → let first = removals cs [] gone in let cur = after_steps fresh cs first in IsPut kind fresh cur place → IsDone kind fresh cs (first ++ put_step place cur ∷ [])
+live_done kind fresh cs gone place put =
     let first = removals cs [] gone in
     let cur = after_steps fresh cs first in
-    let place = place_now gone (place_of fresh cs) in
     let last = put_step place cur in
-    let left : cur ≡ without gone cs = removals_from_all fresh cs gone (going_apart kind now fresh cs) in
-    let all : steps kind now fresh cs ≡ first ++ last ∷ [] = rw live refl in
-    let whole : stored kind now fresh cs ≡ after_step fresh cur last = rw live (fold-append (after_step fresh) cs first (last ∷ [])) in
-    let limits : keeps_limits kind (after_step fresh cur last) ≡ true = ap (keeps_limits kind) (sym whole) ∙ stored_fits kind now fresh cs live small in
-    let single : (c : PlainCookie) → copies c (after_step fresh cur last) ≤ 1 = λ c. subst (λ xs. copies c xs ≤ 1) whole (stored_once kind now fresh cs live once c) in
-    let there : place < length cur → list_any (λ d. same fresh d) (take 1 (drop place cur)) ≡ true = subst (λ xs. place < length xs → list_any (λ d. same fresh d) (take 1 (drop place xs)) ≡ true) (sym left) (there_now kind now fresh cs) in
-    let within : place ≤ length cur = subst (λ xs. place ≤ length xs) (sym left) (put_within kind now fresh cs) in
-    let done = put_done kind fresh cur place within there limits single in
+    let done = put_done kind fresh cur place put in
     let rest : after_removals cs (first ++ last ∷ []) ≡ cur = fold-append after_removal cs first (last ∷ []) ∙ put_removes_none (after_removals cs first) cur place ∙ all_removed fresh cs [] gone in
     let end = last_is first last in
-    let full : after_steps fresh cs (first ++ last ∷ []) ≡ after_step fresh cur last = fold-append (after_step fresh) cs first (last ∷ []) in
-    subst (IsDone kind fresh cs) (sym all) (
+    let full : after_steps fresh cs (first ++ last ∷ []) ≡ after_step fresh cur last = fold-append (after_step fresh) cs first (last ∷ []) in (
       subst (λ o. CanPut kind fresh (after_removals cs (first ++ last ∷ [])) o) (sym end) (subst (λ xs. CanPut kind fresh xs (Some last)) (sym rest) done.0),
       ap (after_put fresh (after_removals cs (first ++ last ∷ []))) end ∙ ap (λ xs. after_put fresh xs (Some last)) rest ∙ done.1 ∙ sym full,
     )
@@ -127,9 +98,9 @@ pub plan_done : (kind : CellKind) (now : ℤ) (fresh : PlainCookie) (cs : List P
     → IsDone kind fresh cs (steps kind now fresh cs)
 plan_done kind now fresh cs small once = at (is_expired now fresh) refl
   where
-    at : (b : Bool) → is_expired now fresh ≡ b → IsDone kind fresh cs (steps kind now fresh cs)
-    at true is = subst (IsDone kind fresh cs) (sym (ap (λ b. cond b (removal_at (place_of fresh cs) cs) (live_steps kind now fresh cs)) is)) (expired_done kind fresh cs (place_of fresh cs))
-    at false is = live_done kind now fresh cs small once is
+    at : (b : Bool) → is_expired now fresh ≡ b → IsDone kind fresh cs (cond b (removal_at (place_of fresh cs) cs) (live_steps kind now fresh cs))
+    at true is = expired_done kind fresh cs (place_of fresh cs)
+    at false is = live_done kind fresh cs (going kind now fresh cs) (place_now (going kind now fresh cs) (place_of fresh cs)) (last_put kind now fresh cs small once is)
 
 -- what was planned for a cell is done there
 pub performs : (jar : PlainJar) (plan : PlainPlan) → IsPlanFor jar plan → IsDone jar.kind plan.fresh jar.cookies plan.steps

@@ -14,12 +14,12 @@ use Rattle.partition_limits.specs.Victims.{others_from, without}
 use Rattle.cookie_jar.specs.Cookie.{PlainCookie, same, copies, counted, keeps_limits}
 use Rattle.cookie_jar.specs.declared.step.JarStep.{JarStep}
 use Rattle.cookie_jar.specs.declared.step.JarStep.TheVariants.{Insert, Replace}
-use Rattle.cookie_jar.specs.Steps.{rank, persists_at, after_step, after_steps, removals, remove_step, put_step, place_now, steps, stored, going, place_of, put}
+use Rattle.cookie_jar.specs.Steps.{rank, persists_at, after_step, after_steps, removal_at, removals, live_steps, remove_step, put_step, place_now, steps, stored, going, place_of, put}
 use Rattle.cookie_jar.specs.Lifetime.{is_persistent, is_expired}
 use Rattle.cookie_jar.specs.Persistent.{CookieRow, RowInsert, persistent_part, kept_cookie, after_rows, row_edit, row_fits, apply_rows, rows_of_step, rows_of_steps, insert_row, remove_row, replace_row}
 use Rattle.cookie_jar.proofs.CellLemmas.{fits_less, copies_alike, same_to}
 use Rattle.cookie_jar.proofs.PersistentLaws.{persistent, rank_le, rank_below, drop_rank, remove_kept, insert_kept, replace_kept, steps_kept, removals_right, rows_keep}
-use Rattle.cookie_jar.proofs.StepLaws.{among, place_from, place_more, place_end, going_apart, fresh_stays, stored_is, stored_fits, removals_from_all, put_there, put_last}
+use Rattle.cookie_jar.proofs.StepLaws.{among, place_from, place_more, place_end, place_within, going_apart, fresh_stays, stored_is, stored_fits, removals_from_all, put_there, put_last}
 
 -- each row change is valid where it is done
 abbrev pub AreFitting : CellKind → List PlainCookie → List CookieRow → Type 0
@@ -102,12 +102,16 @@ same_at_rank : (f : PlainCookie) (i : ℕ) (cs : List PlainCookie) → persists_
 same_at_rank f i cs h k =
     ap (λ ds. list_any (λ d. same (kept_cookie f) d) (take 1 ds)) (drop-map kept_cookie (rank i cs) (persistent cs) ∙ ap (map kept_cookie) (drop_rank i cs)) ∙ head_same f (drop i cs) h k
 
-last_fits : (kind : CellKind) (fresh : PlainCookie) (i : ℕ) (cs : List PlainCookie)
-    → keeps_limits kind (after_step fresh cs (put_step i cs)) ≡ true
-    → ((c : PlainCookie) → copies c (after_step fresh cs (put_step i cs)) ≤ 1)
-    → (i < length cs → list_any (λ d. same fresh d) (take 1 (drop i cs)) ≡ true)
+-- the fresh cookie can be put at a place, over the same one or at the end
+pub record IsPut (kind : CellKind) (fresh : PlainCookie) (cs : List PlainCookie) (place : ℕ) : Type 0 where
+  pub inside : place ≤ length cs
+  pub there : place < length cs → list_any (λ d. same fresh d) (take 1 (drop place cs)) ≡ true
+  pub limits : keeps_limits kind (after_step fresh cs (put_step place cs)) ≡ true
+  pub once : (c : PlainCookie) → copies c (after_step fresh cs (put_step place cs)) ≤ 1
+
+last_fits : (kind : CellKind) (fresh : PlainCookie) (i : ℕ) (cs : List PlainCookie) → IsPut kind fresh cs i
     → AreFitting kind (persistent_part cs) (rows_of_step fresh (put_step i cs))
-last_fits kind fresh i cs = at (nat_lt i (length cs)) refl
+last_fits kind fresh i cs put = at (nat_lt i (length cs)) refl put.limits put.once
   where
     replaced : (a b : Bool) → persists_at i cs ≡ b → (b ≡ true → list_any (λ d. same fresh d) (take 1 (drop i cs)) ≡ true)
         → keeps_limits kind (after_rows (persistent_part cs) (replace_row a b (rank i cs) fresh)) ≡ true → ((c : PlainCookie) → copies c (after_rows (persistent_part cs) (replace_row a b (rank i cs) fresh)) ≤ 1)
@@ -125,14 +129,13 @@ last_fits kind fresh i cs = at (nat_lt i (length cs)) refl
     at : (b : Bool) → nat_lt i (length cs) ≡ b
         → keeps_limits kind (after_step fresh cs (cond b (Replace i (rank i cs) (persists_at i cs)) (Insert i (rank i cs)))) ≡ true
         → ((c : PlainCookie) → copies c (after_step fresh cs (cond b (Replace i (rank i cs) (persists_at i cs)) (Insert i (rank i cs)))) ≤ 1)
-        → (i < length cs → list_any (λ d. same fresh d) (take 1 (drop i cs)) ≡ true)
         → AreFitting kind (persistent_part cs) (rows_of_step fresh (cond b (Replace i (rank i cs) (persists_at i cs)) (Insert i (rank i cs))))
-    at true is within once there =
+    at true is within once =
         let lt = ltb-true i (length cs) is in
         let e = replace_kept i fresh cs lt in
-        replaced (is_persistent fresh) (persists_at i cs) refl (λ _. there lt) (ap (keeps_limits kind) (sym e) ∙ kept_limits kind (slice_set cs i fresh) within)
+        replaced (is_persistent fresh) (persists_at i cs) refl (λ _. put.there lt) (ap (keeps_limits kind) (sym e) ∙ kept_limits kind (slice_set cs i fresh) within)
         (λ c. subst (λ k. copies c k ≤ 1) e (omega (arith, kept_copies c (slice_set cs i fresh), once c)))
-    at false is within once there =
+    at false is within once =
         let e = insert_kept i fresh cs in
         added (is_persistent fresh) (ap (keeps_limits kind) (sym e) ∙ kept_limits kind (insert cs i fresh) within)
         (λ c. subst (λ k. copies c k ≤ 1) e (omega (arith, kept_copies c (insert cs i fresh), once c)))
@@ -220,7 +223,7 @@ stored_once kind now fresh cs live once c =
     rw (stored_is kind now fresh cs live) (omega (arith, others_sum_le (λ d. cond (same c d) 1 0) 0 (going kind now fresh cs) (put fresh cs), put_once fresh cs once c))
 
 -- the fresh cookie's step replaces the same one
-pub there_now : (kind : CellKind) (now : ℤ) (fresh : PlainCookie) (cs : List PlainCookie)
+there_now : (kind : CellKind) (now : ℤ) (fresh : PlainCookie) (cs : List PlainCookie)
     → place_now (going kind now fresh cs) (place_of fresh cs) < length (without (going kind now fresh cs) cs)
     → list_any (λ d. same fresh d) (take 1 (drop (place_now (going kind now fresh cs) (place_of fresh cs)) (without (going kind now fresh cs) cs))) ≡ true
 there_now kind now fresh cs lt = at (nat_lt (place_of fresh cs) (length cs)) refl
@@ -235,28 +238,54 @@ there_now kind now fresh cs lt = at (nat_lt (place_of fresh cs) (length cs)) ref
         let past : place_now (going kind now fresh cs) (place_of fresh cs) ≡ length (without (going kind now fresh cs) cs) = ap (place_now (going kind now fresh cs)) end ∙ place_end 0 (going kind now fresh cs) cs in
         absurd (omega (arith, past, lt))
 
--- the row changes of one step alone
-one_fits : (kind : CellKind) (fresh : PlainCookie) (k : List PlainCookie) (s : JarStep) → AreFitting kind k (rows_of_step fresh s) → AreFitting kind k (rows_of_steps fresh (s ∷ []))
-one_fits kind fresh k s fits = subst (AreFitting kind k) (sym (append-nil (rows_of_step fresh s))) fits
+-- the place of the last step is in the cell, or at its end
+put_within : (kind : CellKind) (now : ℤ) (fresh : PlainCookie) (cs : List PlainCookie)
+    → place_now (going kind now fresh cs) (place_of fresh cs) ≤ length (without (going kind now fresh cs) cs)
+put_within kind now fresh cs = at (nat_lt (place_of fresh cs) (length cs)) refl
+  where
+    gone : List ℕ
+    gone = going kind now fresh cs
 
-live_fit : (kind : CellKind) (now : ℤ) (fresh : PlainCookie) (cs : List PlainCookie) → counted kind fresh ≤ 10240 → ((c : PlainCookie) → copies c cs ≤ 1) → is_expired now fresh ≡ false
-    → AreFitting kind (persistent_part cs) (rows_of_steps fresh (steps kind now fresh cs))
-live_fit kind now fresh cs small once live =
+    at : (b : Bool) → nat_lt (place_of fresh cs) (length cs) ≡ b → place_now gone (place_of fresh cs) ≤ length (without gone cs)
+    at true is = let lt = place_within 0 (place_of fresh cs) (place_of fresh cs) gone cs (omega arith) (ltb-true _ _ is) (fresh_stays kind now fresh cs) in omega (arith, lt)
+    at false is =
+        let end : place_of fresh cs ≡ length cs = omega (arith, ltb-false (place_of fresh cs) (length cs) is, prefix_len-le-length (λ d. not (same fresh d)) cs) in
+        let past : place_now gone (place_of fresh cs) ≡ length (without gone cs) = ap (place_now gone) end ∙ place_end 0 gone cs in
+        omega (arith, past)
+
+-- so the fresh cookie can be put there, after the removals
+pub last_put : (kind : CellKind) (now : ℤ) (fresh : PlainCookie) (cs : List PlainCookie) → counted kind fresh ≤ 10240 → ((c : PlainCookie) → copies c cs ≤ 1) → is_expired now fresh ≡ false
+    → let gone = going kind now fresh cs in IsPut kind fresh (after_steps fresh cs (removals cs [] gone)) (place_now gone (place_of fresh cs))
+last_put kind now fresh cs small once live =
     let gone = going kind now fresh cs in
     let first = removals cs [] gone in
     let cur = after_steps fresh cs first in
     let place = place_now gone (place_of fresh cs) in
     let last = put_step place cur in
-    let left : cur ≡ without gone cs = removals_from_all fresh cs gone (going_apart kind now fresh cs) in
+    let left : without gone cs ≡ cur = sym (removals_from_all fresh cs gone (going_apart kind now fresh cs)) in
     let whole : stored kind now fresh cs ≡ after_step fresh cur last = rw live (fold-append (after_step fresh) cs first (last ∷ [])) in
-    let within : keeps_limits kind (after_step fresh cur last) ≡ true = ap (keeps_limits kind) (sym whole) ∙ stored_fits kind now fresh cs live small in
-    let single : (c : PlainCookie) → copies c (after_step fresh cur last) ≤ 1 = λ c. subst (λ xs. copies c xs ≤ 1) whole (stored_once kind now fresh cs live once c) in
-    let there : place < length cur → list_any (λ d. same fresh d) (take 1 (drop place cur)) ≡ true = subst (λ xs. place < length xs → list_any (λ d. same fresh d) (take 1 (drop place xs)) ≡ true) (sym left) (there_now kind now fresh cs) in
-    let all : steps kind now fresh cs ≡ first ++ last ∷ [] = rw live refl in
-    subst (AreFitting kind (persistent_part cs)) (sym (ap (rows_of_steps fresh) all ∙ flat_map-append (rows_of_step fresh) first (last ∷ [])))
+    record {
+      inside = subst (λ xs. place ≤ length xs) left (put_within kind now fresh cs);
+      there = subst (λ xs. place < length xs → list_any (λ d. same fresh d) (take 1 (drop place xs)) ≡ true) left (there_now kind now fresh cs);
+      limits = ap (keeps_limits kind) (sym whole) ∙ stored_fits kind now fresh cs live small;
+      once = λ c. subst (λ xs. copies c xs ≤ 1) whole (stored_once kind now fresh cs live once c);
+    }
+
+-- the row changes of one step alone
+one_fits : (kind : CellKind) (fresh : PlainCookie) (k : List PlainCookie) (s : JarStep) → AreFitting kind k (rows_of_step fresh s) → AreFitting kind k (rows_of_steps fresh (s ∷ []))
+one_fits kind fresh k s fits = subst (AreFitting kind k) (sym (append-nil (rows_of_step fresh s))) fits
+
+live_fit : (kind : CellKind) (fresh : PlainCookie) (cs : List PlainCookie) (gone : List ℕ) (place : ℕ)
+    → let first = removals cs [] gone in let cur = after_steps fresh cs first in
+    IsPut kind fresh cur place → AreFitting kind (persistent_part cs) (rows_of_steps fresh (first ++ put_step place cur ∷ []))
+live_fit kind fresh cs gone place put =
+    let first = removals cs [] gone in
+    let cur = after_steps fresh cs first in
+    let last = put_step place cur in
+    subst (AreFitting kind (persistent_part cs)) (sym (flat_map-append (rows_of_step fresh) first (last ∷ [])))
     (fits_append kind (persistent_part cs) (rows_of_steps fresh first) (rows_of_steps fresh (last ∷ [])) (removals_fit kind fresh cs [] gone)
     (subst (λ k. AreFitting kind k (rows_of_steps fresh (last ∷ []))) (sym (steps_kept fresh cs first (removals_right fresh cs [] gone)))
-    (one_fits kind fresh (persistent_part cur) last (last_fits kind fresh place cur within single there))))
+    (one_fits kind fresh (persistent_part cur) last (last_fits kind fresh place cur put))))
 
 -- the row changes of a store are valid one after another
 pub rows_fit : (kind : CellKind) (now : ℤ) (fresh : PlainCookie) (cs : List PlainCookie) → counted kind fresh ≤ 10240 → ((c : PlainCookie) → copies c cs ≤ 1)
@@ -267,9 +296,9 @@ rows_fit kind now fresh cs small once = at (is_expired now fresh) refl
     gone_row true = one_fits kind fresh (persistent_part cs) (remove_step (place_of fresh cs) cs) (remove_fits kind (place_of fresh cs) cs)
     gone_row false = tt
 
-    at : (b : Bool) → is_expired now fresh ≡ b → AreFitting kind (persistent_part cs) (rows_of_steps fresh (steps kind now fresh cs))
-    at true is = rw is (gone_row (nat_lt (place_of fresh cs) (length cs)))
-    at false is = live_fit kind now fresh cs small once is
+    at : (b : Bool) → is_expired now fresh ≡ b → AreFitting kind (persistent_part cs) (rows_of_steps fresh (cond b (removal_at (place_of fresh cs) cs) (live_steps kind now fresh cs)))
+    at true is = gone_row (nat_lt (place_of fresh cs) (length cs))
+    at false is = live_fit kind fresh cs (going kind now fresh cs) (place_now (going kind now fresh cs) (place_of fresh cs)) (last_put kind now fresh cs small once is)
 
 -- and lead from what was kept to what is kept
 pub valid_rows : (kind : CellKind) (now : ℤ) (fresh : PlainCookie) (cs : List PlainCookie) → counted kind fresh ≤ 10240 → ((c : PlainCookie) → copies c cs ≤ 1)

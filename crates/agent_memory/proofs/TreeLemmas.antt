@@ -1,5 +1,5 @@
 -- Each open tab has a tree of frames, before and after each call on the list of open tabs.
-use Rattle.std.proofs.Common.{◌==◌, ℕ, Bool, true, false, cond, List, map, Option, Some, None, sym, subst}
+use Rattle.std.proofs.Common.{◌≡◌, ◌==◌, ℕ, Bool, true, false, cond, List, map, Option, Some, None, sym, subst}
 use Rattle.std.specs.Prelude.{option_map}
 use Rattle.agent_base.specs.declared.refusals.Label.{Label}
 use Rattle.frame_tree.specs.Tree.{PlainFrame}
@@ -40,8 +40,14 @@ trees_after_queues change tabs trees = λ q. subst IsFrameTreeAt
     at None tree = tt
     at (Some tab) tree = tree
 
-pub trees_after_send : (events : List (Label × PlainEvent)) (tabs : List PlainTab) → AreTrees tabs → AreTrees (sent events tabs)
+trees_after_send : (events : List (Label × PlainEvent)) (tabs : List PlainTab) → AreTrees tabs → AreTrees (sent events tabs)
 trees_after_send events tabs trees = trees_after_queues (λ label queue. queue_told (event_for label events) queue) tabs trees
+
+-- each tree stays where events are sent, after room was made for them
+pub trees_sent : (events : List (Label × PlainEvent)) {old ready new : List PlainTab}
+    → ready ≡ old → new ≡ sent events ready → AreTrees old → AreTrees new
+trees_sent events {old} {ready} kept told trees =
+    subst AreTrees (sym told) (trees_after_send events ready (subst AreTrees (sym kept) trees))
 
 pub trees_after_take : (label : Label) (tabs : List PlainTab) → AreTrees tabs → AreTrees (taken label tabs)
 trees_after_take label tabs trees = trees_after_queues (after_take label) tabs trees

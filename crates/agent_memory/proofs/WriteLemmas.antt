@@ -188,7 +188,8 @@ module _ (kind : AreaKind) (writer : Keyed) (name : List ℕ) (cells : SharedCel
 -- ---- the events of the documents that hear
 
 -- each is for a document that is ready
-pub events_ready : {to : List Label} (events : List (Label × Event)) → map (λ e. e.0) events ≡ to
-    → (ready : Label → Bool) → list_all ready to ≡ true
+pub events_ready : {to those : List Label} (events : List (Label × Event)) → map (λ e. e.0) events ≡ to
+    → (ready : Label → Bool) → those ≡ to → list_all ready those ≡ true
     → list_all (λ e. ready e.0) events ≡ true
-events_ready events labels ready all = sym (list_all-map ready (λ e. e.0) events) ∙ ap (list_all ready) labels ∙ all
+events_ready events labels ready equal all =
+    sym (list_all-map ready (λ e. e.0) events) ∙ ap (list_all ready) (labels ∙ sym equal) ∙ all

@@ -1,28 +1,22 @@
 -- The area is emptied, and each document that hears is told.
-use Rattle.std.proofs.Common.{[], None, ap, sym, subst, ◌∙◌}
-use Rattle.std.specs.List.{list_all}
+use Rattle.std.proofs.Common.{[], None, ap, ◌∙◌}
 use Rattle.storage_key.specs.Plain.{plain_key}
 use Rattle.storage_events.specs.Event.{PlainEvent}
 use Rattle.live_state.specs.Queues.{are_distinct, is_ready}
 use Rattle.agent_model.specs.Documents.{Keyed}
-use Rattle.agent_memory.specs.FrameTrees.{AreTrees}
-use Rattle.agent_memory.proofs.TreeLemmas.{trees_after_send}
+use Rattle.agent_memory.proofs.TreeLemmas.{trees_sent}
 use Rattle.agent_memory.proofs.WriteLemmas.{events_ready, is_written, these_sent}
 use Rattle.agent_memory.proofs.holdings.Holdings.clear.Goals as goal
 
 pub send-requires : goal.send-requires
 send-requires c = record {
   ready = events_ready c.in_ok-events.events.items (c.in_ok-events.ensures.labels ∙ c.as_slice.ensures.value)
-      (is_ready c.reserve_queues.new.self)
-      (ap (list_all (is_ready c.reserve_queues.new.self)) (sym c.as_slice-2.ensures.value)
-      ∙ c.in_ok-reserve_queues.ensures.ready);
+      (is_ready c.reserve_queues.new.self) c.as_slice-2.ensures.value c.in_ok-reserve_queues.ensures.ready;
   distinct = ap are_distinct (c.in_ok-events.ensures.labels ∙ c.as_slice.ensures.value) ∙ c.in_ok-to.ensures.once;
 }
 
 pub invariant_of-self-2 : goal.invariant_of-self-2
-invariant_of-self-2 c =
-    subst AreTrees (sym c.send.ensures.sent)
-    (trees_after_send _ c.reserve_queues.new.self.tabs (subst AreTrees (sym c.reserve_queues.ensures.same.0) c.self.invariant))
+invariant_of-self-2 c = trees_sent _ c.reserve_queues.ensures.same.0 c.send.ensures.sent c.self.invariant
 
 pub returns-clause-acts : goal.returns-clause-acts
 returns-clause-acts c = λ document there.

@@ -1,6 +1,5 @@
 -- The name is removed, and each document that hears is told.
-use Rattle.std.proofs.Common.{◌≡◌, false, None, Some, rules, ap, sym, subst, ◌∙◌}
-use Rattle.std.specs.List.{list_all}
+use Rattle.std.proofs.Common.{◌≡◌, false, None, Some, rules, ap, subst, ◌∙◌}
 use Rattle.std.specs.Prelude.{is_none, option_copied}
 use Rattle.local_area.specs.Area.{area_remove}
 use Rattle.storage_key.specs.Plain.{plain_key}
@@ -10,9 +9,8 @@ use Rattle.frame_tree.specs.Document.{PlainDocument}
 use Rattle.row_changes.specs.Appended.{IsAppended}
 use Rattle.agent_model.specs.Documents.{Keyed}
 use Rattle.agent_model.specs.Effects.{Done}
-use Rattle.agent_memory.specs.FrameTrees.{AreTrees}
 use Rattle.agent_memory.specs.HoldingsView.{cells_of, held_of}
-use Rattle.agent_memory.proofs.TreeLemmas.{trees_after_send}
+use Rattle.agent_memory.proofs.TreeLemmas.{trees_sent}
 use Rattle.agent_memory.proofs.WriteLemmas.{events_ready, is_removed, is_written, none_copied, removed_is, these_sent}
 use Rattle.agent_memory.proofs.WritesLemmas.{front_same, writes_wanting}
 use Rattle.agent_memory.proofs.holdings.Holdings.del.Goals as goal
@@ -20,16 +18,12 @@ use Rattle.agent_memory.proofs.holdings.Holdings.del.Goals as goal
 pub send-requires : goal.send-requires
 send-requires c = record {
   ready = events_ready c.in_ok-events.events.items (c.in_ok-events.ensures.labels ∙ c.as_slice.ensures.value)
-      (is_ready c.reserve_queues.new.self)
-      (ap (list_all (is_ready c.reserve_queues.new.self)) (sym c.as_slice-2.ensures.value)
-      ∙ c.in_ok-reserve_queues.ensures.ready);
+      (is_ready c.reserve_queues.new.self) c.as_slice-2.ensures.value c.in_ok-reserve_queues.ensures.ready;
   distinct = ap are_distinct (c.in_ok-events.ensures.labels ∙ c.as_slice.ensures.value) ∙ c.in_ok-to.ensures.once;
 }
 
 pub invariant_of-self-2 : goal.invariant_of-self-2
-invariant_of-self-2 c =
-    subst AreTrees (sym c.send.ensures.sent)
-    (trees_after_send _ c.reserve_queues.new.self.tabs (subst AreTrees (sym c.reserve_queues.ensures.same.0) c.self.invariant))
+invariant_of-self-2 c = trees_sent _ c.reserve_queues.ensures.same.0 c.send.ensures.sent c.self.invariant
 
 pub returns : goal.returns
 returns c =

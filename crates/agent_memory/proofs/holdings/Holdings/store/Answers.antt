@@ -1,6 +1,5 @@
 -- The pair is stored within the quota, and each document that hears is told; past it all stays.
 use Rattle.std.proofs.Common.{◌≡◌, ◌≤◌, ◌<◌, List, [], Some, ap, sym, string_bytes, subst, take, ◌∙◌}
-use Rattle.std.specs.List.{list_all}
 use Rattle.local_area.specs.Area.{Pair, area_put, area_weight, quota}
 use Rattle.web_storage.specs.Stored.{Entries, held_with}
 use Rattle.web_cookies.specs.Stored.{shared_in}
@@ -18,7 +17,7 @@ use Rattle.agent_memory.specs.Documents.{each_sent}
 use Rattle.agent_memory.specs.FrameTrees.{AreTrees}
 use Rattle.agent_memory.specs.HoldingsView.{HoldingsView, cells_of, held_of}
 use Rattle.agent_memory.proofs.ShownLemmas.{shown}
-use Rattle.agent_memory.proofs.TreeLemmas.{trees_after_send}
+use Rattle.agent_memory.proofs.TreeLemmas.{trees_sent}
 use Rattle.agent_memory.proofs.WriteLemmas.{events_ready, is_past, is_refused, is_stored, is_within, is_written, refused_is, stored_is}
 use Rattle.agent_memory.proofs.WritesLemmas.{appended_front, cut_back, front_same, none_appended, writes_wanting}
 use Rattle.agent_memory.proofs.holdings.Holdings.store.Goals as goal
@@ -26,7 +25,7 @@ use Rattle.agent_memory.proofs.holdings.Holdings.store.Goals as goal
 pub send-requires : goal.send-requires
 send-requires c = record {
   ready = events_ready c.args.events.items c.requires.labels (is_ready c.reserve_queues.new.self)
-      (ap (list_all (is_ready c.reserve_queues.new.self)) (sym c.as_slice.ensures.value) ∙ c.in_ok-reserve_queues.ensures.ready);
+      c.as_slice.ensures.value c.in_ok-reserve_queues.ensures.ready;
   distinct = ap are_distinct c.requires.labels ∙ c.requires.once;
 }
 
@@ -34,9 +33,7 @@ pub invariant_of-self : goal.invariant_of-self
 invariant_of-self c = subst AreTrees (sym c.reserve_queues.ensures.same.0) c.self.invariant
 
 pub invariant_of-self-in-Ok : goal.invariant_of-self-in-Ok
-invariant_of-self-in-Ok c =
-    subst AreTrees (sym c.send.ensures.sent)
-    (trees_after_send _ c.reserve_queues.new.self.tabs (subst AreTrees (sym c.reserve_queues.ensures.same.0) c.self.invariant))
+invariant_of-self-in-Ok c = trees_sent _ c.reserve_queues.ensures.same.0 c.send.ensures.sent c.self.invariant
 
 pub returns-in-Ok : goal.returns-in-Ok
 returns-in-Ok c =

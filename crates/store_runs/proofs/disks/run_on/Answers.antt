@@ -1,4 +1,4 @@
-use Rattle.std.proofs.Common.{sym, ap, subst, ◌∙◌}
+use Rattle.std.proofs.Common.{◌≡◌, true, sym, ap, subst, ◌∙◌}
 use Rattle.agent_base.specs.Counts.{Rose}
 use Rattle.agent_base.proofs.Pieces.{takes_none}
 use Rattle.durable_model.specs.Histories.{opened_at}
@@ -6,11 +6,23 @@ use Rattle.std.specs.Prelude.{Ok}
 use Rattle.journal.specs.Opening.{opening_calls}
 use Rattle.store_runs.specs.Disks.{OpensByCuts, WritesOn}
 use Rattle.store_runs.specs.Endings.{IsStoreEnding, WriteCounts}
+use Rattle.store_runs.specs.Openings.{IsOpenedAt}
 use Rattle.store_runs.specs.Steps.{steps_of}
 use Rattle.store_runs.specs.Tidy.{LeavesTidy}
 use Rattle.store_runs.proofs.DiskLemmas.{fails_within, opened_here, opened_writes, opens_past, refused_ends, refused_writes, tidy_under}
 use Rattle.store_runs.proofs.EndLemmas.{limit_ends, refused_device, refused_done, refused_stays, refused_store}
 use Rattle.store_runs.proofs.disks.run_on.Goals as goal
+use Rattle.store_runs.proofs.disks.run_on.Goals.{In-Ok}
+
+-- the agent stands for what the store on the disk does
+is_opened : (g : _) (c : In-Ok g) → (g.D.Disk.view c.args.disk).tells ≡ true
+    → IsOpenedAt c.in-Ok.agent (g.D.Disk.view c.in-Ok.agent.disk) (opened_at c.args.options.start c.in-Ok.ensures.seen.0)
+is_opened g c told =
+    let options = c.args.options in
+    let is = c.in-Ok.ensures in
+    opened_here c.args.list.now options.start options.batch options.checkpoint (g.D.Disk.view c.args.disk)
+    (g.D.Disk.view c.in-Ok.agent.disk) c.in-Ok.agent is.seen.0 is.rules.0 is.rules.1 is.rules.2 is.rules.3
+    (is.tells ∙ told) c.requires.batch.0 is.seen.2.0 is.seen.2.1
 
 pub returns-in-Ok-clause-written : goal.returns-in-Ok-clause-written
 returns-in-Ok-clause-written g c = λ told.
@@ -27,8 +39,7 @@ returns-in-Ok-clause-written g c = λ told.
     let seen = c.in-Ok.ensures.seen in
     let base = seen.0 in
     let under = c.in-Ok.ensures.rules in
-    let opened = opened_here list start batch checkpoint old view agent base under.0 under.1 under.2 under.3
-    (c.in-Ok.ensures.tells ∙ told) c.requires.batch.0 seen.2.0 seen.2.1 in
+    let opened = is_opened g (goal.at.returns-in-Ok-clause-written g c).In-Ok told in
     let cuts : OpensByCuts (Ok tt) old = λ bytes numbers contents on cut.
     opens_past old view (opening_calls bytes) (g.met.D.Disk.lawful c.args.disk)
     (g.met.D.Disk.lawful agent.disk) c.in-Ok.ensures.powered (c.in-Ok.ensures.calls bytes contents).all numbers cut in
@@ -48,39 +59,25 @@ returns-in-Ok-clause-limit g c = λ bytes contents over. absurd (c.in-Ok.ensures
 pub returns-in-Ok-clause-device : goal.returns-in-Ok-clause-device
 returns-in-Ok-clause-device g c = λ told device.
     let old = g.D.Disk.view c.args.disk in
-    let agent = c.in-Ok.agent in
-    let view = g.D.Disk.view agent.disk in
-    let list = c.args.list.now in
-    let start = c.args.options.start in
-    let batch = c.args.options.batch in
-    let checkpoint = c.args.options.checkpoint in
-    let seen = c.in-Ok.ensures.seen in
-    let base = seen.0 in
-    let under = c.in-Ok.ensures.rules in
-    let opened = opened_here list start batch checkpoint old view agent base under.0 under.1 under.2 under.3
-    (c.in-Ok.ensures.tells ∙ told) c.requires.batch.0 seen.2.0 seen.2.1 in
+    let opened = is_opened g (goal.at.returns-in-Ok-clause-device g c).In-Ok told in
+    let start = opened_at c.args.options.start c.in-Ok.ensures.seen.0 in
     subst (λ disk. Rose old.faults (g.D.Disk.view disk).faults) (sym c.into_disk.ensures)
     (subst (λ n. Rose n (g.D.Disk.view c.run_lines-ending.new.agent.disk).faults)
-    c.in-Ok.ensures.others.faults (c.run_lines-ending.ensures.device (opened_at start base) opened device))
+    c.in-Ok.ensures.others.faults (c.run_lines-ending.ensures.device start opened device))
 
 pub returns-in-Ok-clause-tidy : goal.returns-in-Ok-clause-tidy
 returns-in-Ok-clause-tidy g c = λ told done.
-    let old = g.D.Disk.view c.args.disk in
-    let agent = c.in-Ok.agent in
     let new = c.run_lines-ending.new.agent in
     let list = c.args.list.now in
-    let start = c.args.options.start in
-    let batch = c.args.options.batch in
     let checkpoint = c.args.options.checkpoint in
-    let seen = c.in-Ok.ensures.seen in
     let under = c.in-Ok.ensures.rules in
-    let opened = opened_here list start batch checkpoint old (g.D.Disk.view agent.disk)
-    agent seen.0 under.0 under.1 under.2 under.3 (c.in-Ok.ensures.tells ∙ told) c.requires.batch.0 seen.2.0 seen.2.1 in
+    let opened = is_opened g (goal.at.returns-in-Ok-clause-tidy g c).In-Ok told in
+    let start = opened_at c.args.options.start c.in-Ok.ensures.seen.0 in
     let goes = c.run_lines-ending.ensures.goes_on in
     subst (λ disk. LeavesTidy checkpoint list.digest (g.D.Disk.view disk).may_leave) (sym c.into_disk.ensures)
     (tidy_under checkpoint new.checkpoint list.digest new.journal.digest (g.D.Disk.view new.disk).may_leave
     (goes.checkpoint ∙ under.3) (goes.digest ∙ under.1)
-    (c.run_lines-ending.ensures.tidy (opened_at start seen.0) opened done).1)
+    (c.run_lines-ending.ensures.tidy start opened done).1)
 
 pub returns-in-Ok-clause-tells : goal.returns-in-Ok-clause-tells
 returns-in-Ok-clause-tells g c = ap (λ disk. (g.D.Disk.view disk).tells) c.into_disk.ensures

@@ -11,6 +11,6 @@ pub mod RawFile
 pub mod ImageLaws
 pub mod Laws
 pub mod MemLaws
-pub mod Record
+pub mod Changes
 pub mod MediumBuffers
 pub mod TellsNothing

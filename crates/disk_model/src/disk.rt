@@ -1,6 +1,6 @@
 //! A disk: a file whose writes may be lost or torn until a sync.
 ghost use Rattle.std.specs.Prelude.{◌≡◌, ◌+◌, ◌<◌, ◌≤◌, List, ℕ, length, false, Some};
-ghost use Rattle.std.specs.Prelude.{IfOk, OnOk, OnErr};
+ghost use Rattle.std.specs.Prelude.{IfOk, OnOk, OnErr, IsOk};
 ghost use Rattle.agent_base.specs.Counts.{HasCause};
 ghost use Rattle.disk_model.specs.Disk.{View, Holds, Written, Torn, Goes, Follows, IsSettled};
 ghost use Rattle.disk_model.specs.Disk.{Elapses, Stays, Device, HasFailed, UsesRoom};
@@ -58,7 +58,7 @@ pub trait Disk {
     /// The power is cut and comes back. Takes no memory.
     ///
     /// The contents become one of the images, nothing is pending, and the past that is told begins
-    /// here.
+    /// here. A disk that tells its cuts does not fail.
     fn restart(&mut self) -> Result<(), Failed>
         ensures contents { OnOk result (Goes (λ _ d. (view self.old).may_leave d)
             (view self.old).contents (view self.new).contents) }
@@ -72,6 +72,7 @@ pub trait Disk {
             × ((view self.new).failures ≡ (view self.old).failures)
             × ((view self.new).cuts ≡ (view self.old).cuts)) }
         ensures failure { OnErr result (HasFailed (view self.old) (view self.new)) }
+        ensures sure { (cuts : List ℕ) → (view self.old).cuts ≡ Some cuts → IsOk result }
         ensures calls { (view self.new).changing ≡ (view self.old).changing }
         ensures room { UsesRoom 0 (view self.old) (view self.new) };
 

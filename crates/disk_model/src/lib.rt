@@ -8,6 +8,7 @@
 
 mod disk;
 mod file_disk;
+mod history;
 mod medium;
 mod mem_disk;
 mod raw_file;

@@ -1,24 +1,15 @@
-// The bytes of a disk in memory, with the record of its changing calls.
-ghost use Rattle.std.specs.Prelude.{◌≡◌, ◌⊎◌, ◌+◌, ◌*◌, ◌<◌, ◌≤◌, ◌++◌, ◌∷◌, [], List, ℕ, length};
-ghost use Rattle.std.specs.Prelude.{true, false, OnOk, OnErr, IfOk, IsOk, vec_capacity, vec_len};
+// The bytes of a disk in memory, with the history of its changing calls.
+ghost use Rattle.std.specs.Prelude.{◌≡◌, ◌+◌, ◌<◌, ◌≤◌, ◌++◌, ◌∷◌, [], List, ℕ, length};
+ghost use Rattle.std.specs.Prelude.{true, false, OnOk, OnErr, IsOk, vec_capacity, vec_len};
 ghost use Rattle.disk_model.specs.Image.{greatest_end};
 ghost use Rattle.disk_model.specs.History.{overlaid, wrote, synced, after, Past, held, Grows};
 ghost use Rattle.disk_model.specs.Recovery.{Recovered};
-ghost use Rattle.disk_model.specs.Record.{all_events, unless_fresh, IsMore, IsMiss};
-ghost use Rattle.disk_model.specs.MediumBuffers.{IsPlaced, AreBuffersOf, HasRoom};
+ghost use Rattle.disk_model.specs.MediumBuffers.{IsPlaced, AreBuffersOf, HasRoom, unless_fresh};
 
+use crate::history::{Change, History};
 use crate::recovery::{keep_each, recover};
 use std::alloc::{AllocError, Global};
 use std::marker::Model;
-
-// A write, with the syncs before it: those that failed, and the first that succeeded and all after.
-#[derive(Clone, Copy, Debug)]
-pub struct Entry {
-    pub failed: u64,
-    pub good: u64,
-    pub at: usize,
-    pub len: usize,
-}
 
 // Puts these bytes in the place of those that are there, in the room that is there.
 pub fn copy(into: &mut Vec<u8>, bytes: &[u8]) -> Result<(), AllocError>
@@ -48,25 +39,15 @@ fn overlay(contents: &mut Vec<u8>, at: usize, bytes: &[u8]) -> Result<(), AllocE
     contents.extend_from_slice(bytes)
 }
 
-// Before the first write: what was there at first, and what is on the disk, is what is there.
-fn begin(
-    fresh: bool,
-    contents: &[u8],
-    synced: &mut Vec<u8>,
-    first: &mut Vec<u8>,
-) -> Result<(), AllocError>
+// Before the first write: what is on the disk is what is there.
+fn begin(fresh: bool, contents: &[u8], synced: &mut Vec<u8>) -> Result<(), AllocError>
     ensures synced { OnOk result
         (synced.new.items ≡ unless_fresh fresh contents.now synced.old.items) }
-    ensures first { OnOk result
-        (first.new.items ≡ unless_fresh fresh contents.now first.old.items) }
-    ensures synced_capacity { vec_capacity synced.old ≤ vec_capacity synced.new }
-    ensures first_capacity { vec_capacity first.old ≤ vec_capacity first.new }
-    ensures full { OnErr result ((vec_capacity synced.old < length contents.now)
-        ⊎ (vec_capacity first.old < length contents.now)) }
+    ensures capacity { vec_capacity synced.old ≤ vec_capacity synced.new }
+    ensures full { OnErr result (vec_capacity synced.old < length contents.now) }
 {
     if fresh {
         copy(synced, contents)?;
-        copy(first, contents)?;
     }
     Ok(())
 }
@@ -93,38 +74,16 @@ fn settle(
     keep_each(synced, contents, ranges)
 }
 
-// One sync more that failed.
-fn missed(failed: u64, good: u64) -> (u64, u64)
-    ensures { IsMiss failed good result.0 result.1 }
-{
-    if good == 0 {
-        (failed.saturating_add(1), 0)
-    } else {
-        (failed, good.saturating_add(1))
-    }
-}
-
-// One that succeeded.
-fn more(good: u64) -> u64
-    ensures { IsMore good result }
-{
-    good.saturating_add(1)
-}
-
-// The bytes, and the record of all changing calls: each write has an entry, and the log has the
-// bytes of all writes back to back. Until the first write the contents stand for the other copies
-// too.
+// The bytes. Until the first write the contents stand for what is on the disk too. The history is
+// that of all changing calls since the last restart; the ranges are those written since the last
+// sync that succeeded.
 #[derive(Debug, Drop)]
 pub struct Medium {
     contents: Vec<u8>,
     synced: Vec<u8>,
-    first: Vec<u8>,
     fresh: bool,
-    entries: Vec<Entry>,
-    log: Vec<u8>,
-    failed: u64,
-    good: u64,
     ranges: Vec<(usize, usize)>,
+    history: History,
     room_end: usize,
     room_writes: usize,
 }
@@ -133,20 +92,19 @@ impl Model for Medium {
     ghost Value = { Past };
 
     ghost view = { λ m. record {
-      first = unless_fresh m.fresh m.contents.items m.first.items;
-      events = all_events m.entries.items m.log.items m.failed m.good;
+      first = m.history.first;
+      events = m.history.events;
       room_end = m.room_end;
       room_writes = m.room_writes;
     } };
 
-    ghost invariant = { λ m. AreBuffersOf m.contents.items m.synced.items m.first.items m.fresh
-        m.entries.items m.log.items m.failed m.good m.ranges.items
-        × HasRoom m.contents m.synced m.first m.fresh m.entries m.log m.ranges
-        m.room_end m.room_writes };
+    ghost invariant = { λ m. AreBuffersOf m.contents.items m.synced.items m.fresh m.ranges.items
+        m.history.first m.history.events
+        × HasRoom m.contents m.synced m.fresh m.ranges m.room_end m.room_writes };
 }
 
 impl Medium {
-    /// Writes, and keeps what it wrote.
+    /// Writes over what is there, and past the end.
     pub fn write(&mut self, at: usize, bytes: &[u8]) -> Result<(), AllocError>
         requires place { at ≤ length (held self.old).contents }
         requires room { at + length bytes.now ≤ self.old.room_end }
@@ -156,25 +114,11 @@ impl Medium {
         ensures end { self.new.room_end ≡ self.old.room_end }
         ensures writes { self.new.room_writes + 1 ≡ self.old.room_writes }
     {
-        begin(
-            self.fresh,
-            &self.contents,
-            &mut self.synced,
-            &mut self.first,
-        )?;
+        begin(self.fresh, &self.contents, &mut self.synced)?;
         self.fresh = false;
         overlay(&mut self.contents, at, bytes)?;
-        let entry = Entry {
-            failed: self.failed,
-            good: self.good,
-            at,
-            len: bytes.len(),
-        };
-        self.entries.push(entry)?;
-        self.log.extend_from_slice(bytes)?;
         self.ranges.push((at, bytes.len()))?;
-        self.failed = 0;
-        self.good = 0;
+        self.history = self.history.then(&Change::Wrote(at, bytes));
         self.room_writes -= 1;
         Ok(())
     }
@@ -188,7 +132,7 @@ impl Medium {
     {
         settle(self.fresh, &self.contents, &mut self.synced, &self.ranges)?;
         self.ranges.clear();
-        self.good = more(self.good);
+        self.history = self.history.then(&Change::Synced);
         Ok(())
     }
 
@@ -198,12 +142,10 @@ impl Medium {
         ensures end { self.new.room_end ≡ self.old.room_end }
         ensures writes { self.new.room_writes ≡ self.old.room_writes }
     {
-        let (failed, good) = missed(self.failed, self.good);
-        self.failed = failed;
-        self.good = good;
+        self.history = self.history.then(&Change::Missed);
     }
 
-    /// The power was cut, and comes back. The record begins anew.
+    /// The power was cut, and comes back. The history begins anew.
     pub fn restart(&mut self, pick: u8) -> Result<(), AllocError>
         ensures ok { IsOk result }
         ensures recovered { Recovered pick (held self.old) self.new.first }
@@ -219,11 +161,8 @@ impl Medium {
             pick,
         )?;
         self.fresh = true;
-        self.entries.clear();
-        self.log.clear();
         self.ranges.clear();
-        self.failed = 0;
-        self.good = 0;
+        self.history = self.history.then(&Change::Began(&self.contents));
         Ok(())
     }
 
@@ -238,25 +177,20 @@ impl Medium {
         ensures events { result.events ≡ [] }
         ensures writes { result.room_writes ≡ 0 }
     {
+        let history = History::new().then(&Change::Began(&contents));
         Medium {
             contents,
             synced: Vec::new(alloc),
-            first: Vec::new(alloc),
             fresh: true,
-            entries: Vec::new(alloc),
-            log: Vec::new(alloc),
-            failed: 0,
-            good: 0,
             ranges: Vec::new(alloc),
+            history,
             room_end: 0,
             room_writes: 0,
         }
     }
 
-    /// Makes room for so many writes that end at most there.
-    ///
-    /// Each of them may have `end` bytes, so the log gets room for as many a write. Where a buffer
-    /// grows, it doubles at least. Room that is never written takes addresses rather than memory.
+    /// Makes room for so many writes that end at most there. Where a buffer grows, it doubles at
+    /// least. Room that is never written takes addresses rather than memory.
     pub fn reserve(&mut self, end: usize, writes: usize) -> Result<(), AllocError>
         ensures first { self.new.first ≡ self.old.first }
         ensures events { self.new.events ≡ self.old.events }
@@ -266,13 +200,9 @@ impl Medium {
             × (self.new.room_writes ≡ self.old.room_writes)) }
     {
         let end = end.max(self.contents.len()).max(self.room_end);
-        let all = end.checked_mul(writes).ok_or(AllocError)?;
         widen(&mut self.contents, end)?;
         widen(&mut self.synced, end)?;
-        widen(&mut self.first, end)?;
-        self.entries.reserve(writes)?;
         self.ranges.reserve(writes)?;
-        self.log.reserve(all)?;
         self.room_end = end;
         self.room_writes = writes;
         Ok(())

@@ -241,6 +241,7 @@ impl Disk for MemDisk {
             × ((view_of self.new).failures ≡ (view_of self.old).failures)
             × ((view_of self.new).cuts ≡ (view_of self.old).cuts)) }
         ensures failure { OnErr result (HasFailed (view_of self.old) (view_of self.new)) }
+        ensures sure { (cuts : List ℕ) → (view_of self.old).cuts ≡ Some cuts → IsOk result }
         ensures calls { (view_of self.new).changing ≡ (view_of self.old).changing }
         ensures room { UsesRoom 0 (view_of self.old) (view_of self.new) }
         ensures ok { IsOk result }

@@ -5,8 +5,7 @@ ghost use Rattle.std.specs.Prelude.{vec_capacity, vec_len};
 ghost use Rattle.disk_model.specs.Image.{greatest_end};
 ghost use Rattle.disk_model.specs.History.{Held};
 ghost use Rattle.disk_model.specs.Recovery.{IsSpoiled, halves, Recovered};
-ghost use Rattle.disk_model.specs.Record.{unless_fresh};
-ghost use Rattle.disk_model.specs.MediumBuffers.{IsPlaced};
+ghost use Rattle.disk_model.specs.MediumBuffers.{IsPlaced, unless_fresh};
 
 use crate::medium::copy;
 use std::alloc::AllocError;

@@ -10,5 +10,5 @@ recover-requires c =
     record {
       within = subst (λ (r : List (ℕ × ℕ)). greatest_end 0 r ≤ length i.contents.items) (sym c.deref_mut.ensures.value) k.within;
       shorter = λ e. let placed = rw e at k.placed in placed_shorter i.synced.items i.contents.items i.contents.items i.ranges.items placed;
-      untouched = λ e. let none = (k.untouched e).2 in rw c.deref_mut.ensures.value none;
+      untouched = λ e. let none = k.untouched e in rw c.deref_mut.ensures.value none;
     }

@@ -1,6 +1,6 @@
 -- What an opening after a cut of the power finds.
 -- Source: none.
-use Rattle.std.specs.Prelude.{◌≡◌, ◌⊎◌, ℕ, true, false, List, IsErrOf, OnOk, Result}
+use Rattle.std.specs.Prelude.{◌≡◌, ◌⊎◌, ℕ, true, false, List, Some, IsErrOf, OnOk, Result}
 use Rattle.agent_base.specs.Counts.{Rose}
 use Rattle.disk_model.specs.Disk.{HasFailed, IsNextCut, View, WasOff}
 use Rattle.journal.specs.Opening.{IsOpening}
@@ -47,6 +47,9 @@ pub record Reopens {T : Type 0} (result : Result T OpenFault) (old new : View) :
   -- the disk's own restart found the power off still, or the call that failed was a cut
   pub failed : IsErrOf result DeviceFault
       → WasOff old new ⊎ IsNextCut old.cuts new.cuts new.changing
+  -- and where the disk tells its cuts, it was a cut
+  pub cut : (cuts : List ℕ) → old.cuts ≡ Some cuts → IsErrOf result DeviceFault
+      → IsNextCut old.cuts new.cuts new.changing
   pub others : IsErrOf result DeviceFault
       ⊎ ((new.faults ≡ old.faults) × (new.failures ≡ old.failures) × (new.cuts ≡ old.cuts))
   pub on : OnOk result (new.off ≡ false)

@@ -7,3 +7,4 @@ pub mod Recoveries
 pub mod Plans
 mod Pieces
 mod Walks
+mod WritingBack

@@ -3,7 +3,7 @@ ghost use Rattle.std.specs.Prelude.{◌≡◌, ◌^◌, ◌<◌, ◌≤◌, List
 ghost use Rattle.std.specs.Prelude.{IfOk, OnOk, OnErr};
 ghost use Rattle.disk_model.specs.Disk.{View, Torn, Goes, Follows, IsSettled, Elapses, Stays};
 ghost use Rattle.disk_model.specs.DiskLaws.{IsLawful};
-ghost use Rattle.disk_model.specs.RawFile.{HoldsFirst, WrittenFirst, CountsFault};
+ghost use Rattle.disk_model.specs.RawFile.{HoldsFirst, WrittenFirst, CountsFault, IsTornIn, StaysTorn};
 
 use agent_base::Failed;
 
@@ -35,8 +35,8 @@ pub trait RawFile {
 
     /// Writes the first of these bytes, as many as it answers, and at least one.
     ///
-    /// Until a sync, a cut may leave any bytes in the whole range, and what it might have left
-    /// before.
+    /// Until a sync that succeeds, a cut may leave any bytes in the whole range, and what it might
+    /// have left before.
     fn write_some(&mut self, at: u64, bytes: &[u8]) -> Result<usize, Failed>
         requires some { 0 < length bytes.now }
         requires place { (c : List ℕ) → (view self.old).contents ≡ Some c → at ≤ length c }
@@ -48,6 +48,8 @@ pub trait RawFile {
         ensures images { Follows (Torn at (length bytes.now))
             (view self.old).may_leave (view self.new).may_leave }
         ensures kept { (c : List ℕ) → (view self.old).may_leave c → (view self.new).may_leave c }
+        ensures torn { IsTornIn at (length bytes.now) (view self.new).may_leave }
+        ensures still_torn { StaysTorn (view self.old).may_leave (view self.new).may_leave }
         ensures time { Elapses (view self.old) (view self.new) }
         ensures tells { (view self.new).tells ≡ (view self.old).tells }
         ensures faults { CountsFault result (view self.old) (view self.new) };
@@ -57,6 +59,8 @@ pub trait RawFile {
         ensures contents { (view self.new).contents ≡ (view self.old).contents }
         ensures settled { OnOk result (IsSettled (view self.new)) }
         ensures images { (c : List ℕ) → (view self.new).may_leave c → (view self.old).may_leave c }
+        ensures still_torn { OnErr result
+            (StaysTorn (view self.old).may_leave (view self.new).may_leave) }
         ensures time { Elapses (view self.old) (view self.new) }
         ensures tells { (view self.new).tells ≡ (view self.old).tells }
         ensures faults { CountsFault result (view self.old) (view self.new) };

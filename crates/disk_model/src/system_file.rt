@@ -5,6 +5,7 @@ ghost use Rattle.agent_base.specs.Counts.{next_count};
 use crate::raw_file::RawFile;
 use agent_base::Failed;
 use std::fs::File;
+use std::io::ErrorKind;
 use std::os::unix::fs::FileExt;
 
 /// An open file of the system. It tells nothing of its content.
@@ -59,18 +60,27 @@ impl RawFile for SystemFile {
         }
     }
 
+    // A call that a signal interrupts is made again. So does std where it syncs.
     fn read_some(&mut self, at: u64, into: &mut [u8]) -> Result<usize, Failed> {
-        match self.file.read_at(into, at) {
-            Ok(n) if n > 0 && n <= into.len() => Ok(n),
-            _ => Err(self.fault()),
+        'tries: for _ in 0..u64::MAX {
+            match self.file.read_at(into, at) {
+                Ok(n) if n > 0 && n <= into.len() => return Ok(n),
+                Err(error) if error.kind() == ErrorKind::Interrupted => {}
+                _ => return Err(self.fault()),
+            }
         }
+        Err(self.fault())
     }
 
     fn write_some(&mut self, at: u64, bytes: &[u8]) -> Result<usize, Failed> {
-        match self.file.write_at(bytes, at) {
-            Ok(n) if n > 0 && n <= bytes.len() => Ok(n),
-            _ => Err(self.fault()),
+        'tries: for _ in 0..u64::MAX {
+            match self.file.write_at(bytes, at) {
+                Ok(n) if n > 0 && n <= bytes.len() => return Ok(n),
+                Err(error) if error.kind() == ErrorKind::Interrupted => {}
+                _ => return Err(self.fault()),
+            }
         }
+        Err(self.fault())
     }
 
     fn sync(&mut self) -> Result<(), Failed> {

@@ -10,6 +10,8 @@ use agent_base::{Fault, ReadSource};
 use arrayvec::ArrayString;
 use disk_model::{FileDisk, SystemFile};
 use std::fs::{File, Files, OpenOptions};
+use std::io;
+use std::path::{AsPath, Path};
 
 // The longest path of a store, in bytes. The system takes none that is longer.
 const LONGEST_PATH: usize = 4096;
@@ -60,6 +62,27 @@ fn name_of(path: &str) -> Option<ArrayString<LONGEST_PATH>>
         Ok(()) => Some(name),
         Err(_) => None,
     }
+}
+
+// The folder that a path stands in.
+fn folder_of(path: &str) -> Path<'_> {
+    match Path::new(path).parent() {
+        Some(folder) if !folder.path_text().is_empty() => folder,
+        _ => Path::new("."),
+    }
+}
+
+// Opens the file of a store for this process alone, and makes it where there is none. Where it has
+// no bytes its folder is synced, so that a cut does not take the name of what is written to it.
+fn open_alone<R: Files<File = File>>(files: &R, path: &str) -> io::Result<File> {
+    let mut how = OpenOptions::new();
+    how.read(true).write(true).create(true);
+    let file = how.open(files, path)?;
+    file.try_lock()?;
+    if file.metadata()?.len() == 0 {
+        File::open(files, folder_of(path))?.sync_all()?;
+    }
+    Ok(file)
 }
 
 impl<R: Files<File = File> + Drop> Host for RealHost<R> {
@@ -113,7 +136,8 @@ impl<R: Files<File = File> + Drop> Host for RealHost<R> {
     }
 
     // The trait's clauses on counts, for it tells no stores, and after them that a file which is
-    // not opened is a failure, never want of memory. A file that is there is not cut short.
+    // not opened is a failure, never want of memory. A file that is there is not cut short. One that
+    // another process has open is not opened, and nothing is touched.
     fn open_store(&mut self, path: &str) -> Result<FileDisk<SystemFile>, Fault>
         requires { option_map (λ name. name.bytes) self.old.store_out ≡ None }
         ensures fresh { IfOk result (λ store. (store.file.faults ≡ 0) × (store.calls ≡ 0)) }
@@ -130,9 +154,7 @@ impl<R: Files<File = File> + Drop> Host for RealHost<R> {
         let Some(name) = name_of(path) else {
             return Err(self.fault());
         };
-        let mut how = OpenOptions::new();
-        how.read(true).write(true).create(true);
-        match how.open(&self.files, path) {
+        match open_alone(&self.files, path) {
             Ok(file) => {
                 self.store_out = Some(name);
                 Ok(FileDisk::new(SystemFile::new(file)))

@@ -1,3 +1,4 @@
 mod OrderLemmas
 pub mod VictimLaws
+pub mod FirstLemmas
 mod StandardFacts

@@ -6,10 +6,8 @@ use Rattle.std.proofs.lemmas.Bool.Decides.{Decides-and, Decides-like}
 use Rattle.std.proofs.lemmas.Map.Keys.{IsDistinct-push}
 use Rattle.origin_site.specs.Site.{PlainSite}
 use Rattle.origin_site.proofs.SameLemmas.{same_plain_site-Decides}
-use Rattle.access_grants.specs.Plain.{plain_grant}
-use Rattle.access_grants.specs.declared.permission.GrantRow.{GrantRow}
 use Rattle.access_grants.specs.Grant.{PlainGrant, HasDistinctPairs, has_row, is_of, with_row, same_pair}
-use Rattle.access_grants.proofs.RowsLemmas.{AtMostOne, replaced, set_place, position_by, position_seen}
+use Rattle.access_grants.proofs.RowsLemmas.{AtMostOne, replaced, set_place, position_by}
 
 abbrev pub pair_of : PlainGrant → PlainSite × PlainSite
 pair_of row = (row.top, row.site)
@@ -83,7 +81,7 @@ there_by : (row : PlainGrant) (rows : List PlainGrant) (i : ℕ) (there : Bool) 
 there_by row rows i true at = (refl, cc at)
 there_by row rows i false at = absurd (some_none i at)
 
-absent_by : (n : ℕ) (there : Bool) → cond there (Some n) None ≡ None → there ≡ false
+pub absent_by : (n : ℕ) (there : Bool) → cond there (Some n) None ≡ None → there ≡ false
 absent_by n true at = absurd (some_none n (sym at))
 absent_by n false at = refl
 
@@ -93,12 +91,6 @@ has_row-Some row rows i at = (there_by row rows i (has_row row rows) (sym (posit
 
 pub has_row-None : (row : PlainGrant) (rows : List PlainGrant) → position (is_of row.top row.site) rows ≡ None → has_row row rows ≡ false
 has_row-None row rows at = absent_by (position_or_len (is_of row.top row.site) rows) (has_row row rows) (sym (position_by (is_of row.top row.site) rows) ∙ at)
-
--- where a search of rows found the row of a pair, it is among those that contracts see
-pub place-seen : {found : Option ℕ} {searched : List GrantRow} (row : PlainGrant) (items : List GrantRow) → searched ≡ items
-    → found ≡ position (λ r. is_of row.top row.site (plain_grant r)) searched → position (is_of row.top row.site) (map plain_grant items) ≡ found
-place-seen row items equal told =
-    sym (told ∙ ap (position (λ r. is_of row.top row.site (plain_grant r))) equal ∙ position_seen plain_grant (is_of row.top row.site) items)
 
 -- a row that is put at the place of its pair's row is kept
 pub kept-Some : (row : PlainGrant) (rows : List PlainGrant) (i : ℕ) → HasDistinctPairs rows → position (is_of row.top row.site) rows ≡ Some i

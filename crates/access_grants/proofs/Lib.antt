@@ -2,3 +2,4 @@ mod StandardFacts
 pub mod RowsLemmas
 pub mod GrantLemmas
 pub mod PartLemmas
+pub mod IndexLemmas

@@ -1,21 +1,11 @@
 -- Searches of a list and of what its elements are seen as, and what is put at a place that is found.
-use Rattle.std.proofs.Common.{◌≡◌, ℕ, suc, ◌+◌, Bool, true, false, not, cond, ◌||◌, List, [], ◌∷◌, map, set, length, find, Option, Some, None, option_map, refl, sym, ap, ◌∙◌, arith}
+use Rattle.std.proofs.Common.{◌≡◌, ℕ, suc, ◌+◌, Bool, true, false, not, cond, ◌||◌, List, [], ◌∷◌, map, set, length, Some, None, refl, sym, ap, ◌∙◌, arith}
 use Rattle.std.specs.Prelude.{nat_lt}
 use Rattle.std.specs.List.{list_any, position, position_or_len}
 use Rattle.std.proofs.Math.Numerals.{one-add}
 use Rattle.std.proofs.lemmas.Bool.{le-ltb, lt-ltb, ltb-false, ltb-true}
 
 module _ {X Y : Type 0} (f : X → Y) (p : Y → Bool) where
-  find_step : (here : Bool) (x : X) (a : Option X) (b : Option Y) → option_map f a ≡ b
-      → option_map f (cond here (Some x) a) ≡ cond here (Some (f x)) b
-  find_step true x a b same = refl
-  find_step false x a b same = same
-
-  -- the first that passes, as it is seen
-  pub find_seen : (xs : List X) → option_map f (find (λ x. p (f x)) xs) ≡ find p (map f xs)
-  find_seen [] = refl
-  find_seen (x ∷ xs) = find_step (p (f x)) x _ _ (find_seen xs)
-
   place_seen : (xs : List X) → position_or_len (λ x. p (f x)) xs ≡ position_or_len p (map f xs)
   place_seen [] = refl
   place_seen (x ∷ xs) = ap (λ rest. cond (not (p (f x))) (1 + rest) 0) (place_seen xs)

@@ -2,3 +2,5 @@ pub mod Grant
 pub mod UnderSite
 pub mod Request
 pub mod Plain
+-- What private functions compute. No public clause rests on it.
+pub mod Index

@@ -1,8 +1,10 @@
 //! The permissions that are kept.
-ghost use Rattle.std.specs.Prelude.{◌≡◌, ◌≤◌, ◌<◌, ◌⊎◌, [], Some, IfOk};
-ghost use Rattle.std.specs.Prelude.{IsOk, IsTrue, OnErr, OnOk, map, slice_get};
-ghost use Rattle.std.specs.Option.{option_copied, option_map};
+ghost use Rattle.std.specs.Prelude.{◌≡◌, ◌≤◌, ◌<◌, ◌+◌, ◌-◌, ◌⊎◌, ℕ, [], ◌∷◌, ◌++◌, None, Some};
+ghost use Rattle.std.specs.Prelude.{IfOk, IsOk, IsTrue, OnErr, OnOk, false, map, nat_eq};
+ghost use Rattle.std.specs.Prelude.{slice_get, if◌then◌else◌};
+ghost use Rattle.std.specs.Option.{option_copied, option_map, option_or};
 ghost use Rattle.std.specs.List.{find, list_any, position};
+ghost use Rattle.std.specs.HashMap.{get, spare};
 ghost use Rattle.origin_site.specs.Plain.{plain_site};
 ghost use Rattle.access_grants.specs.Grant.{HasDistinctPairs, grant_state, has_row};
 ghost use Rattle.access_grants.specs.Grant.{is_of, with_row, spare_after};
@@ -10,35 +12,41 @@ ghost use Rattle.access_grants.specs.UnderSite.{KeepsUnder, grants_under};
 ghost use Rattle.access_grants.specs.Plain.{plain_grant};
 ghost use Rattle.access_grants.specs.Request.{GivesAccess, first_row, request_rows};
 
+use crate::code::pair_code;
 use crate::outcome::decide;
 use crate::permission::{is_of, state_of};
 use crate::{Answer, Facts, GrantRow, GrantState, Outcome};
 use agent_base::NoMemory;
 use origin_site::Site;
 use std::alloc::Global;
+use std::collections::HashMap;
 use std::marker::Model;
 
 /// The permissions of all pairs of sites, in the order in which the pairs were first kept.
 ///
-/// A look-up goes over all rows. A `keep` takes no memory: its room is made by `reserve` before.
+/// A look-up takes the same time among any number of rows. A `keep` takes no memory: its room is
+/// made by `reserve` before.
 #[derive(Debug, Drop)]
 pub struct Grants {
     rows: Vec<GrantRow>,
+    // the place of the first row of each number of a pair
+    places: HashMap<u64, usize>,
+    // for how many more rows both have room
+    room: usize,
 }
 
 impl Model for Grants {
     ghost use Rattle.std.specs.Prelude.{◌-◌, map, vec_capacity, length};
-    ghost use Rattle.access_grants.specs.Grant.{HasDistinctPairs, PlainGrants};
+    ghost use Rattle.access_grants.specs.Grant.{PlainGrants};
+    ghost use Rattle.access_grants.specs.Index.{IsIndexed};
     ghost use Rattle.access_grants.specs.Plain.{plain_grant};
 
     ghost Value = { PlainGrants };
 
-    ghost view = { λ g. record {
-      rows = map plain_grant g.rows.items;
-      spare = vec_capacity g.rows - length g.rows.items;
-    } };
+    ghost view = { λ g. record { rows = map plain_grant g.rows.items; spare = g.room } };
 
-    ghost invariant = { λ g. HasDistinctPairs (map plain_grant g.rows.items) };
+    ghost invariant = { λ g. let free = vec_capacity g.rows - length g.rows.items in
+        IsIndexed (map plain_grant g.rows.items) free g.places g.room };
 }
 
 impl Grants {
@@ -48,6 +56,8 @@ impl Grants {
     {
         Grants {
             rows: Vec::new(alloc),
+            places: HashMap::new(alloc),
+            room: 0,
         }
     }
 
@@ -58,7 +68,7 @@ impl Grants {
         ensures under { let own = grants_under (plain_site top.now) self.now.rows in
             result ≡ grant_state (plain_site top.now) (plain_site site.now) now own }
     {
-        match row_of(self.rows.as_slice(), top, site) {
+        match self.row_of(top, site) {
             Some(row) => state_of(row, now),
             None => GrantState::Unset,
         }
@@ -91,7 +101,13 @@ impl Grants {
         ensures ready { more ≤ self.old.spare → IsOk result }
         ensures unchanged { OnErr result (self.new ≡ self.old) }
     {
-        Ok(self.rows.reserve(more)?)
+        if more <= self.room {
+            return Ok(());
+        }
+        self.rows.reserve(more)?;
+        self.places.reserve(more)?;
+        self.room = more;
+        Ok(())
     }
 
     /// Keeps a row: in the place of its pair's row, or last where the pair has none.
@@ -101,9 +117,9 @@ impl Grants {
         ensures spare { self.new.spare ≡ spare_after (plain_grant row) self.old }
         ensures under { KeepsUnder (plain_grant row) self.old.rows self.new.rows }
     {
-        match place_of(self.rows.as_slice(), &row.top, &row.site) {
+        match self.place(&row.top, &row.site) {
             Some(place) => self.rows[place] = row,
-            None => self.rows.push_reserved(row),
+            None => self.push(row),
         }
     }
 
@@ -128,7 +144,64 @@ impl Grants {
         ensures same { IfOk result (λ grants. grants.rows ≡ self.now.rows) }
     {
         let rows = copied(*self.rows.allocator(), self.rows.as_slice())?;
-        Ok(Grants { rows })
+        let Ok(places) = self.places.clone() else {
+            return Err(NoMemory);
+        };
+        Ok(Grants {
+            rows,
+            places,
+            room: 0,
+        })
+    }
+
+    // The row of a pair.
+    fn row_of(&self, top: &Site, site: &Site) -> Option<&GrantRow>
+        ensures row { option_map plain_grant (option_copied result)
+            ≡ find (is_of (plain_site top.now) (plain_site site.now)) self.now.rows }
+    {
+        let place = self.place(top, site)?;
+        self.row(place)
+    }
+
+    // The place of the row of a pair.
+    fn place(&self, top: &Site, site: &Site) -> Option<usize>
+        ensures place { result
+            ≡ position (is_of (plain_site top.now) (plain_site site.now)) self.now.rows }
+    {
+        let first = *self.places.get(&pair_code(top, site))?;
+        match self.row(first) {
+            Some(row) if is_of(row, top, site) => Some(first),
+            // another pair has the same number
+            _ => place_among(self.rows.as_slice(), top, site),
+        }
+    }
+
+    // Keeps the row of a pair that has none.
+    fn push(&mut self, row: GrantRow)
+        requires new { has_row (plain_grant row) self.old.rows ≡ false }
+        requires room { 0 < self.old.spare }
+        ensures rows { self.new.rows ≡ self.old.rows ++ plain_grant row ∷ [] }
+        ensures spare { self.new.spare ≡ self.old.spare - 1 }
+    {
+        let code = pair_code(&row.top, &row.site);
+        note(&mut self.places, code, self.rows.len());
+        self.rows.push_reserved(row);
+        self.room -= 1;
+    }
+}
+
+// Gives a number a place, unless it has one.
+fn note(places: &mut HashMap<u64, usize>, code: u64, place: usize)
+    requires room { 0 < spare places.old }
+    ensures noted { (other : ℕ) → get nat_eq places.new other ≡ option_or
+        (get nat_eq places.old other) (if nat_eq other code then Some place else None) }
+    ensures room { spare places.old ≤ spare places.new + 1 }
+{
+    if places.contains_key(&code) {
+        return;
+    }
+    if places.insert(code, place).is_err() {
+        unreachable!()
     }
 }
 
@@ -145,16 +218,8 @@ fn copied(alloc: Global, rows: &[GrantRow]) -> Result<Vec<GrantRow>, NoMemory>
     Ok(copies)
 }
 
-// The row of a pair.
-fn row_of<'r>(rows: &'r [GrantRow], top: &Site, site: &Site) -> Option<&'r GrantRow>
-    ensures row { option_copied result ≡ find
-        (λ row. is_of (plain_site top.now) (plain_site site.now) (plain_grant row)) rows.now }
-{
-    rows.iter().find(|row| is_of(row, top, site))
-}
-
-// The place of the row of a pair.
-fn place_of(rows: &[GrantRow], top: &Site, site: &Site) -> Option<usize>
+// The place of the row of a pair among rows.
+fn place_among(rows: &[GrantRow], top: &Site, site: &Site) -> Option<usize>
     ensures place { result ≡ position
         (λ row. is_of (plain_site top.now) (plain_site site.now) (plain_grant row)) rows.now }
 {

@@ -6,6 +6,7 @@
 //! caller keeps and does.
 #![tactic(auto)]
 
+mod code;
 mod facts;
 mod grants;
 mod outcome;

@@ -204,6 +204,19 @@ impl Area {
         }
     }
 
+    /// Why a pair is refused where memory is wanting before the area can be changed: the quota,
+    /// where the area would pass it, and else memory.
+    pub fn refusal(&self, name: &str, value: &str) -> AreaFault
+        ensures fault { let after = area_weight (area_put name.now value.now self.now) in
+            result ≡ (if nat_lt quota after then AreaFault.Quota after else AreaFault.NoMemory) }
+    {
+        let weight = self.weight_after(name, value);
+        if weight <= QUOTA as u128 {
+            return AreaFault::NoMemory;
+        }
+        AreaFault::Quota(weight)
+    }
+
     /// Removes a name, and gives the value that it had.
     pub fn remove(&mut self, name: &str) -> Option<String>
         ensures value { option_map string_bytes result ≡ area_get name.now self.old }
@@ -232,6 +245,16 @@ impl Area {
                 weight: self.weight,
             }),
             Err(_) => Err(NoMemory),
+        }
+    }
+
+    // The weight after a put.
+    fn weight_after(&self, name: &str, value: &str) -> u128
+        ensures weight { result ≡ area_weight (area_put name.now value.now self.now) }
+    {
+        match self.weight_with(name, value) {
+            Some(weight) => weight,
+            None => self.weight as u128,
         }
     }
 

@@ -5,5 +5,7 @@
 #![tactic(auto)]
 
 mod sessions;
+mod shared;
 
 pub use sessions::Sessions;
+pub use shared::{NotLent, SharedArea};

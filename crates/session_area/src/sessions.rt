@@ -1,11 +1,12 @@
 //! The session areas of all tabs.
-ghost use Rattle.std.specs.Prelude.{◌≡◌, ℕ, [], IfOk, MatchOption, None, OnErr, OnOk, is_some, length, false, not, option_copied, ◌==◌};
+ghost use Rattle.std.specs.Prelude.{◌≡◌, ◌↔◌, ℕ, [], Err, IfOk, MatchOption, None, OnErr, OnOk, Some, is_some, length, false, not, option_copied, ◌==◌};
 ghost use Rattle.std.specs.Borrow.{sem};
 ghost use Rattle.std.specs.Option.{option_copied_mut};
-ghost use Rattle.key_map.specs.Entries.{map_get, IsCopy, HasSameValues, ClonesCompareEqual};
+ghost use Rattle.key_map.specs.Entries.{map_get, map_remove, IsCopy, HasSameValues, ClonesCompareEqual};
 ghost use Rattle.session_area.specs.Sessions.{areas_of, session_area, made_area, without_empty, has_empty, IsCopied, ChangesTab, KeepsOthers, SameAreas};
-ghost use Rattle.session_area.specs.Lends.{LendsSession};
+ghost use Rattle.session_area.specs.Lends.{LendsSession, LendsShared};
 
+use crate::shared::{NotLent, SharedArea};
 use agent_base::NoMemory;
 use key_map::KeyMap;
 use local_area::Area;
@@ -19,7 +20,7 @@ use std::marker::Model;
 /// the first.
 #[derive(Debug, Drop)]
 pub struct Sessions<K: Ord + Drop> {
-    tabs: BTreeMap<u16, KeyMap<K, Area>>,
+    tabs: BTreeMap<u16, KeyMap<K, SharedArea>>,
     alloc: Global,
 }
 
@@ -48,7 +49,7 @@ impl<K: Ord + Drop> Sessions<K> {
         ensures area { option_copied result ≡ session_area K.cmp tab key.now self.now }
     {
         match self.tabs.get(&tab) {
-            Some(areas) => areas.get(key),
+            Some(areas) => area_at(areas, key),
             None => None,
         }
     }
@@ -64,7 +65,7 @@ impl<K: Ord + Drop> Sessions<K> {
     }
 
     /// The areas of a tab by key, to be read. None is a tab without areas.
-    pub fn areas(&self, tab: u16) -> Option<&KeyMap<K, Area>>
+    pub fn areas(&self, tab: u16) -> Option<&KeyMap<K, SharedArea>>
         ensures areas { MatchOption result (areas_of tab self.now ≡ [])
             (λ areas. areas.now ≡ areas_of tab self.now) }
     {
@@ -72,8 +73,25 @@ impl<K: Ord + Drop> Sessions<K> {
     }
 
     /// The area that a tab has under a key, to be changed.
-    pub fn area_mut(&mut self, tab: u16, key: &K) -> Option<&mut Area>
+    ///
+    /// One that tabs share is copied first, in time linear in it, and is then the tab's own. Want
+    /// of memory comes for that copy alone, and leaves the areas as they were.
+    pub fn area_mut(&mut self, tab: u16, key: &K) -> Result<&mut Area, NotLent>
         ensures* writes_back { sem 𝓛 (LendsSession K.row K.Ord self.entry tab key.now result) }
+        ensures area { IfOk result (λ area. Some area.now
+            ≡ session_area K.cmp tab key.now self.old) }
+        ensures none { (result ≡ Err NotLent.NoArea)
+            ↔ (session_area K.cmp tab key.now self.old ≡ None) }
+    {
+        match self.shared_mut(tab, key) {
+            Some(shared) => shared.own(),
+            None => Err(NotLent::NoArea),
+        }
+    }
+
+    // What holds the area that a tab has under a key, to be changed.
+    fn shared_mut(&mut self, tab: u16, key: &K) -> Option<&mut SharedArea>
+        ensures* writes_back { sem 𝓛 (LendsShared K.row K.Ord self.entry tab key.now result) }
         ensures area { option_copied_mut result ≡ session_area K.cmp tab key.now self.old }
     {
         match self.tabs.get_mut(&tab) {
@@ -103,25 +121,47 @@ impl<K: Ord + Drop> Sessions<K> {
         ensures dropped { ChangesTab tab
             (without_empty K.cmp key.now (areas_of tab self.old)) self.old self.new }
     {
-        if !self.drop_within(tab, key) {
+        if self.has_empty(tab, key) {
+            self.remove(tab, key);
+        }
+    }
+
+    // Whether a tab has an area under a key, which is empty.
+    fn has_empty(&self, tab: u16, key: &K) -> bool
+        ensures empty { result ≡ has_empty K.cmp key.now (areas_of tab self.now) }
+    {
+        match self.tabs.get(&tab) {
+            Some(areas) => has_empty(areas, key),
+            None => false,
+        }
+    }
+
+    /// Drops the area that a tab has under a key, if there is one. It takes no memory.
+    pub fn remove(&mut self, tab: u16, key: &K)
+        ensures removed { ChangesTab tab
+            (map_remove K.cmp key.now (areas_of tab self.old)) self.old self.new }
+    {
+        if !self.remove_within(tab, key) {
             self.close(tab);
         }
     }
 
-    // Drops the area that a tab has under a key, where it is empty, and tells whether areas are
-    // left.
-    fn drop_within(&mut self, tab: u16, key: &K) -> bool
-        ensures dropped { ChangesTab tab
-            (without_empty K.cmp key.now (areas_of tab self.old)) self.old self.new }
+    // Drops the area that a tab has under a key, and tells whether areas are left.
+    fn remove_within(&mut self, tab: u16, key: &K) -> bool
+        ensures removed { ChangesTab tab
+            (map_remove K.cmp key.now (areas_of tab self.old)) self.old self.new }
         ensures none { result ≡ false → areas_of tab self.new ≡ [] }
     {
         match self.tabs.get_mut(&tab) {
-            Some(areas) => drop_area(areas, key),
+            Some(areas) => remove_area(areas, key),
             None => false,
         }
     }
 
     /// Copies the areas that one tab has under these keys to another tab, which has none.
+    ///
+    /// Both tabs share each area until one of them changes it, so that an area costs as much as
+    /// its key, whatever it holds.
     ///
     /// Want of memory leaves the areas as they were.
     pub fn clone_tab(&mut self, from: u16, to: u16, keys: Vec<K>) -> Result<(), NoMemory>
@@ -172,15 +212,15 @@ impl<K: Ord + Clone + Drop> Sessions<K> {
 // Copies of the areas under these keys.
 fn copies_of<K: Ord + Drop>(
     alloc: Global,
-    areas: &KeyMap<K, Area>,
+    areas: &KeyMap<K, SharedArea>,
     keys: Vec<K>,
-) -> Result<KeyMap<K, Area>, NoMemory>
+) -> Result<KeyMap<K, SharedArea>, NoMemory>
     ensures copied { IfOk result (λ copies. IsCopied K.cmp keys.items areas.now copies) }
 {
     let mut copies = KeyMap::new(alloc);
     for key in keys {
         if let Some(area) = areas.get(&key) {
-            copies.insert(key, area.copy()?)?;
+            copies.insert(key, area.share()?)?;
         }
     }
     Ok(copies)
@@ -188,7 +228,7 @@ fn copies_of<K: Ord + Drop>(
 
 // Makes an empty area under a key that has none.
 fn make_area<K: Ord + Drop>(
-    areas: &mut KeyMap<K, Area>,
+    areas: &mut KeyMap<K, SharedArea>,
     key: K,
     alloc: Global,
 ) -> Result<(), NoMemory>
@@ -199,25 +239,33 @@ fn make_area<K: Ord + Drop>(
     if areas.contains(&key) {
         return Ok(());
     }
-    areas.insert(key, Area::new(alloc))
+    areas.insert(key, SharedArea::new(alloc)?)
 }
 
-// Drops the area of a key where it is empty, and tells whether areas are left.
-fn drop_area<K: Ord + Drop>(areas: &mut KeyMap<K, Area>, key: &K) -> bool
-    ensures dropped { areas.new ≡ without_empty K.cmp key.now areas.old }
+// Drops the area of a key, and tells whether areas are left.
+fn remove_area<K: Ord + Drop>(areas: &mut KeyMap<K, SharedArea>, key: &K) -> bool
+    ensures removed { areas.new ≡ map_remove K.cmp key.now areas.old }
     ensures left { result ≡ not (length areas.new == 0) }
 {
-    if has_empty(areas, key) {
-        let _ = areas.remove(key);
-    }
+    let _ = areas.remove(key);
     !areas.is_empty()
 }
 
-// Whether a key has an area, which is empty.
-fn has_empty<K: Ord + Drop>(areas: &KeyMap<K, Area>, key: &K) -> bool
-    ensures empty { result ≡ has_empty K.cmp key.now areas.now }
+// The area of a key.
+fn area_at<'a, K: Ord + Drop>(areas: &'a KeyMap<K, SharedArea>, key: &K) -> Option<&'a Area>
+    ensures area { option_copied result ≡ map_get K.cmp key.now areas.now }
 {
     match areas.get(key) {
+        Some(shared) => Some(shared.area()),
+        None => None,
+    }
+}
+
+// Whether a key has an area, which is empty.
+fn has_empty<K: Ord + Drop>(areas: &KeyMap<K, SharedArea>, key: &K) -> bool
+    ensures empty { result ≡ has_empty K.cmp key.now areas.now }
+{
+    match area_at(areas, key) {
         Some(area) => area.is_empty(),
         None => false,
     }
@@ -225,7 +273,7 @@ fn has_empty<K: Ord + Drop>(areas: &KeyMap<K, Area>, key: &K) -> bool
 
 // Makes the map of a tab's areas, which has none at first.
 fn make_tab<K: Ord + Drop>(
-    tabs: &mut BTreeMap<u16, KeyMap<K, Area>>,
+    tabs: &mut BTreeMap<u16, KeyMap<K, SharedArea>>,
     tab: u16,
     alloc: Global,
 ) -> Result<(), NoMemory>

@@ -8,7 +8,7 @@ use Rattle.session_area.proofs.sessions.Sessions.area.Goals as goal
 pub returns-in-Some : goal.returns-in-Some
 returns-in-Some g c = record {
   area =
-      c.get-in-Some.ensures.value
+      c.area_at.ensures.area
       ∙ ap (λ areas. map_get g.K.Ord.cmp c.args.key.now (unwrap_or areas [])) c.in-Some.ensures.value
       ∙ ap (session_area g.K.Ord.cmp c.args.tab c.args.key.now) c.self.view_is;
 }

@@ -5,7 +5,7 @@ use Rattle.local_area.specs.Area.{Pair}
 use Rattle.key_map.specs.Entries.{map_get, map_set}
 use Rattle.session_area.specs.Sessions.{areas_of, session_area, ChangesTab}
 use Rattle.session_area.proofs.SessionsLemmas.{ChangesTab-set, SameAreas-changed, on_some}
-use Rattle.session_area.proofs.sessions.Sessions.area_mut.Goals as goal
+use Rattle.session_area.proofs.sessions.Sessions.shared_mut.Goals as goal
 
 pub returns-in-Some : goal.returns-in-Some
 returns-in-Some g c =

@@ -1,0 +1,83 @@
+"""The word `import`: recordings in, a script and its map out."""
+import json
+import os
+import sys
+
+from . import chromium_log, codes, firefox_log, har, shapes, streams
+from .conversion import Conversion
+from .faults import RECORDING, Fault
+from .jars import Jar
+from .output import Output
+from .redaction import Redaction
+from .requests import Recording
+
+VERSION = 1
+# The first line of a log is looked for in so many bytes; a HAR may be one line.
+LONGEST_FIRST = 8 << 20
+
+
+def kind_of(path):
+    """Which reader takes a file, told by what is in it."""
+    with streams.open_file(path) as file:
+        for _ in range(1000):
+            line = file.readline(LONGEST_FIRST).lstrip(b'\xef\xbb\xbf')
+            if not line:
+                return har.File
+            try:
+                value = json.loads(line) if line.strip() else None
+            except (ValueError, RecursionError):
+                return har.File
+            method = shapes.text(shapes.member(value, 'method'))
+            if method.startswith(('network.', 'browsingContext.', 'log.', 'script.')):
+                return firefox_log.Log
+            if method.partition('.')[0] in ('Network', 'Page', 'Target', 'Runtime'):
+                return chromium_log.Log
+            if isinstance(value, dict) and 'log' in value:
+                return har.File
+    return har.File
+
+
+def read(paths, allow_no_cookies):
+    """What some files recorded."""
+    recording = Recording()
+    for number, path in enumerate(paths):
+        recording.files.append(os.path.basename(path))
+        try:
+            file = kind_of(path)(path, number, recording, allow_no_cookies)
+        except OSError as error:
+            raise Fault(streams.READ, f'{path}: {error.strerror}') from None
+        recording.events.extend(file.requests())
+    return recording
+
+
+def run(words, suffixes):
+    """Imports recordings, and tells what was lost."""
+    recording = read(words.files, words.allow_no_cookies)
+    jar = Jar.read(words.jar, suffixes) if words.jar else None
+    setting, browser = recording.setting(), recording.browser()
+    output = Output(words.out)
+    try:
+        redaction = Redaction() if words.redact else None
+        conversion = Conversion(recording, suffixes, output, words.guess, jar, redaction)
+        conversion.run()
+        if not output.requests:
+            raise Fault(RECORDING, f'{words.files[0]}: no entries')
+        lost = counts(recording.losses)
+        head = {'audit': VERSION, 'browser': browser, 'files': recording.files, 'lost': lost,
+                'redacted': words.redact, 'requests': output.requests, 'setting': setting, 'start': conversion.start}
+        output.finish(head, recording.losses)
+    finally:
+        output.close()
+    print(f'{words.out}.script: {output.lines} lines of {output.requests} requests; '
+          f'browser {browser}, third-party cookies {setting}', file=sys.stderr)
+    for line in codes.told(lost):
+        print(f'  {line}', file=sys.stderr)
+    return 0
+
+
+def counts(losses):
+    """How often each code was met, in the order of the codes."""
+    found = {}
+    for code, _ in losses:
+        found[code] = found.get(code, 0) + 1
+    return {code: found[code] for code in codes.LOSSES if code in found}

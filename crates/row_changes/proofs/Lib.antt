@@ -1,6 +1,8 @@
 pub mod FieldLaws
 pub mod NameLaws
 pub mod RowLaws
+pub mod KeyLemmas
+pub mod HostLemmas
 pub mod CookieLaws
 pub mod ChangeLaws
 pub mod BodyLaws

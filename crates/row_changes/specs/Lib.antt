@@ -13,3 +13,4 @@ pub mod Plain
 pub mod Pieces
 pub mod Grown
 pub mod Stops
+pub mod LastKey

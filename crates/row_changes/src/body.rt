@@ -7,7 +7,8 @@ ghost use Rattle.row_changes.specs.Stops.{Gives};
 
 use crate::Change;
 use crate::fields::number_at;
-use crate::reading::read_change;
+use crate::keys::Keys;
+use crate::reading::read_next;
 use crate::stop::Stop;
 use agent_base::NoMemory;
 use std::alloc::Global;
@@ -36,7 +37,7 @@ pub struct Progress<'b> {
 /// Reads a body, piece by piece, under a suffix list.
 #[derive(Debug, Drop)]
 pub struct Reader<'l, 'b> {
-    list: &'l SuffixList,
+    keys: Keys<'l>,
     snapshot: bool,
     size: usize,
     progress: Progress<'b>,
@@ -49,8 +50,7 @@ impl<'l, 'b> Model for Reader<'l, 'b> {
 
     ghost Value = { List PlainPiece };
 
-    ghost view = { λ r.
-        pieces_from r.list.now.rules r.snapshot r.size (plain_progress r.progress) };
+    ghost view = { λ r. pieces_from r.keys r.snapshot r.size (plain_progress r.progress) };
 }
 
 impl<'l, 'b> Reader<'l, 'b> {
@@ -59,7 +59,7 @@ impl<'l, 'b> Reader<'l, 'b> {
         ensures pieces { result ≡ spec.pieces_of list.now.rules snapshot body.now }
     {
         Reader {
-            list,
+            keys: Keys::new(list),
             snapshot,
             size: body.len(),
             progress: Progress {
@@ -83,7 +83,7 @@ impl<'l, 'b> Reader<'l, 'b> {
         }
         let (piece, progress) = next_piece(
             alloc,
-            self.list,
+            &mut self.keys,
             self.snapshot,
             self.size,
             self.progress,
@@ -136,15 +136,16 @@ fn begun(size: usize, progress: Progress<'_>) -> Result<(Piece, Progress<'_>), N
 // A row change, or its fault.
 fn rowed<'b>(
     alloc: Global,
-    list: &SuffixList,
+    keys: &mut Keys<'_>,
     size: usize,
     progress: Progress<'b>,
 ) -> Result<(Piece, Progress<'b>), NoMemory>
-    ensures { IfOk result (λ x. (plain_piece x.0, plain_progress x.1)
+    ensures row { IfOk result (λ x. (plain_piece x.0, plain_progress x.1)
         ≡ spec.rowed size (plain_progress progress.entry)
-        (change_at list.now.rules progress.entry.rest.now)) }
+        (change_at keys.old progress.entry.rest.now)) }
+    ensures rules { keys.new ≡ keys.old }
 {
-    match read_change(alloc, progress.rest, list)? {
+    match read_next(alloc, progress.rest, keys)? {
         Some((change, rest)) => {
             let at = size.saturating_sub(progress.rest.len());
             let left = progress.left.saturating_sub(1);
@@ -157,17 +158,18 @@ fn rowed<'b>(
 #[tactic(auto, unfolding(crate::specs::Body::next_piece))]
 fn next_piece<'b>(
     alloc: Global,
-    list: &SuffixList,
+    keys: &mut Keys<'_>,
     snapshot: bool,
     size: usize,
     progress: Progress<'b>,
 ) -> Result<(Piece, Progress<'b>), NoMemory>
-    ensures { IfOk result (λ x. (plain_piece x.0, plain_progress x.1)
-        ≡ spec.next_piece list.now.rules snapshot size (plain_progress progress.entry)) }
+    ensures next { IfOk result (λ x. (plain_piece x.0, plain_progress x.1)
+        ≡ spec.next_piece keys.old snapshot size (plain_progress progress.entry)) }
+    ensures rules { keys.new ≡ keys.old }
 {
     if progress.left == 0 && !snapshot {
         begun(size, progress)
     } else {
-        rowed(alloc, list, size, progress)
+        rowed(alloc, keys, size, progress)
     }
 }

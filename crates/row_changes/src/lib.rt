@@ -10,6 +10,8 @@ mod body;
 mod change;
 mod cookies;
 mod fields;
+mod hosts;
+mod keys;
 mod laws;
 mod names;
 mod reading;

@@ -1,16 +1,16 @@
 //! Fields that are names: origins, sites, domains, keys and cells.
-ghost use Rattle.std.specs.Prelude.{◌≡◌, IfOk, string_bytes};
+ghost use Rattle.std.specs.Prelude.{◌≡◌, ◌||◌, IfOk, bytes_eq, string_bytes};
+ghost use Rattle.origin_site.specs.Origin.{origin_text};
 ghost use Rattle.origin_site.specs.Plain.{plain_address, plain_origin, plain_site};
-ghost use Rattle.origin_site.specs.Site.{site_text};
+ghost use Rattle.origin_site.specs.Site.{IsOwnSite, same_plain_site, site_text};
 ghost use Rattle.storage_key.specs.Plain.{plain_key};
 ghost use Rattle.cookie_jar.specs.Key.{plain_key as plain_cell};
-ghost use Rattle.row_changes.specs.Fields.{passing};
 ghost use Rattle.row_changes.specs.Names as spec;
 ghost use Rattle.row_changes.specs.Reading as reading;
-ghost use Rattle.row_changes.specs.Spelled.{keeps_bit};
 ghost use Rattle.row_changes.specs.Stops.{Gives};
 
 use crate::fields::{bit_at, byte_at, text_at};
+use crate::hosts::{has_default_port, is_host_text};
 use crate::stop::Stop;
 use agent_base::NoMemory;
 use cookie_jar::CellKey;
@@ -21,13 +21,25 @@ use suffix_list::SuffixList;
 
 const ORIGIN_LIMIT: usize = 8_192;
 
+// Whether a text is an origin's.
+#[tactic(auto, using(crate::proofs::HostLemmas::default_text))]
+fn is_origin_text(alloc: Global, origin: &Origin, text: &str) -> Result<bool, NoMemory>
+    ensures { IfOk result
+        (λ is. is ≡ bytes_eq (origin_text (plain_origin origin.now)) text.now) }
+{
+    if has_default_port(origin) {
+        return Ok(is_host_text(origin.https, origin.host.as_str(), text));
+    }
+    let own = origin.text(alloc)?;
+    Ok(own.as_str() == text)
+}
+
 // The origin of an address, where a text is the origin's.
 fn own_origin(alloc: Global, text: &str, address: &Address) -> Result<Origin, Stop>
     ensures { Gives plain_origin (spec.own_origin text.now (plain_address address.now)) result }
 {
     let origin = address.origin(alloc)?;
-    let own = origin.text(alloc)?;
-    if own.as_str() == text && text.len() <= ORIGIN_LIMIT {
+    if is_origin_text(alloc, &origin, text)? && text.len() <= ORIGIN_LIMIT {
         Ok(origin)
     } else {
         Err(Stop::NoField)
@@ -52,8 +64,7 @@ fn own_site(alloc: Global, text: &str, address: &Address, list: &SuffixList) -> 
 {
     let origin = address.origin(alloc)?;
     let site = site_of(alloc, &origin, list)?;
-    let own = site.text(alloc)?;
-    if own.as_str() == text {
+    if is_host_text(site.https, site.host.as_str(), text) {
         Ok(site)
     } else {
         Err(Stop::NoField)
@@ -68,6 +79,19 @@ fn site_under(alloc: Global, text: &str, list: &SuffixList) -> Result<Site, Stop
         Ok(address) => own_site(alloc, text, &address, list),
         Err(AddressFault::NoMemory) => Err(Stop::NoMemory),
         Err(_) => Err(Stop::NoField),
+    }
+}
+
+// The site that a text is under the list, where a site under it is at hand.
+#[tactic(auto, using(crate::proofs::KeyLemmas::known_site))]
+fn site_beside(alloc: Global, text: &str, known: &Site, list: &SuffixList) -> Result<Site, Stop>
+    requires known { IsOwnSite list.now.rules (plain_site known.now) }
+    ensures { Gives plain_site (spec.site_under_list list.now.rules text.now) result }
+{
+    if is_host_text(known.https, known.host.as_str(), text) {
+        Ok(known.copy(alloc)?)
+    } else {
+        site_under(alloc, text, list)
     }
 }
 
@@ -148,35 +172,38 @@ fn domain_at(alloc: Global, bytes: &mut &[u8], list: &SuffixList) -> Result<Stri
     Ok(String::from_str(alloc, domain)?)
 }
 
-// The key of these parts, where its bit is that of its sites.
-fn key_of(
-    alloc: Global,
-    origin: Origin,
-    top: Site,
-    bit: bool,
-    list: &SuffixList,
-) -> Result<StorageKey, Stop>
-    ensures { Gives plain_key (passing (keeps_bit list.now.rules)
-        (reading.key_of ((plain_origin origin, plain_site top), bit))) result }
+// The top-level site of a key, where a site under the list is at hand.
+#[tactic(auto, unfolding(crate::specs::Reading::site_at))]
+fn top_at(alloc: Global, bytes: &mut &[u8], known: &Site, list: &SuffixList) -> Result<Site, Stop>
+    requires known { IsOwnSite list.now.rules (plain_site known.now) }
+    ensures { Gives (λ site. (plain_site site, bytes.new.now))
+        (reading.site_at list.now.rules bytes.old.now) result }
 {
-    if !bit {
-        let own = site_of(alloc, &origin, list)?;
-        if !same_site(&own, &top) {
-            return Err(Stop::NoField);
-        }
-    }
-    Ok(StorageKey { top, origin, bit })
+    site_beside(alloc, text_at(bytes)?, known, list)
 }
 
+// Whether a key may have this bit: a clear one is of an origin whose site is the top-level one.
+fn keeps_bit(bit: bool, own: &Site, top: &Site) -> bool
+    ensures { result ≡ (bit || same_plain_site (plain_site own.now) (plain_site top.now)) }
+{
+    bit || same_site(own, top)
+}
+
+/// The key at the front of bytes. The text of a top-level site that is the origin's own is not
+/// parsed again.
 #[tactic(auto, unfolding(crate::specs::Reading::key_at))]
 pub fn key_at(alloc: Global, bytes: &mut &[u8], list: &SuffixList) -> Result<StorageKey, Stop>
     ensures { Gives (λ key. (plain_key key, bytes.new.now))
         (reading.key_at list.now.rules bytes.old.now) result }
 {
     let origin = origin_at(alloc, bytes)?;
-    let top = site_at(alloc, bytes, list)?;
+    let own = site_of(alloc, &origin, list)?;
+    let top = top_at(alloc, bytes, &own, list)?;
     let bit = bit_at(bytes)?;
-    key_of(alloc, origin, top, bit, list)
+    if !keeps_bit(bit, &own, &top) {
+        return Err(Stop::NoField);
+    }
+    Ok(StorageKey { top, origin, bit })
 }
 
 #[tactic(auto, unfolding(crate::specs::Reading::cell_at))]

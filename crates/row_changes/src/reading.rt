@@ -12,7 +12,8 @@ ghost use Rattle.row_changes.specs.Stops.{Gives};
 use crate::Change;
 use crate::cookies::{Placed, placed_at};
 use crate::fields::{byte_at, signed_at, text_at};
-use crate::names::{cell_at, key_at, site_at};
+use crate::keys::Keys;
+use crate::names::{cell_at, site_at};
 use crate::stop::Stop;
 use access_grants::GrantRow;
 use agent_base::NoMemory;
@@ -90,47 +91,67 @@ fn change_behind(
     alloc: Global,
     code: u8,
     bytes: &mut &[u8],
-    list: &SuffixList,
+    keys: &mut Keys<'_>,
 ) -> Result<Change, Stop>
-    ensures { Gives (λ change. (plain_change change, bytes.new.now))
-        (spec.change_behind list.now.rules code bytes.old.now) result }
+    ensures change { Gives (λ change. (plain_change change, bytes.new.now))
+        (spec.change_behind keys.old code bytes.old.now) result }
+    ensures rules { keys.new ≡ keys.old }
 {
     match code {
         1 => Ok(Change::AreaPut {
-            key: key_at(alloc, bytes, list)?,
+            key: keys.read(alloc, bytes)?,
             name: own_text_at(alloc, bytes)?,
             value: own_text_at(alloc, bytes)?,
         }),
         2 => Ok(Change::AreaRemove {
-            key: key_at(alloc, bytes, list)?,
+            key: keys.read(alloc, bytes)?,
             name: own_text_at(alloc, bytes)?,
         }),
         3 => Ok(Change::AreaClear {
-            key: key_at(alloc, bytes, list)?,
+            key: keys.read(alloc, bytes)?,
         }),
         4 => Ok(Change::SetMode {
-            key: key_at(alloc, bytes, list)?,
+            key: keys.read(alloc, bytes)?,
         }),
-        5 => Ok(cookie_change(placed_at(alloc, bytes, list)?, false)),
-        6 => Ok(cookie_change(placed_at(alloc, bytes, list)?, true)),
+        5 => Ok(cookie_change(placed_at(alloc, bytes, keys.list())?, false)),
+        6 => Ok(cookie_change(placed_at(alloc, bytes, keys.list())?, true)),
         7 => Ok(Change::CookieRemove {
-            cell: cell_at(alloc, bytes, list)?,
+            cell: cell_at(alloc, bytes, keys.list())?,
             place: byte_at(bytes)?,
         }),
         8 => Ok(Change::Grant {
-            row: grant_at(alloc, bytes, list)?,
+            row: grant_at(alloc, bytes, keys.list())?,
         }),
         _ => Err(Stop::NoField),
     }
 }
 
 #[tactic(auto, unfolding(crate::specs::Reading::change_at))]
-fn change_at(alloc: Global, bytes: &mut &[u8], list: &SuffixList) -> Result<Change, Stop>
-    ensures { Gives (λ change. (plain_change change, bytes.new.now))
-        (spec.change_at list.now.rules bytes.old.now) result }
+fn change_at(alloc: Global, bytes: &mut &[u8], keys: &mut Keys<'_>) -> Result<Change, Stop>
+    ensures change { Gives (λ change. (plain_change change, bytes.new.now))
+        (spec.change_at keys.old bytes.old.now) result }
+    ensures rules { keys.new ≡ keys.old }
 {
     let code = byte_at(bytes)?;
-    change_behind(alloc, code, bytes, list)
+    change_behind(alloc, code, bytes, keys)
+}
+
+/// Reads the row change at the front of bytes, with the last key that was read at hand.
+pub fn read_next<'b>(
+    alloc: Global,
+    bytes: &'b [u8],
+    keys: &mut Keys<'_>,
+) -> Result<Option<(Change, &'b [u8])>, NoMemory>
+    ensures change { IfOk result (λ found. option_map (λ f. (plain_change f.0, f.1.now)) found
+        ≡ spec.change_at keys.old bytes.now) }
+    ensures rules { keys.new ≡ keys.old }
+{
+    let mut rest = bytes;
+    match change_at(alloc, &mut rest, keys) {
+        Ok(change) => Ok(Some((change, rest))),
+        Err(Stop::NoField) => Ok(None),
+        Err(Stop::NoMemory) => Err(NoMemory),
+    }
 }
 
 /// Reads the row change at the front of bytes, and answers it with the bytes behind it. None is no
@@ -145,10 +166,5 @@ pub fn read_change<'b>(
     ensures change { IfOk result (λ found. option_map (λ f. (plain_change f.0, f.1.now)) found
         ≡ spec.change_at list.now.rules bytes.now) }
 {
-    let mut rest = bytes;
-    match change_at(alloc, &mut rest, list) {
-        Ok(change) => Ok(Some((change, rest))),
-        Err(Stop::NoField) => Ok(None),
-        Err(Stop::NoMemory) => Err(NoMemory),
-    }
+    read_next(alloc, bytes, &mut Keys::new(list))
 }

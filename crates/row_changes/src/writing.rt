@@ -5,7 +5,8 @@ ghost use Rattle.std.specs.List.{All};
 ghost use Rattle.access_grants.specs.Plain.{plain_grant};
 ghost use Rattle.cookie_jar.specs.Key.{plain_key as plain_cell};
 ghost use Rattle.cookie_jar.specs.Plain.{plain_cookie};
-ghost use Rattle.origin_site.specs.Plain.{plain_site};
+ghost use Rattle.origin_site.specs.Origin.{origin_text};
+ghost use Rattle.origin_site.specs.Plain.{plain_origin, plain_site};
 ghost use Rattle.origin_site.specs.Site.{site_text};
 ghost use Rattle.storage_key.specs.Plain.{plain_key};
 ghost use Rattle.row_changes.specs.Appended.{Appends, HasCellTexts, HasCookieTexts, HasGrantTexts, IsFront};
@@ -17,11 +18,12 @@ ghost use Rattle.row_changes.specs.Fields as fields;
 ghost use Rattle.row_changes.specs.Plain.{plain_change, plain_ref};
 ghost use Rattle.row_changes.specs.Spelling as spec;
 
+use crate::hosts::{has_default_port, scheme_front};
 use crate::{Change, ChangeRef};
 use access_grants::GrantRow;
 use agent_base::NoMemory;
 use cookie_jar::{CellKey, Cookie};
-use origin_site::Site;
+use origin_site::{Origin, Site};
 use setcookie_parse::SameSite;
 use std::alloc::Global;
 use storage_key::StorageKey;
@@ -64,13 +66,44 @@ fn bit_byte(bit: bool) -> u8
     if bit { 1 } else { 0 }
 }
 
+// `scheme://host` as a text. Refused as `put_text`.
+fn put_host(out: &mut Vec<u8>, https: bool, host: &str) -> Result<(), NoMemory>
+    ensures bytes { OnOk result (out.new.items ≡ out.old.items
+        ++ fields.text_bytes (site_text (record { https = https; host = host.now }))) }
+    ensures texts { OnOk result (IsText (site_text (record { https = https; host = host.now }))) }
+    ensures front { Grown out.old.items out.new.items }
+{
+    let scheme = scheme_front(https);
+    let Ok(count) = u32::try_from(scheme.len() + host.len()) else {
+        return Err(NoMemory);
+    };
+    out.extend_from_slice(&count.to_le_bytes())?;
+    out.extend_from_slice(scheme.as_bytes())?;
+    out.extend_from_slice(host.as_bytes())?;
+    Ok(())
+}
+
 fn put_site(out: &mut Vec<u8>, site: &Site) -> Result<(), NoMemory>
     ensures bytes { OnOk result
         (out.new.items ≡ out.old.items ++ fields.text_bytes (site_text (plain_site site.now))) }
     ensures texts { OnOk result (IsText (site_text (plain_site site.now))) }
     ensures front { Grown out.old.items out.new.items }
 {
-    let text = site.text(*out.allocator())?;
+    put_host(out, site.https, site.host.as_str())
+}
+
+// The text of an origin, which is made where it has a port.
+#[tactic(auto, using(crate::proofs::HostLemmas::default_text))]
+fn put_origin(out: &mut Vec<u8>, origin: &Origin) -> Result<(), NoMemory>
+    ensures bytes { OnOk result (out.new.items
+        ≡ out.old.items ++ fields.text_bytes (origin_text (plain_origin origin.now))) }
+    ensures texts { OnOk result (IsText (origin_text (plain_origin origin.now))) }
+    ensures front { Grown out.old.items out.new.items }
+{
+    if has_default_port(origin) {
+        return put_host(out, origin.https, origin.host.as_str());
+    }
+    let text = origin.text(*out.allocator())?;
     put_text(out, text.as_str())
 }
 
@@ -80,8 +113,7 @@ fn put_key(out: &mut Vec<u8>, key: &StorageKey) -> Result<(), NoMemory>
     ensures texts { OnOk result (HasKeyTexts (plain_key key.now)) }
     ensures front { Grown out.old.items out.new.items }
 {
-    let origin = key.origin.text(*out.allocator())?;
-    put_text(out, origin.as_str())?;
+    put_origin(out, &key.origin)?;
     put_site(out, &key.top)?;
     put_byte(out, bit_byte(key.bit))
 }

@@ -1,12 +1,12 @@
 -- Filters, tests and look-ups of a list that is put together of parts.
 use Rattle.std.proofs.Common.{◌≡◌, ◌+◌, ◌<◌, ◌≤◌, ℕ, zero, suc, Bool, true, false, cond, not, List, [], ◌∷◌, ◌++◌, length, take, drop, get_or, set, map, refl, ap, sym, ◌∙◌, arith, Some, None, Option, inl, inr}
 use Rattle.std.specs.Prelude.{◌||◌, ◌==◌, ◌≢◌, ◌⊎◌, filter, find, is_some, option_map, slice_get}
-use Rattle.std.specs.List.{All, AllWithin, list_all, list_any, position_or_len}
+use Rattle.std.specs.List.{All, AllWithin, insert, list_all, list_any, position_or_len}
 use Rattle.std.specs.Option.{option_or}
 use Rattle.std.proofs.lemmas.Bool.{and_from, and_parts, eq-eqb}
 use Rattle.std.proofs.lemmas.Bool.Decides.{eqb_tells}
-use Rattle.std.proofs.lemmas.List.{get_or-take, get_or-drop, length-take-le, length-drop}
-use Rattle.std.proofs.lemmas.List.Folds.{find-append, find-set}
+use Rattle.std.proofs.lemmas.List.{get_or-take, get_or-drop, length-take-le, length-drop, take-append-drop}
+use Rattle.std.proofs.lemmas.List.Folds.{find-append, find-set, list_all-append}
 use Rattle.std.proofs.lemmas.List.Recursion.{found_set_other}
 
 pub not_true : (b : Bool) → not b ≡ true → b ≡ false
@@ -67,6 +67,21 @@ module _ {X : Type 0} where
   all_kept p q (x ∷ xs) all =
       let parts = and_parts (q x) (list_all q xs) all in
       kept_by p q x xs (p x) parts.0 (all_kept p q xs parts.1)
+
+  -- what all have, one of them has
+  pub all_got : (p : X → Bool) (xs : List X) (i : ℕ) (x : X) → list_all p xs ≡ true → slice_get xs i ≡ Some x → p x ≡ true
+  all_got p [] i x all is = absurd (cc is)
+  all_got p (y ∷ ys) zero x all is =
+      let same : y ≡ x = cc in ap p (sym same) ∙ (and_parts (p y) (list_all p ys) all).0
+  all_got p (y ∷ ys) (suc i) x all is = all_got p ys i x (and_parts (p y) (list_all p ys) all).1 is
+
+  -- what all have and one more has, all have with it
+  pub all_inserted : (p : X → Bool) (xs : List X) (i : ℕ) (x : X) → list_all p xs ≡ true → p x ≡ true → list_all p (insert xs i x) ≡ true
+  all_inserted p xs i x all one =
+      let parts = and_parts (list_all p (take i xs)) (list_all p (drop i xs))
+      (sym (list_all-append p (take i xs) (drop i xs)) ∙ ap (list_all p) (take-append-drop i xs) ∙ all) in
+      list_all-append p (take i xs) (x ∷ drop i xs)
+      ∙ and_from (list_all p (take i xs)) (list_all p (x ∷ drop i xs)) parts.0 (and_from (p x) (list_all p (drop i xs)) one parts.1)
 
   passes_by : (p : X → Bool) (x : X) (xs : List X) (b : Bool) → p x ≡ b → list_all p (filter p xs) ≡ true
       → list_all p (cond b (x ∷ filter p xs) (filter p xs)) ≡ true
@@ -206,3 +221,9 @@ module _ {X : Type 0} (key : X → ℕ) (n : ℕ) (xs : List X) (place : ℕ) (f
   -- what is found afterwards
   pub find-written : (m : ℕ) → find (λ x. key x == m) (set xs place new) ≡ cond (n == m) (Some new) (find (λ x. key x == m) xs)
   find-written m = written_by m (eqb_tells n m)
+
+-- the numbers after a write that keeps them
+pub map-written : {X : Type 0} (key : X → ℕ) (xs : List X) (i : ℕ) (old new : X) → old ≡ get_or xs i old → key new ≡ key old → map key (set xs i new) ≡ map key xs
+map-written key [] i old new read same = refl
+map-written key (x ∷ xs) zero old new read same = ap (λ k. k ∷ map key xs) (same ∙ ap key read)
+map-written key (x ∷ xs) (suc i) old new read same = ap (λ l. key x ∷ l) (map-written key xs i old new read same)

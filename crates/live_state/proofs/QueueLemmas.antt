@@ -1,19 +1,27 @@
 -- A write to one of the queues that a tab holds.
-use Rattle.std.proofs.Common.{◌≡◌, ◌<◌, ◌≤◌, ℕ, Bool, true, false, cond, List, [], ◌∷◌, ◌++◌, length, get_or, set, Option, Some, None, refl, ap, sym, subst, ◌∙◌, arith, inl, inr, Result, Ok, Err}
-use Rattle.std.specs.Prelude.{◌==◌, ◌≢◌, ◌⊎◌, is_some, nat_lt, slice_get, if◌then◌else◌, IsOk, OnErr, OnOk}
-use Rattle.std.specs.List.{position, position_or_len}
+use Rattle.std.proofs.Common.{◌≡◌, ◌+◌, ◌<◌, ◌≤◌, ℕ, Bool, true, false, cond, not, List, [], ◌∷◌, length, take, drop, get_or, set, Option, Some, None, refl, ap, sym, subst, ◌∙◌, arith, inl, inr, Result, Ok, Err}
+use Rattle.std.specs.Prelude.{◌==◌, ◌≢◌, ◌⊎◌, nat_lt, slice_get, if◌then◌else◌, IsOk, MatchResult, OnErr, OnOk}
+use Rattle.std.specs.List.{insert, list_all, position, position_or_len}
+use Rattle.std.specs.List.Sorted.{IsBinarySearchResult, IsSearchInRange}
 use Rattle.std.specs.Option.{option_or}
+use Rattle.std.specs.Ordering.{nat_cmp}
+use Rattle.std.specs.declared.cmp.Ordering.TheVariants.{Equal}
 use Rattle.std.proofs.lemmas.Bool.{eq-eqb, ne_eqb}
 use Rattle.std.proofs.lemmas.Bool.Decides.{eqb_tells, nat_tests}
+use Rattle.std.proofs.lemmas.List.{append-nil, take-append-drop}
+use Rattle.std.proofs.lemmas.List.Edits.{get_or-insert_at, length-insert}
 use Rattle.std.proofs.lemmas.List.Folds.{find-append, find_at}
 use Rattle.std.proofs.lemmas.List.Quantifiers.{position-Some}
 use Rattle.std.proofs.lemmas.List.Recursion.{and_at, and_set}
-use Rattle.std.proofs.lemmas.Option.{cond_some, slice_get-get_or, slice_get_past}
+use Rattle.std.proofs.lemmas.Option.{cond_some, slice_get-get_or, slice_get_within}
 use Rattle.frame_tree.specs.Tree.{PlainFrame, has_frame}
 use Rattle.live_state.specs.declared.frame_queue.FrameQueue.{FrameQueue}
-use Rattle.live_state.specs.ExistingQueues.{IsChangedAt, existing_at, are_of_frames, plain_by, ready_by}
+use Rattle.live_state.specs.ExistingQueues.{IsBetween, IsChangedAt, existing_at, are_of_frames, are_sorted, plain_by, ready_by}
+use Rattle.live_state.specs.SiteTabs.{are_rising}
 use Rattle.live_state.specs.Tabs.{PlainFrameQueue, empty_queue}
-use Rattle.live_state.proofs.ListLemmas.{find-written}
+use Rattle.live_state.proofs.ListLemmas.{all_inserted, all_weaker, find-written, find_none, first-at, map-written}
+use Rattle.live_state.proofs.NumberLemmas.{higher-back, lower-front, none-before, rising-inserted, searchable-by}
+use Rattle.live_state.proofs.TabPlaceLemmas.{higher_isnt_it, lower_isnt_it}
 
 -- the first queue of a frame
 abbrev pub place_in : ℕ → List FrameQueue → Option ℕ
@@ -21,17 +29,6 @@ place_in frame existing = position (λ q. q.frame == frame) existing
 
 turned : (m n : ℕ) → (m == n) ≡ false → (n == m) ≡ false
 turned m n differ = grind (arith, nat_tests)
-
-none_by : (b : Bool) (i : ℕ) → cond b (Some i) None ≡ None → b ≡ false
-none_by true i is = absurd (cc is)
-none_by false i is = refl
-
-pub no-place : (frame : ℕ) (existing : List FrameQueue) → place_in frame existing ≡ None → existing_at frame existing ≡ None
-no-place frame existing is =
-    let past : nat_lt (position_or_len (λ q. q.frame == frame) existing) (length existing) ≡ false =
-    none_by (nat_lt (position_or_len (λ q. q.frame == frame) existing) (length existing)) (position_or_len (λ q. q.frame == frame) existing) is in
-    let behind : length existing ≤ position_or_len (λ q. q.frame == frame) existing = grind (arith, nat_tests) in
-    find_at (λ q. q.frame == frame) existing ∙ slice_get_past existing (position_or_len (λ q. q.frame == frame) existing) behind
 
 module _ (frame : ℕ) (existing : List FrameQueue) (place : ℕ) (is : place_in frame existing ≡ Some place) (old : FrameQueue) (read : old ≡ get_or existing place old) where
   facts : (place < length existing) × ((get_or existing place old).frame == frame ≡ true) × ((k : ℕ) → k < place → (get_or existing k old).frame == frame ≡ false)
@@ -109,6 +106,10 @@ module _ (frame : ℕ) (existing : List FrameQueue) (place : ℕ) (is : place_in
         → ready_by (existing_at n existing) ≡ true → ready_by (existing_at n (set existing place new)) ≡ true
     ready-written stays n ready = ap ready_by (existing-written n) ∙ ready_step stays n (eqb_tells frame n) ready
 
+    -- the queues stand as before
+    pub sorted-written : are_sorted existing ≡ true → are_sorted (set existing place new) ≡ true
+    sorted-written sorted = ap are_rising (map-written (λ q. q.frame) existing place old new read same) ∙ sorted
+
     -- each queue is still that of a frame
     pub are_of_frames-written : (frames : List PlainFrame) → are_of_frames frames existing ≡ true → are_of_frames frames (set existing place new) ≡ true
     are_of_frames-written frames all =
@@ -116,30 +117,93 @@ module _ (frame : ℕ) (existing : List FrameQueue) (place : ℕ) (is : place_in
         ap (λ q. has_frame q.frame frames) read ∙ and_at (are_of_frames frames) (λ q. has_frame q.frame frames) refl (λ q qs. refl) existing place old facts.0 all in
         and_set (are_of_frames frames) (λ q. has_frame q.frame frames) refl (λ q qs. refl) existing place new (ap (λ n. has_frame n frames) same ∙ here) all
 
+-- ---- where a queue stands, or would stand
+
+-- a queue of the frame that stands at a place is the first one
+pub place-at : (frame place : ℕ) (existing : List FrameQueue) (q : FrameQueue) → are_sorted existing ≡ true → slice_get existing place ≡ Some q → q.frame ≡ frame
+    → place_in frame existing ≡ Some place
+place-at frame place existing q sorted is own =
+    let first : place ≡ position_or_len (λ q. q.frame == frame) existing =
+    first-at (λ q. q.frame == frame) existing place q (none-before (λ q. q.frame) frame place existing q sorted is own) is (eq-eqb q.frame frame own) in
+    let low : place < length existing = slice_get_within existing place q is in
+    let within : nat_lt place (length existing) ≡ true = grind (arith, nat_tests) in
+    ap (λ i. cond (nat_lt i (length existing)) (Some i) None) (sym first) ∙ ap (λ b. cond b (Some place) None) within
+
+is_equal : (m n : ℕ) → nat_cmp m n ≡ Equal → m ≡ n
+is_equal m n is = grind (arith, nat_tests)
+
+pub searched : (frame : ℕ) (existing : List FrameQueue) (r : Result ℕ ℕ) → are_sorted existing ≡ true → IsSearchInRange r (length existing)
+    → IsBinarySearchResult (λ q. nat_cmp q.frame frame) existing r
+    → MatchResult r (λ place. place_in frame existing ≡ Some place) (IsBetween frame existing)
+searched frame [] (Ok i) sorted bound found = absurd (omega arith)
+searched frame (d ∷ existing) (Ok i) sorted bound found =
+    let all : List FrameQueue = d ∷ existing in
+    place-at frame i all (get_or all i d) sorted (slice_get-get_or all i d bound) (is_equal (get_or all i d).frame frame (found d))
+searched frame existing (Err i) sorted bound gap =
+    let parts = gap (searchable-by (λ q. q.frame) existing frame sorted) in record {
+      within = bound;
+      lower = lower-front (λ q. q.frame) frame i existing bound parts.0;
+      higher = higher-back (λ q. q.frame) frame i existing parts.1;
+    }
+
+-- no queue is that of a frame that would stand between two
+pub none-between : (frame : ℕ) (existing : List FrameQueue) (place : ℕ) → IsBetween frame existing place → existing_at frame existing ≡ None
+none-between frame existing place between =
+    ap (existing_at frame) (sym (take-append-drop place existing))
+    ∙ find_none (λ q. q.frame == frame) (take place existing) (drop place existing)
+    (all_weaker (λ q. nat_lt q.frame frame) (λ q. not (q.frame == frame)) (λ q is. lower_isnt_it q.frame frame is) (take place existing) between.lower)
+    ∙ ap (existing_at frame) (sym (append-nil (drop place existing)))
+    ∙ find_none (λ q. q.frame == frame) (drop place existing) []
+    (all_weaker (λ q. nat_lt frame q.frame) (λ q. not (q.frame == frame)) (λ q is. higher_isnt_it q.frame frame is) (drop place existing) between.higher)
+
 -- ---- a queue more
 
-module _ (frame : ℕ) (existing : List FrameQueue) (new : FrameQueue) (none : existing_at frame existing ≡ None) (same : new.frame ≡ frame) where
+module _ (frame : ℕ) (existing : List FrameQueue) (place : ℕ) (between : IsBetween frame existing place) (new : FrameQueue) (same : new.frame ≡ frame) where
+  none : existing_at frame existing ≡ None
+  none = none-between frame existing place between
+
+  front_none : (o p : Option FrameQueue) → option_or o p ≡ None → o ≡ None
+  front_none None p is = refl
+  front_none (Some q) p is = absurd (cc is)
+
+  -- the queues are those in front and those behind
+  parts_at : (n : ℕ) → option_or (existing_at n (take place existing)) (existing_at n (drop place existing)) ≡ existing_at n existing
+  parts_at n = sym (find-append (λ q. q.frame == n) (take place existing) (drop place existing)) ∙ ap (existing_at n) (take-append-drop place existing)
+
   more_by : (n : ℕ) → (((new.frame == n) ≡ true) × (new.frame ≡ n)) ⊎ (((new.frame == n) ≡ false) × (new.frame ≢ n))
-      → option_or (existing_at n existing) (cond (new.frame == n) (Some new) None) ≡ cond (frame == n) (Some new) (existing_at n existing)
+      → option_or (existing_at n (take place existing)) (cond (new.frame == n) (Some new) (existing_at n (drop place existing)))
+      ≡ cond (frame == n) (Some new) (existing_at n existing)
   more_by n (inl equal) =
       let absent : existing_at n existing ≡ None = ap (λ m. existing_at m existing) (sym equal.1 ∙ same) ∙ none in
-      ap (λ o. option_or o (cond (new.frame == n) (Some new) None)) absent
-      ∙ ap (λ b. cond b (Some new) None) equal.0
+      ap (λ o. option_or o (cond (new.frame == n) (Some new) (existing_at n (drop place existing))))
+      (front_none (existing_at n (take place existing)) (existing_at n (drop place existing)) (parts_at n ∙ absent))
+      ∙ ap (λ b. cond b (Some new) (existing_at n (drop place existing))) equal.0
       ∙ ap (λ b. cond b (Some new) (existing_at n existing)) (sym (ap (λ m. m == n) (sym same) ∙ equal.0))
   more_by n (inr differ) =
-      ap (λ b. option_or (existing_at n existing) (cond b (Some new) None)) differ.0
-      ∙ or_none (existing_at n existing)
+      ap (λ b. option_or (existing_at n (take place existing)) (cond b (Some new) (existing_at n (drop place existing)))) differ.0
+      ∙ parts_at n
       ∙ ap (λ b. cond b (Some new) (existing_at n existing)) (sym (ap (λ m. m == n) (sym same) ∙ differ.0))
-    where
-      or_none : (o : Option FrameQueue) → option_or o None ≡ o
-      or_none None = refl
-      or_none (Some q) = refl
 
-  pub existing-more : (n : ℕ) → existing_at n (existing ++ new ∷ []) ≡ cond (frame == n) (Some new) (existing_at n existing)
-  existing-more n = find-append (λ q. q.frame == n) existing (new ∷ []) ∙ more_by n (eqb_tells new.frame n)
+  pub existing-more : (n : ℕ) → existing_at n (insert existing place new) ≡ cond (frame == n) (Some new) (existing_at n existing)
+  existing-more n = find-append (λ q. q.frame == n) (take place existing) (new ∷ drop place existing) ∙ more_by n (eqb_tells new.frame n)
 
-  pub there-more : is_some (existing_at frame (existing ++ new ∷ [])) ≡ true
-  there-more = ap is_some (existing-more frame) ∙ ap (λ b. is_some (cond b (Some new) (existing_at frame existing))) (eq-eqb frame frame refl)
+  pub sorted-more : are_sorted existing ≡ true → are_sorted (insert existing place new) ≡ true
+  sorted-more sorted =
+      rising-inserted (λ q. q.frame) new existing place sorted
+      (ap (λ n. list_all (λ q. nat_lt q.frame n) (take place existing)) same ∙ between.lower)
+      (ap (λ n. list_all (λ q. nat_lt n q.frame) (drop place existing)) same ∙ between.higher)
+
+  pub place-more : are_sorted existing ≡ true → place_in frame (insert existing place new) ≡ Some place
+  place-more sorted =
+      let within : place ≤ length existing = between.within in
+      let long : length (insert existing place new) ≡ length existing + 1 = length-insert existing place new within in
+      let low : place < length (insert existing place new) = omega arith in
+      place-at frame place (insert existing place new) new (sorted-more sorted)
+      (slice_get-get_or (insert existing place new) place new low ∙ ap Some (get_or-insert_at existing place new new within)) same
+
+  pub of_frames-more : (frames : List PlainFrame) → has_frame frame frames ≡ true → are_of_frames frames existing ≡ true
+      → are_of_frames frames (insert existing place new) ≡ true
+  of_frames-more frames there all = all_inserted (λ q. has_frame q.frame frames) existing place new all (ap (λ n. has_frame n frames) same ∙ there)
 
   plain_more : new.queue.events ≡ [] → new.queue.lost ≡ 0 → (n : ℕ)
       → (((frame == n) ≡ true) × (frame ≡ n)) ⊎ (((frame == n) ≡ false) × (frame ≢ n))
@@ -153,7 +217,7 @@ module _ (frame : ℕ) (existing : List FrameQueue) (new : FrameQueue) (none : e
   plain_more events lost n (inr differ) = ap (λ b. plain_by n (cond b (Some new) (existing_at n existing))) differ.0
 
   -- an empty queue is seen as none
-  pub same-more : new.queue.events ≡ [] → new.queue.lost ≡ 0 → (n : ℕ) → plain_by n (existing_at n (existing ++ new ∷ [])) ≡ plain_by n (existing_at n existing)
+  pub same-more : new.queue.events ≡ [] → new.queue.lost ≡ 0 → (n : ℕ) → plain_by n (existing_at n (insert existing place new)) ≡ plain_by n (existing_at n existing)
   same-more events lost n = ap (plain_by n) (existing-more n) ∙ plain_more events lost n (eqb_tells frame n)
 
   ready_more : (n : ℕ) → (((frame == n) ≡ true) × (frame ≡ n)) ⊎ (((frame == n) ≡ false) × (frame ≢ n))
@@ -162,26 +226,10 @@ module _ (frame : ℕ) (existing : List FrameQueue) (new : FrameQueue) (none : e
       let no : false ≡ true = sym (ap ready_by none) ∙ ap (λ m. ready_by (existing_at m existing)) equal.1 ∙ ready in absurd (cc no)
   ready_more n (inr differ) ready = ap (λ b. ready_by (cond b (Some new) (existing_at n existing))) differ.0 ∙ ready
 
-  pub ready-more : (n : ℕ) → ready_by (existing_at n existing) ≡ true → ready_by (existing_at n (existing ++ new ∷ [])) ≡ true
+  pub ready-more : (n : ℕ) → ready_by (existing_at n existing) ≡ true → ready_by (existing_at n (insert existing place new)) ≡ true
   ready-more n ready = ap ready_by (existing-more n) ∙ ready_more n (eqb_tells frame n) ready
 
 -- ---- an answer that takes memory
-
-some_by : (b : Bool) (i : ℕ) → is_some (cond b (Some i) None) ≡ true → b ≡ true
-some_by true i is = refl
-some_by false i is = absurd (cc is)
-
-pub place-there : (frame : ℕ) (existing : List FrameQueue) → is_some (place_in frame existing) ≡ true → is_some (existing_at frame existing) ≡ true
-place-there frame existing is =
-    let test : nat_lt (position_or_len (λ q. q.frame == frame) existing) (length existing) ≡ true =
-    some_by (nat_lt (position_or_len (λ q. q.frame == frame) existing) (length existing)) (position_or_len (λ q. q.frame == frame) existing) is in
-    let low : position_or_len (λ q. q.frame == frame) existing < length existing = grind (arith, nat_tests) in
-    ap is_some (find_at (λ q. q.frame == frame) existing)
-    ∙ some_within existing (position_or_len (λ q. q.frame == frame) existing) low
-  where
-    some_within : (xs : List FrameQueue) (i : ℕ) → i < length xs → is_some (slice_get xs i) ≡ true
-    some_within [] i low = absurd (omega arith)
-    some_within (x ∷ xs) i low = ap is_some (slice_get-get_or (x ∷ xs) i x low)
 
 pub ready-here : (frame : ℕ) (existing : List FrameQueue) (place : ℕ) (is : place_in frame existing ≡ Some place) (old : FrameQueue) (read : old ≡ get_or existing place old)
     (new : FrameQueue) (same : new.frame ≡ old.frame) → new.queue.reserved ≡ true → ready_by (existing_at frame (set existing place new)) ≡ true

@@ -1,30 +1,23 @@
 -- What a binary search finds among tabs whose numbers rise.
 use Rattle.std.proofs.Common.{◌≡◌, ◌<◌, ◌≤◌, ℕ, true, List, [], ◌∷◌, length, take, drop, get_or, map, Option, Result, Ok, Err, Some, None, refl, ap, ◌∙◌, arith, inl, inr, MatchResult}
 use Rattle.std.specs.Prelude.{nat_lt, option_map, slice_get, ◌⊎◌}
-use Rattle.std.specs.List.{AllWithin, HoldsAt}
+use Rattle.std.specs.List.{AllWithin, HoldsAt, list_all}
 use Rattle.std.specs.List.Sorted.{IsBinarySearchResult, IsNonDecreasingBy, IsSearchInRange}
 use Rattle.std.specs.Ordering.{nat_cmp, ordering_index}
 use Rattle.std.specs.declared.cmp.Ordering.TheVariants.{Less, Equal, Greater}
 use Rattle.std.proofs.lemmas.Bool.Decides.{nat_tests}
 use Rattle.std.proofs.lemmas.List.{get_or-map, take-map, drop-map, length-map}
-use Rattle.std.proofs.lemmas.List.Elements.{All-map, All-weaker}
-use Rattle.std.proofs.lemmas.List.Sums.{list_all-from_AllPass}
+use Rattle.std.proofs.lemmas.List.Folds.{list_all-map}
 use Rattle.std.proofs.lemmas.Option.{slice_get-get_or, slice_get-map}
 use Rattle.live_state.specs.ExistingQueues.{PlainOpenTab}
 use Rattle.live_state.specs.Tabs.{PlainTab, is_rising}
 use Rattle.live_state.specs.TabPlaces.{IsAt, IsGap}
-use Rattle.live_state.proofs.ListLemmas.{All-back, All-front}
+use Rattle.live_state.proofs.NumberLemmas.{higher-back, lower-front}
 use Rattle.live_state.proofs.TabPlaceLemmas.{rising-apart, rising-split}
 
 -- the tabs, as contracts see them
 abbrev pub plain_of : List PlainOpenTab → List PlainTab
 plain_of ts = map (λ t. t.plain) ts
-
-is_less : (m n : ℕ) → nat_cmp m n ≡ Less → nat_lt m n ≡ true
-is_less m n is = grind (arith, nat_tests)
-
-is_greater : (m n : ℕ) → nat_cmp m n ≡ Greater → nat_lt n m ≡ true
-is_greater m n is = grind (arith, nat_tests)
 
 is_equal : (m n : ℕ) → nat_cmp m n ≡ Equal → m ≡ n
 is_equal m n is = grind (arith, nat_tests)
@@ -79,17 +72,13 @@ place-gap n i ts within lower higher =
     record {
       within = omega arith;
       lower =
-          rw (take-map (λ t. t.plain) i ts)
-          (list_all-from_AllPass (λ u. nat_lt u.number n) (plain_of (take i ts))
-          (All-map (λ u. nat_lt u.number n ≡ true) (λ t. t.plain) (take i ts)
-          (All-weaker (λ t. nat_cmp t.plain.number n ≡ Less) (λ t. nat_lt t.plain.number n ≡ true) (λ t is. is_less t.plain.number n is) (take i ts)
-          (All-front (λ t. nat_cmp t.plain.number n ≡ Less) ts i within lower))));
+          ap (list_all (λ u. nat_lt u.number n)) (take-map (λ t. t.plain) i ts)
+          ∙ list_all-map (λ u. nat_lt u.number n) (λ t. t.plain) (take i ts)
+          ∙ lower-front (λ t. t.plain.number) n i ts within lower;
       higher =
-          rw (drop-map (λ t. t.plain) i ts)
-          (list_all-from_AllPass (λ u. nat_lt n u.number) (plain_of (drop i ts))
-          (All-map (λ u. nat_lt n u.number ≡ true) (λ t. t.plain) (drop i ts)
-          (All-weaker (λ t. nat_cmp t.plain.number n ≡ Greater) (λ t. nat_lt n t.plain.number ≡ true) (λ t is. is_greater t.plain.number n is) (drop i ts)
-          (All-back (λ t. nat_cmp t.plain.number n ≡ Greater) ts i higher))));
+          ap (list_all (λ u. nat_lt n u.number)) (drop-map (λ t. t.plain) i ts)
+          ∙ list_all-map (λ u. nat_lt n u.number) (λ t. t.plain) (drop i ts)
+          ∙ higher-back (λ t. t.plain.number) n i ts higher;
     }
 
 pub searched : (n : ℕ) (ts : List PlainOpenTab) (r : Result ℕ ℕ) → is_rising (plain_of ts) ≡ true → IsSearchInRange r (length ts)

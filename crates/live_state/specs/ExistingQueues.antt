@@ -1,11 +1,12 @@
 -- An open tab, as the list of open tabs sees it, and the queues that exist: a frame whose
 -- document has heard of no event may have none.
-use Rattle.std.specs.Prelude.{◌≡◌, ℕ, Bool, true, false, ◌==◌, not, List, map, filter, find, Option, Some, None}
+use Rattle.std.specs.Prelude.{◌≡◌, ◌≤◌, ℕ, Bool, true, false, ◌==◌, not, nat_lt, List, length, take, drop, map, filter, find, Option, Some, None}
 use Rattle.std.specs.Prelude.{Result, OnErr, OnOk, if◌then◌else◌}
 use Rattle.std.specs.List.{list_all}
 use Rattle.frame_tree.specs.Tree.{IsTree, PlainFrame, has_frame, top_site}
 use Rattle.live_state.specs.FramesInPlace.{IsRemade}
 use Rattle.live_state.specs.Queues.{is_among}
+use Rattle.live_state.specs.SiteTabs.{are_rising}
 use Rattle.live_state.specs.Tabs.{PlainFrameQueue, PlainTab, ReadyTab, empty_queue, stays}
 use Rattle.live_state.specs.declared.frame_queue.FrameQueue.{FrameQueue}
 
@@ -60,6 +61,16 @@ ready_of frames existing =
 -- each existing queue is that of a frame
 abbrev pub are_of_frames : List PlainFrame → List FrameQueue → Bool
 are_of_frames frames existing = list_all (λ q. has_frame q.frame frames) existing
+
+-- the existing queues stand in the order of their frames' numbers, and no two are of one frame
+abbrev pub are_sorted : List FrameQueue → Bool
+are_sorted existing = are_rising (map (λ q. q.frame) existing)
+
+-- no queue is that of a frame, and it would stand at this place
+pub record IsBetween (frame : ℕ) (existing : List FrameQueue) (place : ℕ) : Type 0 where
+  pub within : place ≤ length existing
+  pub lower : list_all (λ q. nat_lt q.frame frame) (take place existing) ≡ true
+  pub higher : list_all (λ q. nat_lt frame q.frame) (drop place existing) ≡ true
 
 -- contracts see the queue that they saw of each frame
 abbrev pub SeenAlike : List FrameQueue → List FrameQueue → Type 0

@@ -16,7 +16,7 @@ ghost use Rattle.live_state.specs.Queues.{is_among, queue_told};
 ghost use Rattle.live_state.specs.Tabs.{HasQueues, empty_queue, made_tab, queue_of, stays};
 
 use crate::frame_queue::{
-    FrameQueue, has_frame, keep_queues, make_queue, push_event, reserve_queue, take_events,
+    FrameQueue, has_frame, keep_queues, push_event, reserve_queue, take_events,
 };
 use crate::listed::{list_document, list_hearer};
 use agent_base::{Label, NoMemory};
@@ -38,7 +38,7 @@ pub struct OpenTab {
 
 impl Model for OpenTab {
     ghost use Rattle.std.specs.Prelude.{◌≡◌, true};
-    ghost use Rattle.live_state.specs.ExistingQueues.{PlainOpenTab, are_of_frames, queues_of, ready_of};
+    ghost use Rattle.live_state.specs.ExistingQueues.{PlainOpenTab, are_of_frames, are_sorted, queues_of, ready_of};
 
     ghost Value = { PlainOpenTab };
 
@@ -47,7 +47,8 @@ impl Model for OpenTab {
       ready = ready_of t.tab t.queues.items;
     } };
 
-    ghost invariant = { λ t. are_of_frames t.tab t.queues.items ≡ true };
+    ghost invariant = { λ t. (are_of_frames t.tab t.queues.items ≡ true)
+        × (are_sorted t.queues.items ≡ true) };
 }
 
 impl OpenTab {
@@ -177,8 +178,7 @@ impl OpenTab {
         ensures kept { FramesStayReadyBut (λ n. false) self.old self.new }
         ensures same { self.new.plain ≡ self.old.plain }
     {
-        make_queue(&mut self.queues, alloc, frame)?;
-        reserve_queue(&mut self.queues, frame)
+        reserve_queue(&mut self.queues, alloc, frame)
     }
 
     /// Puts an event into the queue of a frame, or counts it as lost.

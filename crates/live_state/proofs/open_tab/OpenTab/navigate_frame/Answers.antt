@@ -3,4 +3,4 @@ use Rattle.live_state.proofs.TabLemmas.{frames-changed}
 use Rattle.live_state.proofs.open_tab.OpenTab.navigate_frame.Goals as goal
 
 pub returns-clause-changes : goal.returns-clause-changes
-returns-clause-changes c = frames-changed _ _ _ _ _ c.keep_queues.ensures.kept c.self.inside.number c.args.self.now c.self.view_is c.self.invariant c.navigate.ensures.site c.navigate.ensures.tree
+returns-clause-changes c = frames-changed _ _ _ _ _ c.keep_queues.ensures.kept c.self.inside.number c.args.self.now c.self.view_is c.self.invariant.0 c.navigate.ensures.site c.navigate.ensures.tree

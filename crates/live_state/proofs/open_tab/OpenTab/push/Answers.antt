@@ -8,6 +8,7 @@ use Rattle.live_state.proofs.open_tab.OpenTab.push.Goals as goal
 
 pub push_event-requires : goal.push_event-requires
 push_event-requires c = record {
+  sorted = c.self.invariant.1;
   ready =
       (ready-parts c.args.frame c.self.inside.tab c.self.inside.queues.items
       (ap (λ tab. is_among c.args.frame tab.ready) c.self.view_is ∙ c.requires.ready)).1;

@@ -9,7 +9,7 @@ use Rattle.live_state.proofs.open_tab.OpenTab.take.Goals as goal
 pub returns-clause-given : goal.returns-clause-given
 returns-clause-given c =
     let before : plain_by c.args.frame (existing_at c.args.frame c.self.inside.queues.items) ≡ queue_of c.args.frame c.args.self.now.plain.queues =
-    sym (queue-existing c.args.frame c.self.inside.tab c.self.inside.queues.items c.self.invariant)
+    sym (queue-existing c.args.frame c.self.inside.tab c.self.inside.queues.items c.self.invariant.0)
     ∙ ap (λ tab. queue_of c.args.frame tab.plain.queues) c.self.view_is in (
       c.take_events.ensures.given.0 ∙ ap (λ (q : PlainFrameQueue). q.events) before,
       c.take_events.ensures.given.1 ∙ ap (λ (q : PlainFrameQueue). q.lost) before,

@@ -34,6 +34,12 @@ class Groups:
         return sorted(found, key=lambda it: (-len(it['tops']), it['tops']))
 
 
+class Tops(set):
+    """Top-level sites under which a value of a cookie was met, and how many of them are in a group."""
+
+    joined = 1
+
+
 class Run:
     """Where each cookie was met in a run: by domain, cell and name, the top-level sites of each value."""
 
@@ -51,14 +57,19 @@ class Run:
 
     def send(self, domain, cell, pair, top):
         """A cookie was sent: whoever set it or got it elsewhere can know the visitor again."""
-        tops = self.met.setdefault((domain, cell, cookies.name_of(pair)), {}).setdefault(pair, set())
+        tops = self.tops(domain, cell, pair)
         tops.add(top)
-        if len(tops) > 1:
+        if len(tops) > tops.joined:
+            tops.joined = len(tops)
             self.groups[domain].join(tops, cookies.name_of(pair))
 
     def keep(self, domain, cell, pair, top):
         """A cookie was stored."""
-        self.met.setdefault((domain, cell, cookies.name_of(pair)), {}).setdefault(pair, set()).add(top)
+        self.tops(domain, cell, pair).add(top)
+
+    def tops(self, domain, cell, pair):
+        """The top-level sites under which a value was met."""
+        return self.met.setdefault((domain, cell, cookies.name_of(pair)), {}).setdefault(pair, Tops())
 
     def remove(self, domain, cell, pair):
         """A cookie is gone."""

@@ -9,27 +9,58 @@ An explanation is given cookie by cookie, and only where the replies bear it out
   most 250 ms, or changed it before it by as much;
 * a cookie that was predicted and not sent has the explanation of the one of its name that was sent in its place.
 """
-from . import addresses, contexts, cookies
+import bisect
+
+from . import contexts, cookies
 
 NEAR = 0.25
 STORED = ('added', 'replaced', 'removed')
 THIRD_PARTY, SAME_SITE = 'third-party', 'same-site'
+# Below whichever site.
+ANYWHERE = 'any'
 
 
 class Set:
-    """A Set-Cookie text of the script, and what the program made of it."""
+    """A Set-Cookie text of the script that came with an answer of this moment."""
 
-    __slots__ = ('number', 'pair', 'cell', 'top', 'at', 'answer', 'is_guess')
+    __slots__ = ('at', 'number', 'cell', 'is_stored', 'is_kept_below')
 
-    def __init__(self, step, pair, cell, top, answer):
-        self.number, self.pair, self.cell, self.top, self.answer = step.number, pair, cell, top, answer
-        self.at = step.item.get('answered')
-        self.is_guess = step.kind in ('guess', 'jar')
+    def __init__(self, at, number, cell, is_stored, is_kept_below):
+        self.at, self.number, self.cell = at, number, cell
+        self.is_stored, self.is_kept_below = is_stored, is_kept_below
 
-    @property
-    def is_stored(self):
-        """Whether the program took the text."""
-        return self.answer in STORED
+
+class Sets:
+    """What the Set-Cookie texts of a script came to, and the first line at which each of that was so."""
+
+    def __init__(self):
+        self.first = {}
+        self.by_time = {}
+
+    def note(self, number, *key):
+        """Something is so from this line on."""
+        self.first.setdefault(key, number)
+
+    def is_before(self, number, *key):
+        """Whether something is so before a line."""
+        return self.first.get(key, number) < number
+
+    def is_anywhere(self, *key):
+        """Whether something is so in any line."""
+        return key in self.first
+
+    def sort(self):
+        """Orders the texts of each name by their moments."""
+        for found in self.by_time.values():
+            found.sort(key=lambda it: it.at)
+
+    def near(self, domain, name, moment):
+        """The texts of a name whose answers came within 250 ms of a moment."""
+        found = self.by_time.get((domain, name), [])
+        for place in range(bisect.bisect_left(found, moment - NEAR, key=lambda it: it.at), len(found)):
+            if found[place].at > moment + NEAR:
+                break
+            yield found[place]
 
 
 class Verdict:
@@ -54,10 +85,11 @@ class Judge:
         self.is_allowed = imported.head['setting'] == 'allowed'
         self.is_firefox = imported.head['browser'] == 'firefox'
         self.steps = imported.steps
-        self.sets = {}
+        self.sets = Sets()
         for step in self.steps:
             if step.item.get('chain') and 'url' in step.line:
                 self.note_sets(step)
+        self.sets.sort()
 
     def domain(self, step):
         """The domain that a line requests."""
@@ -69,12 +101,33 @@ class Judge:
 
     def note_sets(self, step):
         """Notes each Set-Cookie text of a line with its reply."""
-        context, domain = self.context(step), self.domain(step)
+        context, domain, number = self.context(step), self.domain(step), step.number
         for text, answer in zip(step.texts, step.reply.get('set', [])):
             pair = cookies.pair(text)
+            name = cookies.name_of(pair)
             cell = context if cookies.is_partitioned(text) else None
-            found = self.sets.setdefault((domain, cookies.name_of(pair)), [])
-            found.append(Set(step, pair, cell, context[0], answer))
+            is_stored, below = answer in STORED, self.kept_below(answer, context[0])
+            self.sets.note(number, 'set', domain, pair)
+            if is_stored:
+                self.sets.note(number, 'stored', domain, pair, cell)
+            if below:
+                self.sets.note(number, 'kept', domain, pair, below)
+                self.sets.note(number, 'kept name', domain, name, below)
+            if step.kind in ('guess', 'jar'):
+                self.sets.note(number, 'guessed', domain, pair, cell)
+            if step.item.get('answered') is not None:
+                found = self.sets.by_time.setdefault((domain, name), [])
+                found.append(Set(step.item['answered'], number, cell, is_stored, below))
+
+    def kept_below(self, answer, top):
+        """Below which site a browser sends a cookie that the program refused: below any, this one, or none."""
+        if self.is_firefox:
+            return top if answer in (THIRD_PARTY, SAME_SITE) else None
+        return ANYWHERE if self.is_allowed and answer == THIRD_PARTY else None
+
+    def below(self, step):
+        """The same of a request."""
+        return self.context(step)[0] if self.is_firefox else ANYWHERE
 
     def verdicts(self):
         """A verdict on each request that was recorded."""
@@ -98,54 +151,33 @@ class Judge:
             found.add(in_place.get(cookies.name_of(pair)) or self.why_not_sent(step, pair))
         return Verdict(step, found, missing, extra)
 
-    def sets_of(self, step, pair):
-        """The texts of the script that could set or change a cookie."""
-        return self.sets.get((self.domain(step), cookies.name_of(pair)), [])
-
     def why_sent(self, step, pair):
         """Why a cookie was sent that was not predicted."""
-        sets = self.sets_of(step, pair)
-        same = [it for it in sets if it.pair == pair]
-        if not same:
+        domain, number, context = self.domain(step), step.number, self.context(step)
+        if not self.sets.is_anywhere('set', domain, pair):
             return 'not-in-recording'
-        before = [it for it in same if it.number < step.number]
-        top, is_third = self.context(step)
-        for it in before:
-            if self.is_kept(it, top):
-                return 'kept-by-browser'
-        if self.is_allowed and is_third and any(it.is_stored and it.cell is None for it in before):
+        if self.sets.is_before(number, 'kept', domain, pair, self.below(step)):
+            return 'kept-by-browser'
+        is_in_jar = self.sets.is_before(number, 'stored', domain, pair, None)
+        if self.is_allowed and context[1] and is_in_jar:
             return 'sent-to-third-party'
-        is_late = any(it.number > step.number and self.is_near(it, step) for it in same)
-        was_there = any(it.is_stored and self.is_read(it, step) for it in before)
-        return 'timing' if is_late or (was_there and self.was_changed(step, sets)) else 'UNEXPLAINED'
+        was_there = is_in_jar or self.sets.is_before(number, 'stored', domain, pair, context)
+        return self.by_time(step, pair, was_there)
 
     def why_not_sent(self, step, pair):
         """Why a cookie was predicted that was not sent."""
-        sets = self.sets_of(step, pair)
-        before = [it for it in sets if it.number < step.number]
-        if any(it.is_guess and it.pair == pair and self.is_read(it, step) for it in before):
+        domain, number = self.domain(step), step.number
+        if any(self.sets.is_before(number, 'guessed', domain, pair, cell) for cell in (None, self.context(step))):
             return 'guessed-cookie'
-        if any(self.is_kept(it, self.context(step)[0]) for it in before):
+        if self.sets.is_before(number, 'kept name', domain, cookies.name_of(pair), self.below(step)):
             return 'kept-by-browser'
-        is_late = any(it.number > step.number and self.is_near(it, step) for it in sets)
-        return 'timing' if is_late or self.was_changed(step, sets) else 'UNEXPLAINED'
+        return self.by_time(step, pair, True)
 
-    def is_kept(self, it, top):
-        """Whether a browser with this setting keeps a cookie that the program refused."""
-        if self.is_allowed and not self.is_firefox:
-            return it.answer == THIRD_PARTY
-        return self.is_firefox and it.answer in (THIRD_PARTY, SAME_SITE) and it.top == top
-
-    def is_read(self, it, step):
-        """Whether a request could be sent with what a text set."""
-        return it.cell in (None, self.context(step))
-
-    def is_near(self, it, step):
-        """Whether a text came within 250 ms of a request, and the browser has it for that."""
-        is_within = it.at is not None and abs(it.at - step.item['at']) <= NEAR
-        is_there = it.is_stored and self.is_read(it, step)
-        return is_within and (is_there or self.is_kept(it, self.context(step)[0]))
-
-    def was_changed(self, step, sets):
-        """Whether a cookie was changed within 250 ms before a request."""
-        return any(it.number < step.number and self.is_near(it, step) for it in sets)
+    def by_time(self, step, pair, was_there):
+        """Whether answers that are near explain a cookie: a later one, or an earlier one that changed it."""
+        for it in self.sets.near(self.domain(step), cookies.name_of(pair), step.item['at']):
+            is_read = it.is_stored and it.cell in (None, self.context(step))
+            is_known = is_read or (it.is_kept_below and it.is_kept_below == self.below(step))
+            if is_known and (it.number > step.number or (was_there and it.number < step.number)):
+                return 'timing'
+        return 'UNEXPLAINED'

@@ -1,6 +1,6 @@
 -- What an opening leaves.
 use Rattle.std.proofs.Common.{◌≡◌, inl, inr, ℕ, ◌<◌, ◌≤◌, Bool, true, false, List, length, slice_index, arith, sym, ◌∙◌, ap, subst}
-use Rattle.std.specs.Prelude.{◌⊎◌, Result, Ok, Err, IfOk, IfErr, OnOk}
+use Rattle.std.specs.Prelude.{◌⊎◌, Option, Some, Result, Ok, Err, IfOk, IfErr, OnOk}
 use Rattle.std.proofs.lemmas.Bool.Decides.{nat_tests}
 use Rattle.journal.specs.Append.{IsReady, IsSettling, settle_calls}
 use Rattle.journal.specs.Store.{IsUnborn, IsOpen}
@@ -52,3 +52,8 @@ err_of (Err w) P holds e is = let same : w ≡ e = cc in subst P same holds
 pub if_then : {T E : Type 0} (r : Result T E) (P Q : T → Type 0) → ((v : T) → P v → Q v) → IfOk r P → IfOk r Q
 if_then (Ok v) P Q to p = to v p
 if_then (Err e) P Q to p = tt
+
+-- what holds of each told file
+pub if_told : {T E : Type 0} (r : Result T E) (old : Option (List ℕ)) (P : List ℕ → T → Type 0) → ((c : List ℕ) → old ≡ Some c → IfOk r (P c)) → IfOk r (λ v. (c : List ℕ) → old ≡ Some c → P c v)
+if_told (Ok v) old P each = each
+if_told (Err e) old P each = tt

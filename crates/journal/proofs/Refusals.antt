@@ -1,5 +1,5 @@
 -- An opening has one refusal of a file, and none of a store.
-use Rattle.std.proofs.Common.{◌≡◌, inl, inr, ⊎_elim, ℕ, ◌<◌, Bool, true, false, List, [], ◌∷◌, length, arith, refl, sym, ◌∙◌, ap, subst}
+use Rattle.std.proofs.Common.{◌≡◌, inl, inr, ⊎_elim, ℕ, zero, suc, ◌<◌, Bool, true, false, List, [], ◌∷◌, length, arith, refl, sym, ◌∙◌, ap, subst}
 use Rattle.std.specs.Prelude.{◌⊎◌, Option, Some, Result, Ok, Err, IfOk, OnOk, MatchResult}
 use Rattle.journal.specs.Store.{IsOpen, Frame, FramesAt, IsStore, IsUnborn}
 use Rattle.journal.specs.Region.{Runs, IsFault, StandsForState}
@@ -22,6 +22,13 @@ store_of j file frames s = record { live = j.live; number = j.number; begin = j.
 
 pub store_born : (digest file : List ℕ) (frames : List Frame) → IsStore digest file frames → IsOpen file 0 × (1 < length file)
 store_born digest file frames s = (s.head.gate, omega (arith, s.from, begins_within file s.begin frames s.frames_at))
+
+-- a file was born, or is unborn
+born_or_not : (file : List ℕ) → (IsOpen file 0 × (1 < length file)) ⊎ IsUnborn file
+born_or_not [] = inr (inl (omega arith))
+born_or_not (gate ∷ []) = inr (inl (omega arith))
+born_or_not (zero ∷ next ∷ rest) = inr (inr refl)
+born_or_not (suc gate ∷ next ∷ rest) = inl ((omega arith, λ shut. cc), omega arith)
 
 -- a store is no unborn file
 pub store_is_born : (digest file : List ℕ) (frames : List Frame) → IsStore digest file frames → IsUnborn file → ⊥
@@ -164,6 +171,21 @@ module _ {S : Type 0} (takes : S → Bool → List ℕ → S → ℕ → Type 0)
         let M = λ (t : S). MatchResult r (λ j. (state ≡ t) × (j.changes ≡ 0)) IsExcused in
         let N = λ (k : ℕ). MatchResult r (λ j. (state ≡ s) × (j.changes ≡ k)) IsExcused in
         subst N (sym unborn.2) (subst M (sym unborn.1) (opens_unborn made within unborn.0))
+
+    -- what was opened stands for what the file does
+    pub opens_as : IfOk r (λ j. IsUnborn c → (state ≡ empty) × (j.changes ≡ 0)) → IfOk r (λ j. FileMeans takes empty digest c state j.changes)
+    opens_as made = by r opened usable made
+      where
+        by : (x : Result JournalView OpenFault) → IfOk x (λ j. (d : List ℕ) → new ≡ Some d → (frames : List Frame) × StandsInFile j d frames × Runs takes true empty 0 frames state j.changes)
+            → IfOk x (λ j. (j.shut ≡ false) × (j.digest ≡ digest)) → IfOk x (λ j. IsUnborn c → (state ≡ empty) × (j.changes ≡ 0)) → IfOk x (λ j. FileMeans takes empty digest c state j.changes)
+        by (Ok j) o u m = ⊎_elim
+            (λ (born : IsOpen c 0 × (1 < length c)).
+            let found = o c (kept born.0 born.1) in
+            let D = λ (l : List ℕ). IsStore l c found.0 in
+            inl (found.0, subst D u.1 (store_of j c found.0 found.1), found.2))
+            (λ (unborn : IsUnborn c). inr (unborn, (m unborn).0, (m unborn).1))
+            (born_or_not c)
+        by (Err w) o u m = tt
 
     born_refused : (why : OpenFault) → IsOfFile why → IsRefusal takes refuses empty limited digest c why → IsWithin limited c → IsOpen c 0 × (1 < length c)
     born_refused DeviceFault of_file cause within = absurd of_file

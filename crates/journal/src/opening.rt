@@ -242,6 +242,11 @@ impl Journal {
             → IsWithin limit c → FileMeans (R.takes (R.rules into.old)) R.empty digest.now c s n
             → MatchResult result (λ j. (R.state into.new ≡ s) × (j.changes ≡ n)) IsExcused }
 
+        // The file stands for them, whatever it was.
+        ensures stood { IfOk result (λ j. (c : List ℕ) → (D.view disk.old).contents ≡ Some c
+            → FileMeans (R.takes (R.rules into.old)) R.empty digest.now c (R.state into.new)
+            j.changes) }
+
         // The rules by which bodies are read stay.
         ensures rules { R.rules into.new ≡ R.rules into.old }
 

@@ -35,7 +35,7 @@ use Rattle.web_storage.proofs.EvictionLemmas.{EachKey, IsApart, apart_below, not
 -- ---- entries whose keys rise
 
 -- each entry has a property
-abbrev EachEntry : (StorageKey × Bucket → Type 0) → List (StorageKey × Bucket) → Type 0
+abbrev pub EachEntry : (StorageKey × Bucket → Type 0) → List (StorageKey × Bucket) → Type 0
 EachEntry P es = AllByRecursion P es
 
 -- an entry is found by its key, before lesser ones too
@@ -49,7 +49,7 @@ found_before e all (f ∷ es) below there = (
   found_before e all es below.1 there.1,
 )
 
-each_found : (shed : List (StorageKey × Bucket)) → IsStrictlySortedBy key_cmp (keys_of shed)
+pub each_found : (shed : List (StorageKey × Bucket)) → IsStrictlySortedBy key_cmp (keys_of shed)
     → EachEntry (λ e. found (plain_key e.0) shed ≡ Some e.1) shed
 unfolding IsStrictlySortedBy
 each_found [] sorted = tt
@@ -59,7 +59,7 @@ each_found (e ∷ es) sorted = (
 )
 
 -- an entry's mode says whether its key is persistent
-mode_of_each : (shed es : List (StorageKey × Bucket)) → EachEntry (λ e. found (plain_key e.0) shed ≡ Some e.1) es
+pub mode_of_each : (shed es : List (StorageKey × Bucket)) → EachEntry (λ e. found (plain_key e.0) shed ≡ Some e.1) es
     → EachEntry (λ e. finite.contains_key (keys_in shed) (plain_key e.0) ≡ not (is_best_effort e.1.mode)) es
 mode_of_each shed [] there = tt
 mode_of_each shed (e ∷ es) there = (
@@ -122,14 +122,14 @@ count_more test q (x ∷ xs) areas none =
     at false is = ap finite.len (kept.change_unseen key_order key_order_total key_order_same areas test q
         (Some full) is) ∙ omega arith
 
-and_parts : (u p l : Bool) (best : Bool) → p ≡ not best → ((u && not p) && l) ≡ (u && (best && l))
-and_parts true p l true is = rw is refl
+and_parts : (u p l : Bool) (best : Bool) → p ≡ not best → ((u && not p) && l) ≡ ((u && not p) && (best && l))
+and_parts true p l true is = refl
 and_parts true p l false is = rw is refl
 and_parts false p l best is = refl
 
 count_by_each : (site : PlainSite) (persistent : Keys) (keys : List StorageKey)
     (es : List (StorageKey × Bucket)) → IsStrictlySortedBy key_cmp (keys_of es)
-    → EachKey (λ k. is_among order keys k ≡ is_under site (plain_key k)) es
+    → EachKey (λ k. is_among order keys k ≡ is_taken site persistent (plain_key k)) es
     → EachEntry (λ e. finite.contains_key persistent (plain_key e.0) ≡ not (is_best_effort e.1.mode)) es
     → finite.len (areas_taken_by site persistent (areas_in es)) ≡ count_evicted order keys es
 unfolding IsStrictlySortedBy as_number
@@ -152,7 +152,7 @@ count_by_each site persistent keys (e ∷ es) sorted taken modes =
 -- as many areas are counted as are taken
 pub evicted_count : (site : PlainSite) (keys : List StorageKey) (shed : List (StorageKey × Bucket))
     → IsStrictlySortedBy key_cmp (keys_of shed)
-    → EachKey (λ k. is_among order keys k ≡ is_under site (plain_key k)) shed
+    → EachKey (λ k. is_among order keys k ≡ is_taken site (keys_in shed) (plain_key k)) shed
     → finite.len (areas_taken_by site (keys_in shed) (areas_in shed)) ≡ count_evicted order keys shed
 evicted_count site keys shed sorted taken =
     count_by_each site (keys_in shed) keys shed sorted taken (mode_of_each shed shed (each_found shed sorted))

@@ -6,6 +6,7 @@ use Rattle.std.specs.Map.{keys_of}
 use Rattle.std.proofs.lemmas.Bool.{or_right}
 use Rattle.std.specs.declared.cmp.Ordering.TheVariants.{Less}
 use Rattle.std.specs.Ordering.{is_eq, eq_by_cmp}
+use Rattle.std.specs.FinMap as finite
 use Rattle.unwinding.specs.FiniteCells.{restrict_cells}
 use Rattle.unwinding.proofs.FiniteCellsLemmas as cells
 use Rattle.origin_site.specs.Site.{PlainSite}
@@ -179,14 +180,20 @@ area_left b bucket = at b (is_best_effort bucket.mode)
 -- the areas that are left
 pub evicted_areas : (site : PlainSite) (keys : List StorageKey) (shed : List (StorageKey × Bucket))
     → IsStrictlySortedBy key_cmp (keys_of shed)
-    → EachKey (λ k. is_among order keys k ≡ is_under site (plain_key k)) shed
+    → EachKey (λ k. is_among order keys k ≡ is_taken site (keys_in shed) (plain_key k)) shed
     → areas_in (evicted order keys shed) ≡ areas_left_by site (keys_in shed) (areas_in shed)
 unfolding restrict_cells
 evicted_areas site keys shed sorted taken = cells.same_cells key_order key_order_total key_order_same _ _ (λ q.
     area_at q (evicted order keys shed)
-    ∙ ap (λ b. b.area) (bucket_after (is_under site) keys q shed sorted taken)
-    ∙ area_left (is_under site q) (bucket_at q shed)
-    ∙ ap (λ m. cond (not (is_under site q && not m)) (bucket_at q shed).area []) (sym (mode_at q shed))
+    ∙ ap (λ b. b.area) (bucket_after (is_taken site (keys_in shed)) keys q shed sorted taken)
+    ∙ area_left (is_taken site (keys_in shed) q) (bucket_at q shed)
+    ∙ ap (λ m. cond (not (is_taken site (keys_in shed) q && not m)) (bucket_at q shed).area []) (sym (mode_at q shed))
+    ∙ ap (λ b. cond (not b) (bucket_at q shed).area []) (once (is_under site q) (finite.contains_key (keys_in shed) q))
     ∙ ap (λ pairs. cond (not (is_taken site (keys_in shed) q)) pairs []) (sym (area_at q shed))
     ∙ sym (cells.get_restrict key_order key_order_total key_order_same
     (λ key. not (is_taken site (keys_in shed) key)) (areas_in shed) q))
+  where
+    once : (u m : Bool) → ((u && not m) && not m) ≡ (u && not m)
+    once true true = refl
+    once true false = refl
+    once false m = refl

@@ -1,7 +1,6 @@
 -- What the storage holds, after its shed or its session areas changed.
 use Rattle.std.proofs.Common.{◌≡◌, ℕ, List, [], Option, Some, None, Bor, true, refl, sym, ap, ◌∙◌}
-use Rattle.std.specs.Prelude.{MatchOption, OnSome, is_some, option_copied, option_map, unwrap_or}
-use Rattle.std.specs.Option.{option_copied_mut}
+use Rattle.std.specs.Prelude.{MatchOption, is_some, option_copied, option_map, unwrap_or, Result, Ok, Err, IfOk, IsOk}
 use Rattle.std.specs.Borrow.{MutBor}
 use Rattle.storage_key.proofs.OrderLemmas.{key_order_total, key_order_same}
 use Rattle.agent_model.proofs.HoldingsLemmas.{session_order_total, session_order_same}
@@ -78,18 +77,11 @@ pub lent_pairs : (lent : Option (Bor (List Pair))) (at : Option (List Pair)) (pa
 lent_pairs None at pairs is same = sym same ∙ ap (λ a. unwrap_or a []) (sym is)
 lent_pairs (Some area) at pairs is same = ap (λ a. unwrap_or a []) is ∙ same
 
--- the same of what is lent to be changed
-pub lent_pairs_mut : (lent : Option (MutBor (List Pair))) (at : Option (List Pair)) (pairs : List Pair)
-    → option_copied_mut lent ≡ at
-    → unwrap_or at [] ≡ pairs → MatchOption lent (pairs ≡ []) (λ area. area.now ≡ pairs)
-lent_pairs_mut None at pairs is same = sym same ∙ ap (λ a. unwrap_or a []) (sym is)
-lent_pairs_mut (Some area) at pairs is same = ap (λ a. unwrap_or a []) is ∙ same
-
--- what follows where something is lent, and so is there
-pub where_lent : {P Q : Type 0} (lent : Option (MutBor (List Pair))) (at : Option (List Pair)) → option_copied_mut lent ≡ at
-    → (is_some at ≡ true → P → Q) → OnSome lent P → OnSome lent Q
-where_lent None at is f p = tt
-where_lent (Some area) at is f p = f (ap is_some (sym is)) p
+-- what is lent is there
+pub lent_there : {E : Type 0} (r : Result (MutBor (List Pair)) E) (at : Option (List Pair))
+    → IfOk r (λ area. Some area.now ≡ at) → IsOk r → is_some at ≡ true
+lent_there (Ok area) at is ok = ap is_some (sym is)
+lent_there (Err e) at is ok = absurd (cc ok)
 
 pub some_area : (bucket : Option Bucket) → is_some (option_map (λ b. b.area) bucket) ≡ true → is_some bucket ≡ true
 some_area None is = is

@@ -190,6 +190,15 @@ module _ (cmp : StorageKey → StorageKey → Ordering)
           ∙ in_place q key areas (empty_pairs (map_get cmp key areas) is)
       at false is = refl
 
+  -- an area is taken out
+  pub sessions_removed : (tab : ℕ) (key : StorageKey) (old new : Tabs)
+      → ChangesTab tab (map_remove cmp key (areas_of tab old)) old new
+      → sessions_in new ≡ set_cell session_order (tab, plain_key key) [] (sessions_in old)
+  sessions_removed tab key old new changes =
+      sessions_written tab (plain_key key) [] _ old new changes (λ q.
+      ap pairs_or (found-removed plain_key key_order key_order_total cmp alike q key (areas_of tab old))
+      ∙ none_pairs (eq_by_cmp key_order q (plain_key key)) (found q (areas_of tab old)))
+
   -- a tab without an area at a key has no pairs there
   pub no_session : (tab : ℕ) (key : StorageKey) (tabs : Tabs) → is_some (session_area cmp tab key tabs) ≡ false
       → get_cell session_order (sessions_in tabs) (tab, plain_key key) ≡ []

@@ -1,5 +1,5 @@
 -- Which keys of a shed have an area or a persistent bucket, and which an eviction takes.
-use Rattle.std.proofs.Common.{◌≡◌, Bool, true, false, cond, not, List, [], ◌∷◌, map, Option, Some, None, refl, sym, ap, subst, ◌∙◌}
+use Rattle.std.proofs.Common.{◌≡◌, Bool, true, false, cond, not, List, [], ◌∷◌, ◌++◌, map, Option, Some, None, refl, sym, ap, subst, ◌∙◌}
 use Rattle.std.specs.Prelude.{◌&&◌, ◌||◌, ◌==◌, filter, is_some, length, option_map, unwrap_or}
 use Rattle.std.specs.List.Sorted.{IsStrictlySortedBy}
 use Rattle.std.specs.Map.{keys_of}
@@ -7,7 +7,8 @@ use Rattle.std.specs.Cmp.{on_total}
 use Rattle.std.specs.Ordering.{eq_by_cmp}
 use Rattle.std.specs.FinMap as finite
 use Rattle.std.proofs.lemmas.Bool.{true≢false}
-use Rattle.std.proofs.lemmas.List.Elements.{filter_agree}
+use Rattle.std.proofs.lemmas.List.{append-nil}
+use Rattle.std.proofs.lemmas.List.Elements.{filter-append, filter_agree}
 use Rattle.unwinding.specs.FiniteCells.{Full, get_cell, list_of}
 use Rattle.unwinding.proofs.FiniteCellsLemmas.{get_kept}
 use Rattle.origin_site.specs.Site.{PlainSite}
@@ -21,16 +22,16 @@ use Rattle.key_map.proofs.FiniteKeys.{from_first, keys_had}
 use Rattle.key_map.specs.Entries.{entries_from, map_get, next_key}
 use Rattle.buckets.specs.declared.shed.Bucket.{Bucket}
 use Rattle.buckets.specs.Shed.{fresh_bucket, is_best_effort}
-use Rattle.agent_model.specs.Partition.{Areas, is_under}
+use Rattle.agent_model.specs.Partition.{Areas, Keys, is_under}
 use Rattle.web_storage.specs.Stored.{areas_in, keys_in}
-use Rattle.web_storage.specs.Evicting.{areas_taken_by, is_one_of, is_taken, key_cmp}
+use Rattle.web_storage.specs.Evicting.{areas_taken_by, is_entry_under, is_one_of, is_taken, key_cmp, keys_taken_of}
 use Rattle.web_storage.specs.Texts.{is_of_kind, keys_of_kind}
 use Rattle.web_storage.proofs.ShedLemmas.{area_at, found, mode_at}
 use Rattle.web_storage.proofs.OrderOfKeys.{alike, order}
 use Rattle.web_storage.proofs.HeldLemmas.{area_or}
 use Rattle.web_storage.proofs.WriteLemmas.{held_found}
-use Rattle.web_storage.proofs.EvictionCounts.{list_none, some_length}
-use Rattle.web_storage.proofs.UnderLemmas.{none_there, plain_sorted}
+use Rattle.web_storage.proofs.EvictionCounts.{EachEntry, each_found, list_none, mode_of_each, some_length}
+use Rattle.web_storage.proofs.UnderLemmas.{none_there, plain_last, plain_sorted}
 
 -- ---- lists
 
@@ -112,20 +113,64 @@ kind_listed false shed sorted =
     (keys_had key_order key_order_total key_order_same (keys_in shed) (map plain_key (keys_of shed))
     (plain_sorted (keys_of shed) sorted) (mode_there shed))
 
--- a key has an area, and its bucket is not persistent
-abbrev pub may_be_taken : List (StorageKey × Bucket) → PlainKey → Bool
-may_be_taken shed key = finite.contains_key (areas_in shed) key && not (finite.contains_key (keys_in shed) key)
+-- an entry more, whose bucket is best-effort or is not
+pub best_more : (es : List (StorageKey × Bucket)) (e : StorageKey × Bucket) (b : Bool) → is_best_effort e.1.mode ≡ b
+    → map plain_key (keys_of (filter (λ d. is_best_effort d.1.mode) (es ++ e ∷ [])))
+    ≡ cond b (map plain_key (keys_of (filter (λ d. is_best_effort d.1.mode) es)) ++ plain_key e.0 ∷ [])
+    (map plain_key (keys_of (filter (λ d. is_best_effort d.1.mode) es)))
+best_more es e b is = ap (λ l. map plain_key (keys_of l))
+    (filter-append (λ d. is_best_effort d.1.mode) es (e ∷ [])
+    ∙ ap (λ c. best ++ cond c (e ∷ []) []) is) ∙ at b
+  where
+    best : List (StorageKey × Bucket)
+    best = filter (λ d. is_best_effort d.1.mode) es
 
--- the keys whose areas an eviction takes are those under the site that may be taken
+    at : (c : Bool) → map plain_key (keys_of (best ++ cond c (e ∷ []) []))
+        ≡ cond c (map plain_key (keys_of best) ++ plain_key e.0 ∷ []) (map plain_key (keys_of best))
+    at true = plain_last best e
+    at false = ap (λ l. map plain_key (keys_of l)) (append-nil best)
+
+-- the best-effort entries under a site, by the keys that are persistent
+best_entries : (site : PlainSite) (persistent : Keys) (es : List (StorageKey × Bucket))
+    → EachEntry (λ e. finite.contains_key persistent (plain_key e.0) ≡ not (is_best_effort e.1.mode)) es
+    → map plain_key (keys_of (filter (λ e. is_best_effort e.1.mode) (filter (is_entry_under site) es)))
+    ≡ keys_taken_of site persistent (map plain_key (keys_of es))
+best_entries site persistent [] modes = refl
+best_entries site persistent (e ∷ es) modes =
+    at (is_under site (plain_key e.0)) (is_best_effort e.1.mode) refl (best_entries site persistent es modes.1)
+    ∙ ap (λ p. cond (is_under site (plain_key e.0) && not p) (plain_key e.0 ∷ rest) rest) (sym modes.0)
+  where
+    some : List (StorageKey × Bucket)
+    some = filter (is_entry_under site) es
+
+    rest : List PlainKey
+    rest = keys_taken_of site persistent (map plain_key (keys_of es))
+
+    at : (u b : Bool) → is_best_effort e.1.mode ≡ b
+        → map plain_key (keys_of (filter (λ d. is_best_effort d.1.mode) some)) ≡ rest
+        → map plain_key (keys_of (filter (λ d. is_best_effort d.1.mode) (cond u (e ∷ some) some)))
+        ≡ cond (u && not (not (is_best_effort e.1.mode))) (plain_key e.0 ∷ rest) rest
+    at true true is later = rw is (ap (λ l. plain_key e.0 ∷ l) later)
+    at true false is later = rw is later
+    at false b is later = later
+
+-- the keys of the best-effort buckets under a site
+pub best_listed : (site : PlainSite) (shed : List (StorageKey × Bucket)) → IsStrictlySortedBy key_cmp (keys_of shed)
+    → map plain_key (keys_of (filter (λ e. is_best_effort e.1.mode) (filter (is_entry_under site) shed)))
+    ≡ keys_taken_of site (keys_in shed) (map plain_key (keys_of shed))
+best_listed site shed sorted = best_entries site (keys_in shed) shed (mode_of_each shed shed (each_found shed sorted))
+
+-- the keys whose areas an eviction takes are those of them that have an area
 pub taken_listed : (site : PlainSite) (shed : List (StorageKey × Bucket)) → IsStrictlySortedBy key_cmp (keys_of shed)
-    → filter (may_be_taken shed) (filter (is_under site) (map plain_key (keys_of shed)))
+    → filter (finite.contains_key (areas_in shed)) (keys_taken_of site (keys_in shed) (map plain_key (keys_of shed)))
     ≡ finite.keys (areas_taken_by site (keys_in shed) (areas_in shed))
 taken_listed site shed sorted =
-    filter_twice (is_under site) (may_be_taken shed) all
-    ∙ filter_agree (λ q. is_under site q && may_be_taken shed q) (finite.contains_key taken) (λ q. sym (has q)) all
+    filter_twice (is_taken site (keys_in shed)) (finite.contains_key (areas_in shed)) all
+    ∙ filter_agree (λ q. is_taken site (keys_in shed) q && finite.contains_key (areas_in shed) q)
+    (finite.contains_key taken) (λ q. sym (has q)) all
     ∙ keys_had key_order key_order_total key_order_same taken all (plain_sorted (keys_of shed) sorted)
-    (λ q is. area_there shed q (first (is_under site q) (finite.contains_key (areas_in shed) q)
-    (finite.contains_key (keys_in shed) q) (sym (has q) ∙ is)))
+    (λ q is. area_there shed q (last (is_taken site (keys_in shed) q) (finite.contains_key (areas_in shed) q)
+    (sym (has q) ∙ is)))
   where
     all : List PlainKey
     all = map plain_key (keys_of shed)
@@ -133,22 +178,19 @@ taken_listed site shed sorted =
     taken : Areas
     taken = areas_taken_by site (keys_in shed) (areas_in shed)
 
-    by : (u m : Bool) (o : Option (Full Pair)) → is_some (cond (u && not m) o None) ≡ (u && (is_some o && not m))
-    by true true (Some f) = refl
-    by true true None = refl
-    by true false (Some f) = refl
-    by true false None = refl
-    by false m o = refl
+    by : (t : Bool) (o : Option (Full Pair)) → is_some (cond t o None) ≡ (t && is_some o)
+    by true o = refl
+    by false o = refl
 
-    has : (q : PlainKey) → finite.contains_key taken q ≡ (is_under site q && may_be_taken shed q)
+    has : (q : PlainKey) → finite.contains_key taken q
+        ≡ (is_taken site (keys_in shed) q && finite.contains_key (areas_in shed) q)
     has q =
         ap is_some (get_kept key_order key_order_same (is_taken site (keys_in shed)) (areas_in shed) q)
-        ∙ by (is_under site q) (finite.contains_key (keys_in shed) q) (finite.get (areas_in shed) q)
+        ∙ by (is_taken site (keys_in shed) q) (finite.get (areas_in shed) q)
 
-    first : (u a m : Bool) → (u && (a && not m)) ≡ true → a ≡ true
-    first true true m is = refl
-    first true false m is = cc
-    first false a m is = cc
+    last : (t a : Bool) → (t && a) ≡ true → a ≡ true
+    last true a is = is
+    last false a is = cc
 
 -- ---- what a call tells of a key
 

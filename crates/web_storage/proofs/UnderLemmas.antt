@@ -208,72 +208,6 @@ module _ (place : PlainKey) where
           (all_reversed (λ y. under y ≡ false → under k ≡ false) rest (before_each k ks sorted.0)))
       at false later = later
 
-  -- ---- which keys are found
-
-  or_swap : (a b c : Bool) → (a || (b || c)) ≡ (b || (a || c))
-  or_swap true true c = refl
-  or_swap true false c = refl
-  or_swap false b c = refl
-
-  or_moved : (a b c : Bool) → ((a || b) || c) ≡ (a || (b || c))
-  or_moved true b c = refl
-  or_moved false b c = refl
-
-  -- a key is among those that pass a test, or among the others
-  divided : (q : PlainKey) (test : PlainKey → Bool) (keys : List PlainKey)
-      → (is_one_of q (filter test keys) || is_one_of q (filter (λ k. not (test k)) keys)) ≡ is_one_of q keys
-  divided q test [] = refl
-  divided q test (k ∷ keys) = at (test k) (divided q test keys)
-    where
-      yes : List PlainKey
-      yes = filter test keys
-
-      others : List PlainKey
-      others = filter (λ x. not (test x)) keys
-
-      at : (b : Bool) → (is_one_of q yes || is_one_of q others) ≡ is_one_of q keys
-          → (is_one_of q (cond b (k ∷ yes) yes) || is_one_of q (cond (not b) (k ∷ others) others))
-          ≡ (eq_by_cmp key_order k q || is_one_of q keys)
-      at true later = or_moved (eq_by_cmp key_order k q) (is_one_of q yes) (is_one_of q others)
-          ∙ ap (λ r. eq_by_cmp key_order k q || r) later
-      at false later = or_swap (is_one_of q yes) (eq_by_cmp key_order k q) (is_one_of q others)
-          ∙ ap (λ r. eq_by_cmp key_order k q || r) later
-
-  one_of_reversed : (q : PlainKey) (keys : List PlainKey) → is_one_of q (reverse keys) ≡ is_one_of q keys
-  one_of_reversed q [] = refl
-  one_of_reversed q (k ∷ keys) =
-      ap (is_one_of q) (reverse-append (k ∷ []) keys)
-      ∙ list_any-append (λ x. eq_by_cmp key_order x q) (reverse keys) (k ∷ [])
-      ∙ ap (λ r. r || (eq_by_cmp key_order k q || false)) (one_of_reversed q keys)
-      ∙ or_swap (is_one_of q keys) (eq_by_cmp key_order k q) false
-      ∙ ap (λ r. eq_by_cmp key_order k q || r) (no_more (is_one_of q keys))
-    where
-      no_more : (b : Bool) → (b || false) ≡ b
-      no_more true = refl
-      no_more false = refl
-
-  and_out : (a b u : Bool) → ((a && u) || (b && u)) ≡ ((a || b) && u)
-  and_out true true true = refl
-  and_out true true false = refl
-  and_out true false true = refl
-  and_out true false false = refl
-  and_out false b u = refl
-
-  found_each : (keys : List PlainKey) → IsStrictlySortedBy key_order keys → (q : PlainKey)
-      → is_one_of q (take_while under (filter from keys)
-      ++ take_while under (reverse (filter (λ l. not (from l)) keys))) ≡ (is_one_of q keys && under q)
-  found_each keys sorted q =
-      list_any-append (λ x. eq_by_cmp key_order x q) (take_while under (filter from keys)) (take_while under (reverse below))
-      ∙ (λ i. is_one_of q (run_kept under (filter from keys) (stops_from keys sorted) i)
-      || is_one_of q (run_kept under (reverse below) (stops_below keys sorted) i))
-      ∙ (λ i. among_filtered under q (filter from keys) i || among_filtered under q (reverse below) i)
-      ∙ ap (λ b. (is_one_of q (filter from keys) && under q) || (b && under q)) (one_of_reversed q below)
-      ∙ and_out (is_one_of q (filter from keys)) (is_one_of q below) (under q)
-      ∙ ap (λ b. b && under q) (divided q from keys)
-    where
-      below : List PlainKey
-      below = filter (λ l. not (from l)) keys
-
 -- ---- keys of the program
 
 -- the plain keys rise as the keys do
@@ -305,33 +239,6 @@ module _ {V : Type 0} where
   plain_last [] e = refl
   plain_last (x ∷ xs) e = ap (λ r. plain_key x.0 ∷ r) (plain_last xs e)
 
-  -- the last entry comes first
-  pub plain_reversed : (es : List (StorageKey × V)) (e : StorageKey × V)
-      → reverse (map plain_key (keys_of (es ++ e ∷ []))) ≡ plain_key e.0 ∷ reverse (map plain_key (keys_of es))
-  plain_reversed es e = ap reverse (plain_last es e) ∙ reverse-append (map plain_key (keys_of es)) (plain_key e.0 ∷ [])
-
   pub none_there : (es : List (StorageKey × V)) → None ≡ next_key key_cmp None es → es ≡ []
   none_there [] none = refl
   none_there (e ∷ es) none = absurd (cc none)
-
-  -- the keys that the two walks find
-  pub keys_found : (site : PlainSite) (place : StorageKey) → plain_site place.top ≡ site
-      → (es : List (StorageKey × V)) → IsStrictlySortedBy key_cmp (keys_of es)
-      → AreUnder site (map plain_key (keys_of es))
-      (take_while (is_under site) (map plain_key (keys_of (entries_from key_cmp place es)))
-      ++ take_while (is_under site) (reverse (map plain_key (keys_of (entries_below key_cmp place es)))))
-  keys_found site place is es sorted =
-      subst (λ s. AreUnder s (map plain_key (keys_of es))
-      (take_while (is_under s) (map plain_key (keys_of (entries_from key_cmp place es)))
-      ++ take_while (is_under s) (reverse (map plain_key (keys_of (entries_below key_cmp place es)))))) is here
-    where
-      p : PlainKey
-      p = plain_key place
-
-      here : AreUnder p.top (map plain_key (keys_of es))
-          (take_while (is_under p.top) (map plain_key (keys_of (entries_from key_cmp place es)))
-          ++ take_while (is_under p.top) (reverse (map plain_key (keys_of (entries_below key_cmp place es)))))
-      here q =
-          (λ i. is_one_of q (take_while (is_under p.top) (plain_kept (λ k. is_le (key_order p k)) es i)
-          ++ take_while (is_under p.top) (reverse (plain_kept (λ k. not (is_le (key_order p k))) es i))))
-          ∙ found_each p (map plain_key (keys_of es)) (plain_sorted (keys_of es) sorted) q

@@ -1,6 +1,7 @@
 -- What an eviction of a site takes of local areas and leaves, the order of keys of the program, and
 -- tabs without session areas.
-use Rattle.std.specs.Prelude.{◌≡◌, ℕ, Bool, not, ◌&&◌, List, None}
+use Rattle.std.specs.Prelude.{◌≡◌, ℕ, Bool, not, ◌&&◌, List, None, filter}
+use Rattle.std.specs.Borrow.{Bor}
 use Rattle.std.specs.List.{list_any}
 use Rattle.std.specs.Ordering.{eq_by_cmp}
 use Rattle.std.specs.FinMap as finite
@@ -28,6 +29,18 @@ areas_taken_by site persistent areas = finite.retain_keys areas (is_taken site p
 -- the order of keys of the program
 abbrev pub key_cmp : StorageKey → StorageKey → Ordering
 key_cmp a b = key_order (plain_key a) (plain_key b)
+
+-- an entry is under a site
+abbrev pub is_entry_under : {V : Type 0} → PlainSite → StorageKey × V → Bool
+is_entry_under site entry = is_under site (plain_key entry.0)
+
+-- an entry that is lent
+abbrev pub entry_of : {V : Type 0} → Bor StorageKey × Bor V → StorageKey × V
+entry_of lent = (lent.0.now, lent.1.now)
+
+-- the keys that an eviction takes, of all
+abbrev pub keys_taken_of : PlainSite → Keys → List PlainKey → List PlainKey
+keys_taken_of site persistent all = filter (is_taken site persistent) all
 
 -- a tab has no session area
 abbrev pub HasNone : ℕ → SessionAreas → Type 0

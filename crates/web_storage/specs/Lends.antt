@@ -1,6 +1,6 @@
 -- What the storage holds after a write through an area that it lent.
-use Rattle.std.specs.Prelude.{◌≡◌, ℕ, List, Option, OnSome, Result}
-use Rattle.std.specs.Borrow.{LendsSo, LendsSoOk, MutBor, Fml}
+use Rattle.std.specs.Prelude.{◌≡◌, ℕ, List, Result}
+use Rattle.std.specs.Borrow.{LendsSoOk, MutBor, Fml}
 use Rattle.storage_key.specs.Key.{PlainKey}
 use Rattle.local_area.specs.Area.{Pair}
 use Rattle.local_area.specs.contracts.area.Area as area
@@ -18,17 +18,10 @@ abbrev pub HoldsPairs : AreaKind → ℕ → PlainKey → List Pair → (old new
 HoldsPairs kind tab key pairs old new =
     (beside : Holdings) → held_with beside new ≡ with_area kind tab key pairs (held_with beside old)
 
--- the storage ends with the last pairs behind r in the area, and holds what it held where memory
--- is wanting
+-- the storage ends with the last pairs behind r in the area, and holds what it held where none is
+-- lent
 abbrev pub LendsArea : {E : Type 0} → MutBor Entries → AreaKind → ℕ → PlainKey
     → Result (MutBor (List Pair)) E → Fml
 LendsArea s kind tab key r =
     LendsSoOk storage.the_row area.the_row s r
     (λ n w. HoldsPairs kind tab key w s.now n) (λ n. HoldsSame s.now n)
-
--- the same where an area that is there is lent, and nothing else
-abbrev pub LendsPresent : MutBor Entries → AreaKind → ℕ → PlainKey → Option (MutBor (List Pair))
-    → Fml
-LendsPresent s kind tab key r =
-    LendsSo storage.the_row area.the_row s r
-    (λ n w. OnSome r (HoldsPairs kind tab key w s.now n)) (λ n. HoldsSame s.now n)

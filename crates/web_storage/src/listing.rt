@@ -10,7 +10,7 @@ ghost use Rattle.web_storage.specs.Listed.{stored_in};
 ghost use Rattle.web_storage.specs.Stored.{areas_in, keys_in};
 ghost use Rattle.web_storage.specs.Texts.{is_of_kind, keys_of_kind};
 
-use crate::local::{has_pairs, is_persistent, shed_keys_under};
+use crate::local::{best_effort_under, has_pairs, is_persistent};
 use crate::texts::by_text;
 use crate::under::push_copy;
 use agent_base::NoMemory;
@@ -30,8 +30,8 @@ pub fn keys_taken(
         areas_taken_by (plain_site site.now) (keys_in shed.now) (areas_in shed.now) in
         IfOk result (λ keys. map plain_key keys.items ≡ by_text (finite.keys taken)) }
 {
-    let mut keys = shed_keys_under(alloc, shed, site)?;
-    keys.retain(|key| has_pairs(shed, key) && !is_persistent(shed, key));
+    let mut keys = best_effort_under(alloc, shed, site)?;
+    keys.retain(|key| has_pairs(shed, key));
     by_text(alloc, keys)
 }
 

@@ -4,17 +4,17 @@ ghost use Rattle.std.specs.FinMap as finite;
 ghost use Rattle.std.specs.List.Sorted.{IsStrictlySortedBy};
 ghost use Rattle.std.specs.Map.{keys_of};
 ghost use Rattle.origin_site.specs.Plain.{plain_site};
-ghost use Rattle.unwinding.specs.FiniteCells.{get_cell};
+ghost use Rattle.unwinding.specs.FiniteCells.{get_cell, set_cell};
 ghost use Rattle.storage_key.specs.Key.{key_order};
 ghost use Rattle.storage_key.specs.Plain.{plain_key};
 ghost use Rattle.key_map.specs.Entries.{map_get};
-ghost use Rattle.agent_model.specs.Partition.{is_under};
+ghost use Rattle.buckets.specs.Shed.{is_best_effort};
 ghost use Rattle.web_storage.specs.Stored.{areas_in, keys_in};
-ghost use Rattle.web_storage.specs.Evicting.{AreUnder, areas_left_by, areas_taken_by, key_cmp};
+ghost use Rattle.web_storage.specs.Evicting.{areas_left_by, areas_taken_by, entry_of, key_cmp, keys_taken_of};
 
-use crate::under::keys_under;
+use crate::under::{entries_under, push_copy};
 use agent_base::NoMemory;
-use buckets::{Mode, Shed};
+use buckets::{Bucket, Mode, Shed};
 use origin_site::Site;
 use std::alloc::Global;
 use storage_key::StorageKey;
@@ -40,6 +40,19 @@ pub fn reserve_local(
     shed.reserve(key)
 }
 
+/// Empties the local area of a key, whose mode stays.
+pub fn clear_local(shed: &mut Shed<StorageKey>, key: &StorageKey)
+    ensures areas { areas_in shed.new
+        ≡ set_cell key_order (plain_key key.now) [] (areas_in shed.old) }
+    ensures modes { keys_in shed.new ≡ keys_in shed.old }
+{
+    match shed.area_mut(key) {
+        Some(area) => area.clear(),
+        None => {}
+    }
+    shed.drop_fresh(key);
+}
+
 /// Empties the local areas of the best-effort buckets under a site, and counts those that were not
 /// empty.
 pub fn evict_local(alloc: Global, shed: &mut Shed<StorageKey>, site: &Site) -> Result<u32, NoMemory>
@@ -51,24 +64,49 @@ pub fn evict_local(alloc: Global, shed: &mut Shed<StorageKey>, site: &Site) -> R
     ensures modes { keys_in shed.new ≡ keys_in shed.old }
     ensures unchanged { OnErr result (areas_in shed.new ≡ areas_in shed.old) }
 {
-    let keys = shed_keys_under(alloc, shed, site)?;
+    let keys = best_effort_under(alloc, shed, site)?;
     Ok(shed.evict(keys.as_slice()))
 }
 
-/// Copies of the keys under a site that have a bucket.
-pub fn shed_keys_under(
+/// Copies of the keys under a site whose buckets are best-effort. No key that stays is copied.
+pub fn best_effort_under(
     alloc: Global,
     shed: &Shed<StorageKey>,
     site: &Site,
 ) -> Result<Vec<StorageKey>, NoMemory>
     ensures keys { let all = map plain_key (keys_of shed.now) in
-        IfOk result (λ keys. AreUnder (plain_site site.now) all (map plain_key keys.items)) }
-    ensures rising { let all = map plain_key (keys_of shed.now) in
-        IfOk result (λ keys. map plain_key keys.items
-        ≡ filter (is_under (plain_site site.now)) all) }
+        let taken = keys_taken_of (plain_site site.now) (keys_in shed.now) all in
+        IfOk result (λ keys. map plain_key keys.items ≡ taken) }
     ensures ordered { IsStrictlySortedBy key_cmp (keys_of shed.now) }
 {
-    keys_under(alloc, shed.buckets(), site)
+    let found = entries_under(alloc, shed.buckets(), site)?;
+    best_effort_of(alloc, found)
+}
+
+// Copies of the keys of entries whose buckets are best-effort.
+fn best_effort_of(
+    alloc: Global,
+    found: Vec<(&StorageKey, &Bucket)>,
+) -> Result<Vec<StorageKey>, NoMemory>
+    ensures keys { let best = filter (λ e. is_best_effort e.1.mode) (map entry_of found.entry.items) in
+        IfOk result (λ keys. map plain_key keys.items ≡ map plain_key (keys_of best)) }
+{
+    let mut keys = Vec::new(alloc);
+    for (key, bucket) in found {
+        if is_best_effort(bucket) {
+            push_copy(alloc, key, &mut keys)?;
+        }
+    }
+    Ok(keys)
+}
+
+fn is_best_effort(bucket: &Bucket) -> bool
+    ensures { result ≡ is_best_effort bucket.now.mode }
+{
+    match bucket.mode {
+        Mode::BestEffort => true,
+        Mode::Persistent => false,
+    }
 }
 
 /// Whether a key has a local area, which is not empty.

@@ -16,9 +16,8 @@ ghost use Rattle.web_storage.specs.Stored.{sessions_in};
 use crate::under::keys_under;
 use agent_base::NoMemory;
 use key_map::KeyMap;
-use local_area::Area;
 use origin_site::{Site, same_site};
-use session_area::Sessions;
+use session_area::{Sessions, SharedArea};
 use std::alloc::Global;
 use storage_key::StorageKey;
 
@@ -40,7 +39,8 @@ pub fn reserve_session(
     sessions.reserve(tab, key)
 }
 
-/// Copies the session areas that one tab has under a site to another tab, which has none.
+/// Copies the session areas that one tab has under a site to another tab, which has none. The tabs
+/// share them until one of the two changes one.
 pub fn copy_areas(
     alloc: Global,
     sessions: &mut Sessions<StorageKey>,
@@ -87,7 +87,7 @@ pub fn has_session_under(sessions: &Sessions<StorageKey>, tab: u16, site: &Site)
 }
 
 // Whether some areas have one under a site that is not empty.
-fn has_pairs_under(areas: &KeyMap<StorageKey, Area>, site: &Site) -> bool
+fn has_pairs_under(areas: &KeyMap<StorageKey, SharedArea>, site: &Site) -> bool
     ensures pairs { result ≡ list_any (has_pairs_under (plain_site site.now)) areas.now }
     ensures ordered { IsStrictlySortedBy key_cmp (keys_of areas.now) }
 {
@@ -103,8 +103,8 @@ fn has_pairs_under(areas: &KeyMap<StorageKey, Area>, site: &Site) -> bool
 }
 
 // Whether the key of an area is under a site, and the area is not empty.
-fn has_pairs(key: &StorageKey, area: &Area, site: &Site) -> bool
-    ensures { result ≡ has_pairs_under (plain_site site.now) (key.now, area.now) }
+fn has_pairs(key: &StorageKey, shared: &SharedArea, site: &Site) -> bool
+    ensures { result ≡ has_pairs_under (plain_site site.now) (key.now, shared.now) }
 {
-    !area.is_empty() && same_site(site, &key.top)
+    !shared.area().is_empty() && same_site(site, &key.top)
 }

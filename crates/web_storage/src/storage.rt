@@ -1,5 +1,5 @@
 //! Local and session areas of all sites, by storage key.
-ghost use Rattle.std.specs.Prelude.{◌≡◌, ◌<◌, ◌↔◌, ◌⊎◌, [], Err, IfErr, IfOk, IsOk, None, OnOk, OnErr, MatchOption, map, option_map, string_bytes, false};
+ghost use Rattle.std.specs.Prelude.{◌≡◌, ◌<◌, ◌↔◌, ◌⊎◌, [], Err, IfErr, IfOk, IsOk, None, OnOk, OnErr, MatchOption, map, nat_lt, option_map, string_bytes, false, if◌then◌else◌};
 ghost use Rattle.std.specs.Borrow.{sem};
 ghost use Rattle.origin_site.specs.Plain.{plain_site};
 ghost use Rattle.storage_key.specs.Plain.{plain_key};
@@ -17,16 +17,16 @@ ghost use Rattle.web_storage.specs.BucketRoom.{HasBucket};
 ghost use Rattle.web_storage.specs.Listed.{stored_in};
 ghost use Rattle.web_storage.specs.Stored.{held_with, without_areas};
 ghost use Rattle.web_storage.specs.SiteSessions.{has_session_under};
-ghost use Rattle.web_storage.specs.Lends.{LendsArea, LendsPresent, HoldsSame, HoldsPairs};
+ghost use Rattle.web_storage.specs.Lends.{LendsArea, HoldsSame, HoldsPairs};
 
 use crate::listing::{keys_stored, keys_taken};
-use crate::local::{evict_local, is_persistent, reserve_local};
+use crate::local::{clear_local, evict_local, is_persistent, reserve_local};
 use crate::session::{copy_areas, has_session_under, reserve_session};
 use agent_base::NoMemory;
 use buckets::Shed;
 use local_area::{Area, AreaFault, Put};
 use origin_site::Site;
-use session_area::Sessions;
+use session_area::{NotLent, Sessions};
 use std::alloc::Global;
 use std::marker::Model;
 use storage_events::AreaKind;
@@ -95,8 +95,9 @@ impl Storage {
 
     /// The area of a document, to be changed. An absent one begins empty.
     ///
-    /// The key is copied only where it is new. Want of memory leaves what the storage holds, and
-    /// never comes where the area is there.
+    /// The key is copied only where it is new. A session area that tabs share is copied first, in
+    /// time linear in it, and is then the tab's own. Want of memory leaves what the storage holds,
+    /// and never comes where a local area is there.
     pub fn area_mut(
         &mut self,
         kind: AreaKind,
@@ -107,18 +108,19 @@ impl Storage {
         ensures area { (beside : Holdings)
             → let pairs = area_of kind tab (plain_key key.now) (held_with beside self.old) in
             IfOk result (λ area. area.now ≡ pairs) }
-        ensures memory { (beside : Holdings)
+        ensures memory { kind ≡ Local → (beside : Holdings)
             → let pairs = area_of kind tab (plain_key key.now) (held_with beside self.old) in
             OnErr result (pairs ≡ []) }
     {
         self.reserve(kind, tab, key)?;
         match self.present_mut(kind, tab, key) {
-            Some(area) => Ok(area),
-            None => Err(NoMemory),
+            Ok(area) => Ok(area),
+            Err(_) => Err(NoMemory),
         }
     }
 
-    /// Gives a name a value in an area. A refusal leaves what the storage holds.
+    /// Gives a name a value in an area. A refusal leaves what the storage holds. A session area
+    /// that tabs share is copied first, and memory may be wanting for that.
     pub fn put(
         &mut self,
         kind: AreaKind,
@@ -144,49 +146,55 @@ impl Storage {
             → let pairs = area_of kind tab (plain_key key.now) (held_with beside self.old) in
             let after = area_weight (area_put (string_bytes name) (string_bytes value) pairs) in
             IfErr result (λ e. (e ≡ AreaFault.Quota after) ⊎ (e ≡ AreaFault.NoMemory)) }
-        ensures memory { (beside : Holdings)
+        ensures memory { kind ≡ Local → (beside : Holdings)
             → let pairs = area_of kind tab (plain_key key.now) (held_with beside self.old) in
             result ≡ Err AreaFault.NoMemory → area_get (string_bytes name) pairs ≡ None }
         ensures unchanged { OnErr result (HoldsSame self.old self.new) }
     {
         match self.present_mut(kind, tab, key) {
-            Some(area) => area.put(name, value),
-            None => match self.area_mut(kind, tab, key) {
-                Ok(area) => area.put(name, value),
-                Err(NoMemory) => Err(AreaFault::without_area(&name, &value)),
+            Ok(area) => area.put(name, value),
+            Err(NotLent::NoArea) => match self.area_mut(kind, tab, key) {
+                Ok(made) => made.put(name, value),
+                Err(NoMemory) => Err(self.refusal(kind, tab, key, &name, &value)),
             },
+            Err(NotLent::NoMemory) => Err(self.refusal(kind, tab, key, &name, &value)),
         }
     }
 
-    /// Takes a name out of an area, and answers the value that it had. It takes no memory.
+    /// Takes a name out of an area, and answers the value that it had.
+    ///
+    /// A session area that tabs share is copied first. Want of memory comes for that copy alone,
+    /// and leaves what the storage holds.
     pub fn remove(
         &mut self,
         kind: AreaKind,
         tab: u16,
         key: &StorageKey,
         name: &str,
-    ) -> Option<String>
+    ) -> Result<Option<String>, NoMemory>
         ensures value { (beside : Holdings)
             → let pairs = area_of kind tab (plain_key key.now) (held_with beside self.old) in
-            option_map string_bytes result ≡ area_get name.now pairs }
+            IfOk result (λ value. option_map string_bytes value ≡ area_get name.now pairs) }
         ensures removed { (beside : Holdings) → let before = held_with beside self.old in
             let pairs = area_remove name.now (area_of kind tab (plain_key key.now) before) in
-            held_with beside self.new ≡ with_area kind tab (plain_key key.now) pairs before }
+            OnOk result (held_with beside self.new
+            ≡ with_area kind tab (plain_key key.now) pairs before) }
+        ensures local { kind ≡ Local → IsOk result }
+        ensures unchanged { OnErr result (HoldsSame self.old self.new) }
     {
-        let value = self.take(kind, tab, key, name);
+        let value = self.take(kind, tab, key, name)?;
         self.drop_empty(kind, tab, key);
-        value
+        Ok(value)
     }
 
     /// Empties an area. It takes no memory.
     pub fn clear(&mut self, kind: AreaKind, tab: u16, key: &StorageKey)
         ensures cleared { HoldsPairs kind tab (plain_key key.now) [] self.old self.new }
     {
-        match self.present_mut(kind, tab, key) {
-            Some(area) => area.clear(),
-            None => {}
+        match kind {
+            AreaKind::Local => clear_local(&mut self.local, key),
+            AreaKind::Session => self.session.remove(tab, key),
         }
-        self.drop_empty(kind, tab, key);
     }
 
     /// Whether the bucket of a key is persistent.
@@ -309,30 +317,72 @@ impl Storage {
     }
 
     // An area that is there, to be changed.
-    fn present_mut(&mut self, kind: AreaKind, tab: u16, key: &StorageKey) -> Option<&mut Area>
-        ensures* writes_back { sem 𝓛 (LendsPresent self.entry kind tab (plain_key key.now) result) }
+    fn present_mut(
+        &mut self,
+        kind: AreaKind,
+        tab: u16,
+        key: &StorageKey,
+    ) -> Result<&mut Area, NotLent>
+        ensures* writes_back { sem 𝓛 (LendsArea self.entry kind tab (plain_key key.now) result) }
         ensures area { (beside : Holdings)
             → let pairs = area_of kind tab (plain_key key.now) (held_with beside self.old) in
-            MatchOption result (pairs ≡ []) (λ area. area.now ≡ pairs) }
+            IfOk result (λ area. area.now ≡ pairs) }
+        ensures none { (beside : Holdings)
+            → let pairs = area_of kind tab (plain_key key.now) (held_with beside self.old) in
+            result ≡ Err NotLent.NoArea → pairs ≡ [] }
+        ensures local { kind ≡ Local → IfErr result (λ e. e ≡ NotLent.NoArea) }
     {
         match kind {
-            AreaKind::Local => self.local.area_mut(key),
+            AreaKind::Local => match self.local.area_mut(key) {
+                Some(area) => Ok(area),
+                None => Err(NotLent::NoArea),
+            },
             AreaKind::Session => self.session.area_mut(tab, key),
         }
     }
 
+    // Why a pair is refused where memory is wanting before its area can be changed.
+    fn refusal(
+        &self,
+        kind: AreaKind,
+        tab: u16,
+        key: &StorageKey,
+        name: &str,
+        value: &str,
+    ) -> AreaFault
+        ensures fault { (beside : Holdings)
+            → let pairs = area_of kind tab (plain_key key.now) (held_with beside self.now) in
+            let after = area_weight (area_put name.now value.now pairs) in
+            result ≡ (if nat_lt quota after then AreaFault.Quota after else AreaFault.NoMemory) }
+    {
+        match self.area(kind, tab, key) {
+            Some(area) => area.refusal(name, value),
+            None => AreaFault::without_area(name, value),
+        }
+    }
+
     // Takes a name out of an area that is there.
-    fn take(&mut self, kind: AreaKind, tab: u16, key: &StorageKey, name: &str) -> Option<String>
+    fn take(
+        &mut self,
+        kind: AreaKind,
+        tab: u16,
+        key: &StorageKey,
+        name: &str,
+    ) -> Result<Option<String>, NoMemory>
         ensures value { (beside : Holdings)
             → let pairs = area_of kind tab (plain_key key.now) (held_with beside self.old) in
-            option_map string_bytes result ≡ area_get name.now pairs }
+            IfOk result (λ value. option_map string_bytes value ≡ area_get name.now pairs) }
         ensures removed { (beside : Holdings) → let before = held_with beside self.old in
             let pairs = area_remove name.now (area_of kind tab (plain_key key.now) before) in
-            held_with beside self.new ≡ with_area kind tab (plain_key key.now) pairs before }
+            OnOk result (held_with beside self.new
+            ≡ with_area kind tab (plain_key key.now) pairs before) }
+        ensures local { kind ≡ Local → IsOk result }
+        ensures unchanged { OnErr result (HoldsSame self.old self.new) }
     {
         match self.present_mut(kind, tab, key) {
-            Some(area) => area.remove(name),
-            None => None,
+            Ok(area) => Ok(area.remove(name)),
+            Err(NotLent::NoArea) => Ok(None),
+            Err(NotLent::NoMemory) => Err(NoMemory),
         }
     }
 

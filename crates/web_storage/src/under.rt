@@ -1,12 +1,11 @@
-//! The keys under a site, among those of all sites.
+//! The keys and entries under a site, among those of all sites.
 ghost use Rattle.std.specs.Prelude.{◌≡◌, ◌++◌, ◌∷◌, [], IfOk, OnOk, filter, map, reverse};
 ghost use Rattle.std.specs.List.{take_while};
 ghost use Rattle.std.specs.List.Sorted.{IsStrictlySortedBy};
 ghost use Rattle.std.specs.Map.{keys_of};
 ghost use Rattle.origin_site.specs.Plain.{plain_site};
 ghost use Rattle.storage_key.specs.Plain.{plain_key};
-ghost use Rattle.agent_model.specs.Partition.{is_under};
-ghost use Rattle.web_storage.specs.Evicting.{AreUnder, key_cmp};
+ghost use Rattle.web_storage.specs.Evicting.{AreUnder, entry_of, is_entry_under, key_cmp};
 
 use agent_base::NoMemory;
 use key_map::KeyMap;
@@ -16,10 +15,6 @@ use std::collections::btree_map::Range;
 use storage_key::StorageKey;
 
 /// Copies of the keys under a site.
-///
-/// They stand side by side in the order of keys, in which they are given. One search finds the
-/// place of a key under the site, and a walk goes from there each way, so that the time grows with
-/// the keys under the site.
 pub fn keys_under<V: Drop>(
     alloc: Global,
     entries: &KeyMap<StorageKey, V>,
@@ -27,20 +22,45 @@ pub fn keys_under<V: Drop>(
 ) -> Result<Vec<StorageKey>, NoMemory>
     ensures keys { let all = map plain_key (keys_of entries.now) in
         IfOk result (λ keys. AreUnder (plain_site site.now) all (map plain_key keys.items)) }
-    ensures rising { let all = map plain_key (keys_of entries.now) in
-        IfOk result (λ keys. map plain_key keys.items
-        ≡ filter (is_under (plain_site site.now)) all) }
-    ensures ordered { IsStrictlySortedBy key_cmp (keys_of entries.now) }
+{
+    let found = entries_under(alloc, entries, site)?;
+    copies(alloc, found)
+}
+
+// Copies of the keys of entries.
+fn copies<V>(alloc: Global, found: Vec<(&StorageKey, &V)>) -> Result<Vec<StorageKey>, NoMemory>
+    ensures keys { IfOk result (λ keys. map plain_key keys.items
+        ≡ map plain_key (keys_of (map entry_of found.entry.items))) }
 {
     let mut keys = Vec::new(alloc);
+    for (key, _) in found {
+        push_copy(alloc, key, &mut keys)?;
+    }
+    Ok(keys)
+}
+
+/// The entries whose keys are under a site, in the order of keys, to be read. No key is copied.
+///
+/// They stand side by side. One search finds the place of a key under the site, and a walk goes
+/// from there each way, so that the time grows with the keys under the site.
+pub fn entries_under<'a, V: Drop>(
+    alloc: Global,
+    entries: &'a KeyMap<StorageKey, V>,
+    site: &Site,
+) -> Result<Vec<(&'a StorageKey, &'a V)>, NoMemory>
+    ensures found { IfOk result (λ found. map entry_of found.items
+        ≡ filter (is_entry_under (plain_site site.now)) entries.now) }
+    ensures ordered { IsStrictlySortedBy key_cmp (keys_of entries.now) }
+{
+    let mut found = Vec::new(alloc);
     let Some(first) = entries.next_key(None) else {
-        return Ok(keys);
+        return Ok(found);
     };
     let place = place_under(alloc, site, first)?;
-    push_below(alloc, entries.range_below(&place), site, &mut keys)?;
-    keys.reverse();
-    push_from(alloc, entries.range_from(&place), site, &mut keys)?;
-    Ok(keys)
+    push_below(entries.range_below(&place), site, &mut found)?;
+    found.reverse();
+    push_from(entries.range_from(&place), site, &mut found)?;
+    Ok(found)
 }
 
 // A key under a site, which is otherwise as another.
@@ -54,45 +74,56 @@ fn place_under(alloc: Global, site: &Site, other: &StorageKey) -> Result<Storage
     })
 }
 
-// Adds copies of the keys that a range begins with, as long as they are under a site.
-fn push_from<V>(
-    alloc: Global,
-    range: Range<'_, StorageKey, V>,
+// Adds the entries that a range begins with, as long as they are under a site.
+fn push_from<'a, V>(
+    range: Range<'a, StorageKey, V>,
     site: &Site,
-    keys: &mut Vec<StorageKey>,
+    found: &mut Vec<(&'a StorageKey, &'a V)>,
 ) -> Result<(), NoMemory>
     ensures pushed { let under =
-        take_while (is_under (plain_site site.now)) (map plain_key (keys_of range.entry)) in
-        OnOk result (map plain_key keys.new.items ≡ map plain_key keys.old.items ++ under) }
+        take_while (is_entry_under (plain_site site.now)) range.entry in
+        OnOk result (map entry_of found.new.items ≡ map entry_of found.old.items ++ under) }
 {
-    for (key, _) in range {
+    for (key, value) in range {
         if !same_site(site, &key.top) {
             return Ok(());
         }
-        push_copy(alloc, key, keys)?;
+        push_entry(key, value, found)?;
     }
     Ok(())
 }
 
-// Adds copies of the keys that a range ends with, from the last on, as long as they are under a
-// site.
-fn push_below<V>(
-    alloc: Global,
-    range: Range<'_, StorageKey, V>,
+// Adds the entries that a range ends with, from the last on, as long as they are under a site.
+fn push_below<'a, V>(
+    range: Range<'a, StorageKey, V>,
     site: &Site,
-    keys: &mut Vec<StorageKey>,
+    found: &mut Vec<(&'a StorageKey, &'a V)>,
 ) -> Result<(), NoMemory>
-    ensures pushed { let all = reverse (map plain_key (keys_of range.entry)) in
-        let under = take_while (is_under (plain_site site.now)) all in
-        OnOk result (map plain_key keys.new.items ≡ map plain_key keys.old.items ++ under) }
+    ensures pushed { let under =
+        take_while (is_entry_under (plain_site site.now)) (reverse range.entry) in
+        OnOk result (map entry_of found.new.items ≡ map entry_of found.old.items ++ under) }
 {
-    for (key, _) in range.rev() {
+    for (key, value) in range.rev() {
         if !same_site(site, &key.top) {
             return Ok(());
         }
-        push_copy(alloc, key, keys)?;
+        push_entry(key, value, found)?;
     }
     Ok(())
+}
+
+fn push_entry<'a, V>(
+    key: &'a StorageKey,
+    value: &'a V,
+    found: &mut Vec<(&'a StorageKey, &'a V)>,
+) -> Result<(), NoMemory>
+    ensures pushed { OnOk result (map entry_of found.new.items
+        ≡ map entry_of found.old.items ++ ((key.now, value.now) ∷ [])) }
+{
+    match found.push((key, value)) {
+        Ok(()) => Ok(()),
+        Err(_) => Err(NoMemory),
+    }
 }
 
 /// Adds a copy of a key.

@@ -1,29 +1,20 @@
--- Without a first key there are none, and else the two walks find those under the site.
-use Rattle.std.proofs.Common.{map}
+-- The keys of the entries that are found.
+use Rattle.std.proofs.Common.{◌∙◌, ap, map}
+use Rattle.std.specs.Map.{keys_of}
+use Rattle.std.proofs.lemmas.Result.{IfOk-weaker}
 use Rattle.origin_site.specs.Plain.{plain_site}
 use Rattle.storage_key.specs.Plain.{plain_key}
-use Rattle.web_storage.proofs.RisingLemmas.{are_under, none_rise, walked}
+use Rattle.agent_model.specs.Partition.{is_under}
+use Rattle.web_storage.proofs.RisingLemmas.{are_under}
+use Rattle.web_storage.proofs.UnderLemmas.{plain_kept}
 use Rattle.web_storage.proofs.under.keys_under.Goals as goal
 
-pub returns-in_default-clause-rising : goal.returns-in_default-clause-rising
-returns-in_default-clause-rising g c =
-    none_rise (plain_site c.args.site.now) c.args.entries.now c.new-keys.result.items c.in_default.ensures.key
-    c.new-keys.ensures.items
-
-pub returns-in_default-clause-keys : goal.returns-in_default-clause-keys
-returns-in_default-clause-keys g c =
-    are_under (plain_site c.args.site.now) c.args.entries.now (map plain_key c.new-keys.result.items)
-    (none_rise (plain_site c.args.site.now) c.args.entries.now c.new-keys.result.items
-    c.in_default.ensures.key c.new-keys.ensures.items)
-
-pub returns-clause-rising : goal.returns-clause-rising
-returns-clause-rising g c =
-    walked (plain_site c.args.site.now) c.in_ok-place.place c.in_ok-place.ensures.under c.args.entries.now
-    c.next_key.ensures.ordered
-    c.range_below.result c.range_from.result c.range_below.ensures.entries c.range_from.ensures.entries
-    c.new-keys.result.items _ _ _ c.new-keys.ensures.items c.in_ok-push_below.ensures.pushed
-    c.reverse.ensures.items c.in_ok-push_from.ensures.pushed
-
-pub returns-clause-keys : goal.returns-clause-keys
-returns-clause-keys g c =
-    are_under (plain_site c.args.site.now) c.args.entries.now _ (returns-clause-rising g c)
+pub returns : goal.returns
+returns g c = record {
+  keys = IfOk-weaker c.copies.result _ _
+      (λ keys is.
+      are_under (plain_site c.args.site.now) c.args.entries.now (map plain_key keys.items)
+      (is ∙ ap (λ es. map plain_key (keys_of es)) c.in_ok-found.ensures.found
+      ∙ plain_kept (is_under (plain_site c.args.site.now)) c.args.entries.now))
+      c.copies.ensures.keys;
+}

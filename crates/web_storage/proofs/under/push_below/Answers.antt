@@ -1,42 +1,42 @@
 -- The walk goes on, stops at another site, or comes to the end.
-use Rattle.std.proofs.Common.{◌++◌, ◌∙◌, ap, map, sym}
+use Rattle.std.proofs.Common.{◌∷◌, [], ◌++◌, ◌∙◌, ap, map, sym}
 use Rattle.std.specs.Prelude.{reverse}
 use Rattle.std.specs.List.{take_while}
-use Rattle.std.specs.Map.{keys_of}
+use Rattle.std.proofs.lemmas.List.{reverse-append}
 use Rattle.origin_site.specs.Plain.{plain_site}
-use Rattle.storage_key.specs.Plain.{plain_key}
-use Rattle.agent_model.specs.Partition.{is_under}
-use Rattle.web_storage.proofs.UnderLemmas.{plain_reversed, walk-on, walk-stopped, walk-ended}
+use Rattle.web_storage.specs.Evicting.{entry_of, is_entry_under}
+use Rattle.web_storage.proofs.UnderLemmas.{walk-on, walk-stopped, walk-ended}
 use Rattle.web_storage.proofs.under.push_below.Goals as goal
 
 pub returns-then-not-same_site : goal.returns-then-not-same_site
 returns-then-not-same_site g c = record {
   pushed =
-      walk-stopped (is_under (plain_site c.args.site.now)) (plain_key c.in-Some.key.now)
-      (reverse (map plain_key (keys_of c.next.new.self.iter))) _ _
+      walk-stopped (is_entry_under (plain_site c.args.site.now)) (c.in-Some.key.now, c.in-Some.value.now)
+      (reverse c.next.new.self.iter) _ _
       (sym c.same_site.ensures.test ∙ c.if-not-same_site.true)
-      (ap (λ r. map plain_key c.loop-key.keys.items ++ take_while (is_under (plain_site c.args.site.now)) r)
-      (sym (ap (λ es. reverse (map plain_key (keys_of es))) c.in-Some.ensures.steps ∙ plain_reversed c.next.new.self.iter _))
+      (ap (λ r. map entry_of c.loop-key.found.items ++ take_while (is_entry_under (plain_site c.args.site.now)) r)
+      (sym (ap reverse c.in-Some.ensures.steps
+      ∙ reverse-append c.next.new.self.iter ((c.in-Some.key.now, c.in-Some.value.now) ∷ [])))
       ∙ c.loop-key.invariant);
 }
 
 pub loop-key-preserved : goal.loop-key-preserved
 loop-key-preserved g c =
-    ap (λ ks. ks ++ take_while (is_under (plain_site c.args.site.now))
-    (reverse (map plain_key (keys_of c.next.new.self.iter)))) c.in_ok-push_copy.ensures.pushed
-    ∙ walk-on (is_under (plain_site c.args.site.now)) (plain_key c.in-Some.key.now)
-    (reverse (map plain_key (keys_of c.next.new.self.iter))) _ _
+    ap (λ es. es ++ take_while (is_entry_under (plain_site c.args.site.now)) (reverse c.next.new.self.iter))
+    c.in_ok-push_entry.ensures.pushed
+    ∙ walk-on (is_entry_under (plain_site c.args.site.now)) (c.in-Some.key.now, c.in-Some.value.now)
+    (reverse c.next.new.self.iter) _ _
     (sym c.same_site.ensures.test ∙ c.if-not-same_site.false)
-    (ap (λ r. map plain_key c.loop-key.keys.items ++ take_while (is_under (plain_site c.args.site.now)) r)
-    (sym (ap (λ es. reverse (map plain_key (keys_of es))) c.in-Some.ensures.steps ∙ plain_reversed c.next.new.self.iter _))
+    (ap (λ r. map entry_of c.loop-key.found.items ++ take_while (is_entry_under (plain_site c.args.site.now)) r)
+    (sym (ap reverse c.in-Some.ensures.steps
+    ∙ reverse-append c.next.new.self.iter ((c.in-Some.key.now, c.in-Some.value.now) ∷ [])))
     ∙ c.loop-key.invariant)
 
 pub returns : goal.returns
 returns g c = record {
   pushed =
-      walk-ended (is_under (plain_site c.args.site.now)) _ _
-      (ap (λ r. map plain_key c.loop-key.keys.items
-      ++ take_while (is_under (plain_site c.args.site.now)) (reverse (map plain_key (keys_of r))))
-      (sym c.in-None.ensures.steps.0)
+      walk-ended (is_entry_under (plain_site c.args.site.now)) _ _
+      (ap (λ r. map entry_of c.loop-key.found.items
+      ++ take_while (is_entry_under (plain_site c.args.site.now)) (reverse r)) (sym c.in-None.ensures.steps.0)
       ∙ c.loop-key.invariant);
 }

@@ -1,44 +1,42 @@
 -- The walk goes on, stops at another site, or comes to the end.
 use Rattle.std.proofs.Common.{◌++◌, ◌∙◌, ap, map, sym}
 use Rattle.std.specs.List.{take_while}
-use Rattle.std.specs.Map.{keys_of}
 use Rattle.origin_site.specs.Plain.{plain_site}
-use Rattle.storage_key.specs.Plain.{plain_key}
-use Rattle.agent_model.specs.Partition.{is_under}
+use Rattle.web_storage.specs.Evicting.{entry_of, is_entry_under}
 use Rattle.web_storage.proofs.UnderLemmas.{walk-on, walk-stopped, walk-ended}
 use Rattle.web_storage.proofs.under.push_from.Goals as goal
 
 pub loop-key-init : goal.loop-key-init
 loop-key-init g c =
-    ap (λ r. map plain_key c.args.keys.now.items ++ take_while (is_under (plain_site c.args.site.now))
-    (map plain_key (keys_of r))) c.into_iter-key-iterator.ensures.into_iter_gives
+    ap (λ r. map entry_of c.args.found.now.items ++ take_while (is_entry_under (plain_site c.args.site.now)) r)
+    c.into_iter-key-iterator.ensures.into_iter_gives
 
 pub returns-then-not-same_site : goal.returns-then-not-same_site
 returns-then-not-same_site g c = record {
   pushed =
-      walk-stopped (is_under (plain_site c.args.site.now)) (plain_key c.in-Some.key.now)
-      (map plain_key (keys_of c.next.new.self)) _ _
+      walk-stopped (is_entry_under (plain_site c.args.site.now)) (c.in-Some.key.now, c.in-Some.value.now)
+      c.next.new.self _ _
       (sym c.same_site.ensures.test ∙ c.if-not-same_site.true)
-      (ap (λ r. map plain_key c.loop-key.keys.items
-      ++ take_while (is_under (plain_site c.args.site.now)) (map plain_key (keys_of r))) (sym c.in-Some.ensures.steps)
+      (ap (λ r. map entry_of c.loop-key.found.items
+      ++ take_while (is_entry_under (plain_site c.args.site.now)) r) (sym c.in-Some.ensures.steps)
       ∙ c.loop-key.invariant);
 }
 
 pub loop-key-preserved : goal.loop-key-preserved
 loop-key-preserved g c =
-    ap (λ ks. ks ++ take_while (is_under (plain_site c.args.site.now))
-    (map plain_key (keys_of c.next.new.self))) c.in_ok-push_copy.ensures.pushed
-    ∙ walk-on (is_under (plain_site c.args.site.now)) (plain_key c.in-Some.key.now) (map plain_key (keys_of c.next.new.self)) _ _
+    ap (λ es. es ++ take_while (is_entry_under (plain_site c.args.site.now)) c.next.new.self)
+    c.in_ok-push_entry.ensures.pushed
+    ∙ walk-on (is_entry_under (plain_site c.args.site.now)) (c.in-Some.key.now, c.in-Some.value.now) c.next.new.self _ _
     (sym c.same_site.ensures.test ∙ c.if-not-same_site.false)
-    (ap (λ r. map plain_key c.loop-key.keys.items ++ take_while (is_under (plain_site c.args.site.now))
-    (map plain_key (keys_of r))) (sym c.in-Some.ensures.steps)
+    (ap (λ r. map entry_of c.loop-key.found.items
+    ++ take_while (is_entry_under (plain_site c.args.site.now)) r) (sym c.in-Some.ensures.steps)
     ∙ c.loop-key.invariant)
 
 pub returns : goal.returns
 returns g c = record {
   pushed =
-      walk-ended (is_under (plain_site c.args.site.now)) _ _
-      (ap (λ r. map plain_key c.loop-key.keys.items
-      ++ take_while (is_under (plain_site c.args.site.now)) (map plain_key (keys_of r))) (sym c.in-None.ensures.steps.0)
+      walk-ended (is_entry_under (plain_site c.args.site.now)) _ _
+      (ap (λ r. map entry_of c.loop-key.found.items
+      ++ take_while (is_entry_under (plain_site c.args.site.now)) r) (sym c.in-None.ensures.steps.0)
       ∙ c.loop-key.invariant);
 }

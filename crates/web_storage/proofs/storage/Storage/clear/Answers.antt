@@ -1,26 +1,22 @@
--- An area that is there is emptied, and one that is not there is empty.
-use Rattle.std.proofs.Common.{◌∙◌, ap, sym, []}
+-- A local area is emptied, and a session area is taken out.
 use Rattle.storage_key.specs.Plain.{plain_key}
-use Rattle.agent_model.specs.Partition.{with_area}
-use Rattle.web_storage.specs.Stored.{held_with}
-use Rattle.web_storage.specs.Lends.{HoldsPairs}
-use Rattle.web_storage.proofs.HeldLemmas.{area_itself}
+use Rattle.std.specs.Prelude.{[]}
+use Rattle.web_storage.proofs.OrderOfKeys.{order, alike}
+use Rattle.web_storage.proofs.HeldLemmas.{local_held, session_held_with}
+use Rattle.web_storage.proofs.SessionWrites.{sessions_removed}
 use Rattle.web_storage.proofs.storage.Storage.clear.Goals as goal
-use Rattle.web_storage.proofs.storage.Storage.clear.Goals.{in-Some, in-None}
 
-pub returns : goal.returns
-returns c = record {
-  cleared = elim c.match-present_mut.branch [
-    | in-Some w ↦ λ beside.
-        let held : HoldsPairs c.args.kind c.args.tab (plain_key c.args.key.now)
-        w.clear.new.self c.args.self.now (c.present_mut.follows.lender w.clear.new.self) =
-        rw w.in-Some.is at (c.present_mut.follows.holds w.clear.new.self) in
-        c.drop_empty.ensures.same beside ∙ ap (held_with beside) w.self-is ∙ held beside
-        ∙ ap (λ pairs. with_area c.args.kind c.args.tab (plain_key c.args.key.now) pairs
-        (held_with beside c.args.self.now)) w.clear.ensures.empty
-    | in-None w ↦ λ beside.
-        c.drop_empty.ensures.same beside ∙ ap (held_with beside) w.self-is ∙ c.present_mut.follows.holds-at-none beside
-        ∙ sym (area_itself beside c.args.kind c.args.tab (plain_key c.args.key.now) [] c.args.self.now
-        (sym (w.in-None.ensures.area beside)))
-  ];
-}
+pub returns-in-Local : goal.returns-in-Local
+returns-in-Local c = rw (← c.self.view_is) (record {
+  cleared = λ beside. local_held beside c.args.kind c.args.tab (plain_key c.args.key.now) c.in-Local.is []
+      (record { local = c.self.inside.local; session = c.self.inside.session }) c.clear_local.new.shed
+      c.clear_local.ensures.areas c.clear_local.ensures.modes;
+})
+
+pub returns-in-Session : goal.returns-in-Session
+returns-in-Session c = rw (← c.self.view_is) (record {
+  cleared = λ beside. session_held_with beside c.args.kind c.args.tab (plain_key c.args.key.now) c.in-Session.is []
+      (record { local = c.self.inside.local; session = c.self.inside.session }) c.remove.new.self
+      (sessions_removed order alike c.args.tab c.args.key.now c.self.inside.session c.remove.new.self
+      c.remove.ensures.removed);
+})

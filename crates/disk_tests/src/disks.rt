@@ -94,11 +94,13 @@ fn file_keeps(alloc: Global, file: File) -> Result<bool, Fail> {
     Ok(kept && disk.read_at(4, &mut [0; 2]).is_err())
 }
 
-// Whether a file that is read alone has these bytes, takes none, and has them still.
+// Whether a file that is read alone has these bytes, takes none, not at a restart either, and has
+// them still.
 fn is_read_alone(alloc: Global, file: File) -> Result<bool, Fail> {
     let mut disk = FileDisk::new(SystemFile::new(file));
     let refused = disk.len() == Ok(5) && disk.write_at(0, b"abc").is_err();
-    Ok(refused && has_restarted(alloc, &mut disk, b"abXYZ")?)
+    let is_down = refused && disk.restart().is_err();
+    Ok(is_down && bytes_of(alloc, &mut disk)?.as_slice() == b"abXYZ".as_slice())
 }
 
 #[test]

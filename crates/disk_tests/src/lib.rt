@@ -7,6 +7,10 @@
 #[cfg(test)]
 mod disks;
 #[cfg(test)]
+mod failed_syncs;
+#[cfg(test)]
+mod forgetful_file;
+#[cfg(test)]
 mod journals;
 #[cfg(test)]
 mod named_stores;

@@ -144,6 +144,26 @@ fn a_store_that_cannot_be_opened_is_a_failure(rt: HostRuntime) -> Result<(), Fai
     Ok(())
 }
 
+// Whether a store that is open is refused to another host, and is opened again once it is closed.
+fn is_alone(rt: HostRuntime, path: &str) -> bool {
+    let mut first = RealHost::new(rt);
+    let Ok(store) = first.open_store(path) else {
+        return false;
+    };
+    let is_refused_meanwhile = is_refused(rt, path);
+    first.close_store(path, store);
+    is_refused_meanwhile && !is_refused(rt, path)
+}
+
+#[test]
+fn a_store_that_is_open_is_refused(rt: HostRuntime) -> Result<(), Fail> {
+    let path = path_of(&rt, "open_store")?;
+    let is_alone = is_alone(rt, path.path_text());
+    fs::remove_file(&rt, &path)?;
+    assert!(rt; is_alone);
+    Ok(())
+}
+
 #[test]
 fn streams_are_held(rt: HostRuntime) -> Result<(), Fail> {
     assert!(rt; hold_streams(&rt).is_ok());

@@ -49,8 +49,8 @@ impl PartFile {
     }
 }
 
-// Puts bytes over those that are there, and past the end.
-fn put(bytes: &mut Vec<u8>, at: usize, piece: &[u8]) -> Result<(), AllocError> {
+/// Puts bytes over those that are there, and past the end.
+pub fn put_over(bytes: &mut Vec<u8>, at: usize, piece: &[u8]) -> Result<(), AllocError> {
     let end = at.checked_add(piece.len()).ok_or(AllocError)?;
     if bytes.len() < end {
         bytes.resize(end, 0)?;
@@ -87,7 +87,7 @@ impl RawFile for PartFile {
             return Err(self.fault());
         }
         let n = bytes.len().min(self.most);
-        let Ok(()) = put(&mut self.bytes, at as usize, &bytes[..n]) else {
+        let Ok(()) = put_over(&mut self.bytes, at as usize, &bytes[..n]) else {
             return Err(self.fault());
         };
         Ok(n)

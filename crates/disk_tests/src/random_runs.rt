@@ -27,11 +27,11 @@ fn body_of(alloc: Global, number: u64) -> Result<Vec<u8>, Fail>
     Ok(body)
 }
 
-// The bodies that were committed, and these with the one that was being committed.
+/// The bodies that were committed, and these with the one that was being committed.
 #[derive(Debug, Drop)]
-struct Course {
-    before: Vec<u8>,
-    after: Vec<u8>,
+pub struct Course {
+    pub before: Vec<u8>,
+    pub after: Vec<u8>,
 }
 
 // One commit in three of four cases, and else a checkpoint.
@@ -63,8 +63,13 @@ fn step<D: Disk>(
     Ok(true)
 }
 
-// So many steps on an empty file, until a call fails.
-fn course_of<D: Disk>(alloc: Global, disk: &mut D, seed: u64, steps: u32) -> Result<Course, Fail> {
+/// So many steps on an empty file, until a call fails.
+pub fn course_of<D: Disk>(
+    alloc: Global,
+    disk: &mut D,
+    seed: u64,
+    steps: u32,
+) -> Result<Course, Fail> {
     let mut course = Course {
         before: Vec::new(alloc),
         after: Vec::new(alloc),
@@ -83,8 +88,8 @@ fn course_of<D: Disk>(alloc: Global, disk: &mut D, seed: u64, steps: u32) -> Res
     Ok(course)
 }
 
-// The bodies that the store has after a restart.
-fn restarted<D: Disk>(alloc: Global, disk: &mut D) -> Result<Result<Vec<u8>, OpenFault>, Fail> {
+/// The bodies that the store has after a restart.
+pub fn restarted<D: Disk>(alloc: Global, disk: &mut D) -> Result<Result<Vec<u8>, OpenFault>, Fail> {
     let mut into = Bodies::new(alloc);
     let Ok(()) = disk.restart() else {
         return Ok(Err(OpenFault::DeviceFault));

@@ -21,8 +21,8 @@ const MOST_RANGES: usize = 8;
 /// A system may tell a sync that failed once, and forget what it did not write: the next sync then
 /// succeeds, and a read returns bytes that the medium has not got. So the disk remembers the ranges
 /// that were written since the last sync that succeeded, and a restart writes them again before
-/// anything is told. What a file of the system keeps is not proved: over it, clauses speak of counts
-/// alone.
+/// anything is told. What a file of the system keeps is not proved: over it, clauses speak of
+/// counts alone.
 #[derive(Debug, Drop)]
 pub struct FileDisk<F: RawFile> {
     file: F,
@@ -217,8 +217,8 @@ impl<F: RawFile> Disk for FileDisk<F> {
     }
 
     // Where anything is pending a read returns what it did before: what a system may have forgotten
-    // is written again, and is on the medium, before the file is looked at. What is not on the medium
-    // then is remembered still.
+    // is written again, and is on the medium, before the file is looked at. What is not on the
+    // medium then is remembered still.
     fn restart(&mut self) -> Result<(), Failed>
         ensures contents { OnOk result (Goes (λ _ d. (told_by F.view self.old).may_leave d)
             (told_by F.view self.old).contents (told_by F.view self.new).contents) }

@@ -136,8 +136,8 @@ impl<R: Files<File = File> + Drop> Host for RealHost<R> {
     }
 
     // The trait's clauses on counts, for it tells no stores, and after them that a file which is
-    // not opened is a failure, never want of memory. A file that is there is not cut short. One that
-    // another process has open is not opened, and nothing is touched.
+    // not opened is a failure, never want of memory. A file that is there is not cut short. One
+    // that another process has open is not opened, and nothing is touched.
     fn open_store(&mut self, path: &str) -> Result<FileDisk<SystemFile>, Fault>
         requires { option_map (λ name. name.bytes) self.old.store_out ≡ None }
         ensures fresh { IfOk result (λ store. (store.file.faults ≡ 0) × (store.calls ≡ 0)) }

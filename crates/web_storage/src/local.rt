@@ -88,7 +88,8 @@ fn best_effort_of(
     alloc: Global,
     found: Vec<(&StorageKey, &Bucket)>,
 ) -> Result<Vec<StorageKey>, NoMemory>
-    ensures keys { let best = filter (λ e. is_best_effort e.1.mode) (map entry_of found.entry.items) in
+    ensures keys { let entries = map entry_of found.entry.items in
+        let best = filter (λ e. is_best_effort e.1.mode) entries in
         IfOk result (λ keys. map plain_key keys.items ≡ map plain_key (keys_of best)) }
 {
     let mut keys = Vec::new(alloc);

@@ -152,19 +152,9 @@ def har_values(path, about):
     with open_file(path) as file:
         try:
             reader = Reader(file)
-            for outer in reader.members():
-                if outer != 'log' or reader.peek() != '{':
-                    reader.value()
-                    continue
-                for name in reader.members():
-                    if name == 'entries' and reader.peek() == '[':
-                        for entry in reader.items():
-                            count += 1
-                            yield entry
-                    elif name in ('creator', 'browser'):
-                        about[name] = reader.value()
-                    else:
-                        reader.value()
+            for entry in entries(reader, about):
+                count += 1
+                yield entry
             reader.end()
         except CutOff:
             raise fault_of_cut(path, count) from None
@@ -174,6 +164,19 @@ def har_values(path, about):
             raise Fault(READ, f'{path}: {error.strerror}') from None
     if not count:
         raise Fault(RECORDING, f'{path}: no entries')
+
+
+def entries(reader, about, is_whole=True):
+    """The entries of a log, which is the file's member `log` or the whole file."""
+    for name in reader.members():
+        if is_whole and name == 'log' and reader.peek() == '{':
+            yield from entries(reader, about, is_whole=False)
+        elif name == 'entries' and reader.peek() == '[':
+            yield from reader.items()
+        elif name in ('creator', 'browser'):
+            about[name] = reader.value()
+        else:
+            reader.value()
 
 
 def fault_of_cut(path, count):

@@ -6,7 +6,7 @@ use Rattle.std.proofs.lemmas.Grind.{flat_map-append}
 use Rattle.std.proofs.lemmas.List.{map-append, take-append-drop, take_more}
 use Rattle.std.proofs.lemmas.List.Elements.{filter_map-append}
 use Rattle.agent_base.specs.Streams.{Takes, TakesPrefix}
-use Rattle.suffix_list.specs.Suffix.{Rule}
+use Rattle.suffix_list.specs.ListText.{RuleList}
 use Rattle.durable_model.specs.Saved.{IsValid, Saved}
 use Rattle.spelled_model.specs.Rows.{IsReadSaved}
 use Rattle.row_changes.specs.Change.{PlainChange}
@@ -15,7 +15,7 @@ use Rattle.row_changes.specs.declared.change.Change.{Change}
 use Rattle.row_lines.specs.Row.{PlainRow, row_of, row_text}
 use Rattle.waiting_lines.specs.Waiting.{TakesFront}
 use Rattle.waiting_lines.proofs.PrefixLemmas.{front_more, front_part, prefix_front, prefix_longer}
-use Rattle.store_dumps.specs.Dump.{Writes, WritesSome, dump_text, rows_of, rows_text}
+use Rattle.store_dumps.specs.Dump.{StandsAsTold, Writes, WritesSome, dump_text, rows_of, rows_text}
 use Rattle.store_dumps.specs.Opening.{opening_of}
 use Rattle.store_dumps.specs.declared.fault.DumpFault.{DumpFault}
 
@@ -74,9 +74,10 @@ module _ (a b : Option (List ℕ)) (rows : List Change) (i : ℕ) where
   failed c held front prefix = whole (front_part a c b (first_text rows i) held front prefix)
 
 -- a dump whose store was opened wrote the lines of its state
-pub writes_some : (rules : List Rule) (result : Result (Unit {0}) DumpFault) (a b : Option (List ℕ))
-    (d : Saved) → opening_of result ≡ Ok tt → IsValid d → IsReadSaved rules d
-    → Writes (dump_text d) result a b → WritesSome rules result a b
-writes_some rules result a b d is valid read writes =
-    subst (λ o. MatchResult o (λ _. (d : Saved) × IsValid d × IsReadSaved rules d
-    × Writes (dump_text d) result a b) (λ _. Takes a b [])) (sym is) (d, valid, read, writes)
+pub writes_some : (list : RuleList) (told : Option (List ℕ)) (result : Result (Unit {0}) DumpFault)
+    (a b : Option (List ℕ)) (d : Saved) → opening_of result ≡ Ok tt → IsValid d → IsReadSaved list.rules d
+    → StandsAsTold list told d → Writes (dump_text d) result a b → WritesSome list told result a b
+writes_some list told result a b d is valid read stands writes =
+    subst (λ o. MatchResult o (λ _. (d : Saved) × IsValid d × IsReadSaved list.rules d
+    × StandsAsTold list told d × Writes (dump_text d) result a b) (λ _. Takes a b [])) (sym is)
+    (d, valid, read, stands, writes)

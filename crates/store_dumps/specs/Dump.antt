@@ -6,11 +6,13 @@
 use Rattle.std.specs.Prelude.{◌≡◌, ℕ, List, [], Option, Some, map, filter_map, flat_map, Result, Ok, Err, MatchResult}
 use Rattle.agent_base.specs.Counts.{Rose}
 use Rattle.agent_base.specs.Streams.{Takes, TakesPrefix}
-use Rattle.suffix_list.specs.Suffix.{Rule}
+use Rattle.journal.specs.Opening.{FileMeans}
+use Rattle.suffix_list.specs.ListText.{RuleList}
 use Rattle.row_changes.specs.Change.{PlainChange}
 use Rattle.row_lines.specs.Row.{PlainRow, row_of, row_text}
-use Rattle.durable_model.specs.Saved.{IsValid, Saved}
+use Rattle.durable_model.specs.Saved.{IsValid, Saved, nothing_saved}
 use Rattle.spelled_model.specs.Rows.{IsReadSaved}
+use Rattle.row_store.specs.Bodies as bodies
 use Rattle.row_store.specs.Listing.{listed}
 use Rattle.store_dumps.specs.Opening.{opening_of}
 use Rattle.store_dumps.specs.declared.fault.DumpFault.{DumpFault}
@@ -40,13 +42,21 @@ Writes text (Err (Open why)) before after = Takes before after []
 Writes text (Err Write) before after = TakesPrefix before after text
 Writes text (Err NoMemory) before after = TakesPrefix before after text
 
--- what the sink took of a store whose contents nobody tells: where it was opened, of the lines of
--- some state that was read under the rules of a list, and else nothing
-abbrev pub WritesSome : {T : Type 0} → List Rule → Result T DumpFault
+-- what a file that is told stands for, under a list
+abbrev pub StandsAsTold : RuleList → (told : Option (List ℕ)) → Saved → Type 0
+StandsAsTold list told d =
+    (file : List ℕ) → told ≡ Some file → (n : ℕ)
+    × FileMeans (bodies.Takes list.rules) nothing_saved list.digest file d n
+
+-- What the sink took of a store whose bytes may be told: where it was opened, of the lines of a
+-- state that was read under the rules of a list, and is what the bytes stand for where they are
+-- told; and else nothing.
+abbrev pub WritesSome : {T : Type 0} → RuleList → (told : Option (List ℕ)) → Result T DumpFault
     → (before after : Option (List ℕ)) → Type 0
-WritesSome rules result before after =
+WritesSome list told result before after =
     MatchResult (opening_of result)
-    (λ _. (d : Saved) × IsValid d × IsReadSaved rules d × Writes (dump_text d) result before after)
+    (λ _. (d : Saved) × IsValid d × IsReadSaved list.rules d × StandsAsTold list told d
+    × Writes (dump_text d) result before after)
     (λ _. Takes before after [])
 
 -- the count of faults of the output: writing failed where it rose, and else it stays

@@ -5,6 +5,7 @@ ghost use Rattle.durable_model.specs.Saved.{IsValid, Saved, nothing_saved};
 ghost use Rattle.spelled_model.specs.Rows.{IsReadSaved};
 ghost use Rattle.row_store.specs.Bodies.{Takes};
 ghost use Rattle.row_store.specs.Stored.{saved_of};
+ghost use Rattle.store_dumps.specs.Dump.{StandsAsTold};
 ghost use Rattle.store_dumps.specs.Opening.{OpensStore, opened};
 
 use disk_model::Disk;
@@ -20,6 +21,8 @@ pub fn open<D: Disk>(alloc: Global, disk: &mut D, list: &SuffixList) -> Result<P
         → IsWithin true c
         → FileMeans (Takes list.now.rules) nothing_saved list.now.digest c d n
         → IfOk result (λ parts. saved_of parts ≡ d) }
+    ensures stands { IfOk result (λ parts. StandsAsTold list.now (D.view disk.old).contents
+        (saved_of parts)) }
     ensures valid { IfOk result (λ parts. IsValid (saved_of parts)) }
     ensures read { IfOk result (λ parts. IsReadSaved list.now.rules (saved_of parts)) }
 {

@@ -29,8 +29,10 @@ pub fn dump<D: Disk, O: Sink>(
         → IsWithin true c
         → FileMeans (Takes list.now.rules) nothing_saved list.now.digest c d n
         → Writes (dump_text d) result (O.taken out.old) (O.taken out.new) }
-    // The same of a disk that does not tell its contents: they are the rows of some state.
-    ensures rows { WritesSome list.now.rules result (O.taken out.old) (O.taken out.new) }
+    // They are the rows of one state in each case, which the file stands for where the disk tells
+    // its contents.
+    ensures rows { WritesSome list.now (D.view disk.old).contents result
+        (O.taken out.old) (O.taken out.new) }
     ensures count { WriteCounts result (O.faults out.old) (O.faults out.new) }
     ensures opening { OpensStore list.now (D.view disk.old) (D.view disk.new) (opening_of result) }
 {

@@ -37,6 +37,18 @@ returns-clause-means g c file d n told within means =
     let under = subst (λ l. FileMeans (Takes l.rules) nothing_saved l.digest file d n) (sym same) means in
     ap saved_of c.into_parts.ensures.parts ∙ (c.in_ok-open.ensures.means file d n told within under).0
 
+pub returns-clause-stands : goal.returns-clause-stands
+returns-clause-stands g c file told =
+    let given : RuleList = record { rules = c.new-rows.result.rules; digest = c.digest.result } in
+    let same = same_list c.args.list.now given.rules given.digest c.new-rows.ensures.rules c.digest.ensures.value in
+    let changes = c.in_ok-open.field-0.changes in (
+      changes,
+      subst (λ (p : Parts). FileMeans (Takes c.args.list.now.rules) nothing_saved c.args.list.now.digest file (saved_of p) changes)
+          (sym c.into_parts.ensures.parts)
+          (subst (λ l. FileMeans (Takes l.rules) nothing_saved l.digest file (saved_of c.open.new.into.parts) changes) same
+          (c.in_ok-open.ensures.stood file told)),
+    )
+
 pub returns-clause-valid : goal.returns-clause-valid
 returns-clause-valid g c =
     subst (λ (p : Parts). IsValid (saved_of p)) (sym c.into_parts.ensures.parts) c.into_parts.ensures.valid

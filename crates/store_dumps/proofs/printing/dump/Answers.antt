@@ -19,9 +19,10 @@ returns-in_err-rows-clause-rows g c =
     let out = g.O.Sink.taken c.args.out.now in
     let d = saved_of c.in_ok-parts.parts in
     let is : c.from_residual-in_err-rows.result ≡ Err NoMemory = search rules in
-    subst (λ r. WritesSome c.args.list.now.rules r out out) (sym is)
-    (writes_some c.args.list.now.rules (Err NoMemory)
-    out out d refl c.in_ok-parts.ensures.valid c.in_ok-parts.ensures.read (nothing_taken out (dump_text d)))
+    let told = (g.D.Disk.view c.args.disk.now).contents in
+    subst (λ r. WritesSome c.args.list.now told r out out) (sym is)
+    (writes_some c.args.list.now told (Err NoMemory) out out d refl c.in_ok-parts.ensures.valid
+    c.in_ok-parts.ensures.read c.in_ok-parts.ensures.stands (nothing_taken out (dump_text d)))
 
 pub returns-clause-written : goal.returns-clause-written
 returns-clause-written g c file d n told within means =
@@ -35,6 +36,7 @@ returns-clause-rows g c =
     let out = g.O.Sink.taken c.args.out.now in
     let later = g.O.Sink.taken c.write_rows.new.out in
     let text = ap (λ rs. rows_text (map plain_change rs)) c.deref.ensures.value ∙ ap rows_text c.in_ok-rows.ensures.rows in
-    writes_some c.args.list.now.rules c.write_rows.result out later (saved_of c.in_ok-parts.parts)
-    c.write_rows.ensures.open c.in_ok-parts.ensures.valid c.in_ok-parts.ensures.read
+    writes_some c.args.list.now (g.D.Disk.view c.args.disk.now).contents c.write_rows.result out later
+    (saved_of c.in_ok-parts.parts)
+    c.write_rows.ensures.open c.in_ok-parts.ensures.valid c.in_ok-parts.ensures.read c.in_ok-parts.ensures.stands
     (subst (λ t. Writes t c.write_rows.result out later) text c.write_rows.ensures.written)

@@ -82,6 +82,13 @@ module _ (by rules : List Rule) (under digest : List ℕ) (same : by ≡ rules)
       both (λ r t. FileMeans (Takes r) nothing_saved t file d n) rules by digest under (sym same)
       (sym like) means
 
+  pub meant_under : (file : List ℕ) (d : Saved) (n : ℕ)
+      → FileMeans (Takes by) nothing_saved under file d n
+      → FileMeans (Takes rules) nothing_saved digest file d n
+  meant_under file d n means =
+      both (λ r t. FileMeans (Takes r) nothing_saved t file d n) by rules under digest same like
+      means
+
   pub stores_under : (view : View) → LeavesStores rules digest view → LeavesStores by under view
   stores_under view stores =
       both (λ r t. LeavesStores r t view) rules by digest under (sym same) (sym like) stores

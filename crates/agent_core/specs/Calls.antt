@@ -10,6 +10,8 @@ use Rattle.journal.specs.declared.open_fault.OpenFault.{OpenFault}
 use Rattle.journal.specs.declared.open_fault.OpenFault.TheVariants as fault
 use Rattle.reply_lines.specs.Reply.{PlainReply}
 use Rattle.agent_core.specs.AgentView.{AgentView, is_due}
+use Rattle.agent_core.specs.declared.agent.Power.{Power}
+use Rattle.agent_core.specs.declared.agent.Power.TheVariants as power
 use Rattle.agent_core.specs.declared.outcome.Outcome.{Outcome}
 use Rattle.agent_core.specs.declared.outcome.Outcome.TheVariants.{Replies, Down, NoMemory}
 
@@ -40,6 +42,12 @@ pub record OutcomeDevice (most : ℕ) (result : Outcome) (old new : View) : Type
   pub spared : result ≡ NoMemory → new.changing ≡ old.changing
   pub down : result ≡ Down → Rose old.faults new.faults × HasFailed old new
   pub others : (result ≡ Down → ⊥) → HasNoFault old new
+
+-- whether an agent is up after a line or a flush that answered so: `Down` leaves it down, and every
+-- other answer leaves it as it was
+abbrev pub PowerAfter : Outcome → (old new : Power) → Type 0
+PowerAfter Down old new = new ≡ power.Down
+PowerAfter other old new = new ≡ old
 
 -- a restart answers a device fault exactly where a call of the disk failed
 pub record RestartDevice (result : Result ℕ OpenFault) (old new : View) : Type 0 where

@@ -21,7 +21,8 @@ ghost use Rattle.agent_core.specs.AgentView.{is_down, longest_batch, may_of, owe
 ghost use Rattle.open_store.specs.Commits.{HasRoomFor};
 ghost use Rattle.open_store.specs.Reopens.{LeavesAnew};
 ghost use Rattle.agent_core.specs.Flushing.{Flushes, KeepsOptions};
-ghost use Rattle.agent_core.specs.Calls.{IsTidy, OutcomeDevice, RestartDevice, flush_calls};
+ghost use Rattle.agent_core.specs.Calls.{IsTidy, OutcomeDevice, PowerAfter, RestartDevice};
+ghost use Rattle.agent_core.specs.Calls.{flush_calls};
 ghost use Rattle.agent_core.specs.Means.{Fits, FlushMeans, IsBeforeOrAfter, IsOneFound, LineMeans};
 ghost use Rattle.agent_core.specs.Means.{RestartMeans, after_line};
 ghost use Rattle.agent_core.specs.Seen.{AgentSeen, IsSeen, IsUp};
@@ -190,7 +191,9 @@ impl<'l, D: Disk + Drop> Agent<'l, D> {
             let s = reopened (machine list.now.rules) keeping at (durable_of base) in
             IsSeen a (D.view a.disk) s × AtBase s.base (may_of a (D.view a.disk))
             × ((c : List ℕ) (d : Saved) (n : ℕ) → (D.view disk).contents ≡ Some c
-            → FileMeans (Takes list.now.rules) nothing_saved list.now.digest c d n → base ≡ d))) }
+            → FileMeans (Takes list.now.rules) nothing_saved list.now.digest c d n → base ≡ d)
+            × ((c : List ℕ) → (D.view disk).contents ≡ Some c → (n : ℕ)
+            × FileMeans (Takes list.now.rules) nothing_saved list.now.digest c base n))) }
         ensures rules { IfOk result (λ a. (a.memory.rules ≡ list.now.rules)
             × (a.journal.digest ≡ list.now.digest) × (a.batch ≡ options.batch)
             × (a.checkpoint ≡ options.checkpoint)) }
@@ -264,6 +267,9 @@ impl<'l, D: Disk + Drop> Agent<'l, D> {
         ensures waits { result ≡ Outcome.Held
             → (D.view self.new.disk).changing ≡ (D.view self.old.disk).changing }
 
+        // A call of the disk that failed leaves the agent down, and nothing else changes whether it
+        // is up.
+        ensures power { PowerAfter result self.old.power self.new.power }
         ensures off { (self.old.power ≡ Power.Up → ⊥) → self.new ≡ self.old }
         ensures answer { (self.old.power ≡ Power.Down → result ≡ Outcome.Down)
             × (self.old.power ≡ Power.Spoilt → result ≡ Outcome.NoMemory) }
@@ -301,6 +307,9 @@ impl<'l, D: Disk + Drop> Agent<'l, D> {
             → (D.view self.new.disk).changing ≡ (D.view self.old.disk).changing }
         // With nothing held no checkpoint is due afterwards.
         ensures tidy { self.old.held ≡ [] → IsTidy result self.new }
+        // A call of the disk that failed leaves the agent down, and nothing else changes whether it
+        // is up.
+        ensures power { PowerAfter result self.old.power self.new.power }
         ensures off { (self.old.power ≡ Power.Up → ⊥) → self.new ≡ self.old }
         ensures answer { (self.old.power ≡ Power.Down → result ≡ Outcome.Down)
             × (self.old.power ≡ Power.Spoilt → result ≡ Outcome.NoMemory) }
@@ -377,6 +386,7 @@ impl<'l, D: Disk + Drop> Agent<'l, D> {
         requires up { self.old.power ≡ Power.Up }
         ensures runs { RunsLine (action_of action.now) self.old (D.view self.old.disk)
             self.new (D.view self.new.disk) result }
+        ensures power { PowerAfter result self.old.power self.new.power }
     {
         durable_states();
         spelled_lines();
@@ -397,6 +407,7 @@ impl<'l, D: Disk + Drop> Agent<'l, D> {
         requires up { self.old.power ≡ Power.Up }
         ensures flushes { Flushes (flush_calls self.old) self.old (D.view self.old.disk)
             self.new (D.view self.new.disk) result }
+        ensures power { PowerAfter result self.old.power self.new.power }
         ensures idle { (a : AgentSeen) → IsSeen self.old (D.view self.old.disk) a
             → a.pending ≡ [] → (self.old.held ≡ [] → ⊥)
             → (D.view self.new.disk).changing ≡ (D.view self.old.disk).changing }
@@ -426,6 +437,7 @@ impl<'l, D: Disk + Drop> Agent<'l, D> {
         ensures device { OutcomeDevice 4 result (D.view self.old.disk) (D.view self.new.disk) }
         ensures idle { self.old.body ≡ []
             → (D.view self.new.disk).changing ≡ (D.view self.old.disk).changing }
+        ensures power { PowerAfter result self.old.power self.new.power }
         ensures ends { result ≡ Outcome.Held → ⊥ }
     {
         durable_states();

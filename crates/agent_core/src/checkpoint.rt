@@ -7,7 +7,7 @@ ghost use Rattle.row_changes.specs.Body.{rows_bytes};
 ghost use Rattle.row_store.specs.Listing.{listed};
 ghost use Rattle.agent_core.specs.AgentView.{is_due, may_of};
 ghost use Rattle.agent_core.specs.Flushing.{Flushes, KeepsOptions};
-ghost use Rattle.agent_core.specs.Calls.{IsTidy, OutcomeDevice, checkpoint_calls};
+ghost use Rattle.agent_core.specs.Calls.{IsTidy, OutcomeDevice, PowerAfter, checkpoint_calls};
 ghost use Rattle.agent_core.specs.Means.{IsBeforeOrAfter};
 ghost use Rattle.agent_core.specs.Seen.{AgentSeen, IsUp};
 ghost use Rattle.agent_core.specs.Standing.{Finishes, HasNone, kept_in};
@@ -26,6 +26,7 @@ impl<'l, D: Disk + Drop> Agent<'l, D> {
         requires none { HasNone self.old }
         ensures flushes { Flushes (checkpoint_calls self.old) self.old (D.view self.old.disk)
             self.new (D.view self.new.disk) result }
+        ensures power { PowerAfter result self.old.power self.new.power }
     {
         if self.is_due() {
             return self.make_checkpoint();
@@ -46,6 +47,7 @@ impl<'l, D: Disk + Drop> Agent<'l, D> {
         requires none { HasNone self.old }
         ensures flushes { Flushes 7 self.old (D.view self.old.disk)
             self.new (D.view self.new.disk) result }
+        ensures power { PowerAfter result self.old.power self.new.power }
     {
         match self.snapshot() {
             Err(NoMemory) => Outcome::NoMemory,
@@ -77,6 +79,7 @@ impl<'l, D: Disk + Drop> Agent<'l, D> {
         requires distinct { HasDistinctPairs self.old.memory.grants }
         ensures flushes { Flushes 7 self.old (D.view self.old.disk)
             self.new (D.view self.new.disk) result }
+        ensures power { PowerAfter result self.old.power self.new.power }
     {
         match self.store.reserve(body.len()) {
             Err(NoMemory) => Outcome::NoMemory,
@@ -102,6 +105,7 @@ impl<'l, D: Disk + Drop> Agent<'l, D> {
             (IsBeforeOrAfter self.old.memory.rules self.old.journal.digest ran ran) }
         ensures rules { KeepsOptions self.old self.new }
         ensures device { OutcomeDevice 7 result (D.view self.old.disk) (D.view self.new.disk) }
+        ensures power { PowerAfter result self.old.power self.new.power }
         ensures tidy { IsTidy result self.new }
     {
         written();

@@ -1,5 +1,6 @@
 //! What an agent tells of what it has in memory, which stays as it is. No call of the disk is made.
-ghost use Rattle.std.specs.Prelude.{◌≡◌, ◌+◌, ◌%◌, ◌^◌, true, IfOk, length, map};
+//! Where a restart was refused, what is in memory is not what the store stands for: nothing is told.
+ghost use Rattle.std.specs.Prelude.{◌≡◌, ◌↔◌, ◌+◌, ◌%◌, ◌^◌, true, IfOk, IsErr, length, map};
 ghost use Rattle.unwinding.specs.FiniteCells.{get_cell};
 ghost use Rattle.origin_site.specs.Plain.{plain_site};
 ghost use Rattle.row_changes.specs.Plain.{plain_change};
@@ -12,7 +13,7 @@ ghost use Rattle.agent_core.specs.AgentView.{since_opening};
 ghost use Rattle.agent_core.specs.Seen.{AgentSeen, IsSeen};
 ghost use Rattle.agent_core.specs.Standing.{kept_in};
 
-use crate::agent::Agent;
+use crate::agent::{Agent, Power};
 use agent_base::NoMemory;
 use cookie_jar::Jar;
 use disk_model::Disk;
@@ -40,7 +41,9 @@ impl<'l, D: Disk + Drop> Agent<'l, D> {
     pub fn listing(&self) -> Result<Vec<Change>, NoMemory>
         ensures rows { IfOk result (λ rows. map plain_change rows.items
             ≡ listed (kept_in self.entry.now.memory)) }
+        ensures spoilt { self.entry.now.power ≡ Power.Spoilt → IsErr result }
     {
+        self.has_memory()?;
         row_store::snapshot_rows(
             self.alloc,
             self.memory.storage(),
@@ -64,7 +67,9 @@ impl<'l, D: Disk + Drop> Agent<'l, D> {
             → a.up ≡ true → let rules = self.entry.now.memory.rules in
             let line = action_of action.now in
             IfOk result (IsGivenAt rules (plain_site site.now) touched a.world line) }
+        ensures spoilt { self.entry.now.power ≡ Power.Spoilt → IsErr result }
     {
+        self.has_memory()?;
         self.memory.seen(action, site, touched)
     }
 
@@ -77,7 +82,19 @@ impl<'l, D: Disk + Drop> Agent<'l, D> {
         ensures up { (a : AgentSeen) → IsSeen self.entry.now (D.view self.entry.now.disk) a
             → a.up ≡ true → let all = get_cell domain_order a.world.cells domain.now in
             IfOk result (λ jar. jar.cookies ≡ all) }
+        ensures spoilt { self.entry.now.power ≡ Power.Spoilt → IsErr result }
     {
+        self.has_memory()?;
         self.memory.domain_cookies(domain)
+    }
+
+    // Refuses where a restart was refused: want of memory was its cause, or is told for it.
+    fn has_memory(&self) -> Result<(), NoMemory>
+        ensures spoilt { IsErr result ↔ self.entry.now.power ≡ Power.Spoilt }
+    {
+        if self.power == Power::Spoilt {
+            return Err(NoMemory);
+        }
+        Ok(())
     }
 }

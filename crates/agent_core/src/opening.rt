@@ -34,6 +34,9 @@ pub fn open<D: Disk>(alloc: Global, disk: &mut D, list: &SuffixList) -> Result<O
         → MatchResult result (λ o. (saved_of o.parts ≡ d) × (o.journal.changes ≡ n)) IsExcused }
     ensures within { IfOk result (λ _. (c : List ℕ) → (D.view disk.old).contents ≡ Some c
         → IsWithin true c) }
+    ensures stood { IfOk result (λ o. (c : List ℕ) → (D.view disk.old).contents ≡ Some c
+        → FileMeans (Takes list.now.rules) nothing_saved list.now.digest c (saved_of o.parts)
+        o.journal.changes) }
     ensures refused { (why : OpenFault) → IsErrOf result why → (c : List ℕ)
         → (D.view disk.old).contents ≡ Some c
         → IsRefusal (Takes list.now.rules) (Refuses list.now.rules) nothing_saved true

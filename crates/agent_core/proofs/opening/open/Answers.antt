@@ -1,10 +1,14 @@
 -- What the frames of the journal led to is what the store stands for.
-use Rattle.std.proofs.Common.{List, length, refl, ap, subst, ◌∙◌}
+use Rattle.std.proofs.Common.{List, length, refl, ap, subst, sym, ◌∙◌}
 use Rattle.journal.specs.declared.open_fault.OpenFault.TheVariants as fault
+use Rattle.journal.specs.Opening.{FileMeans}
 use Rattle.suffix_list.specs.Suffix.{Rule}
+use Rattle.durable_model.specs.Saved.{nothing_saved}
+use Rattle.row_store.specs.Bodies.{Takes}
+use Rattle.row_store.specs.declared.parts.Parts.{Parts}
 use Rattle.row_store.specs.Stored.{saved_of}
 use Rattle.agent_core.specs.Seen.{IsAtBase}
-use Rattle.agent_core.proofs.OpeningLemmas.{at_base, is_opened, is_within, means_under}
+use Rattle.agent_core.proofs.OpeningLemmas.{at_base, is_opened, is_within, meant_under, means_under}
 use Rattle.agent_core.proofs.opening.open.Goals as goal
 
 pub returns-in-Ok-clause-opened : goal.returns-in-Ok-clause-opened
@@ -29,6 +33,16 @@ returns-in-Ok-clause-means g c file d n is within means =
     (means_under c.new-rows.result.rules c.args.list.now.rules c.digest.result
     c.args.list.now.digest c.new-rows.ensures.rules c.digest.ensures.value file d n means) in
     (ap saved_of c.into_parts.ensures.parts ∙ given.0, given.1)
+
+pub returns-in-Ok-clause-stood : goal.returns-in-Ok-clause-stood
+returns-in-Ok-clause-stood g c =
+    let rows = c.open.new.into in
+    λ file is.
+    subst (λ (p : Parts). FileMeans (Takes c.args.list.now.rules) nothing_saved c.args.list.now.digest
+    file (saved_of p) c.in-Ok.journal.changes) (sym c.into_parts.ensures.parts)
+    (meant_under c.new-rows.result.rules c.args.list.now.rules c.digest.result
+    c.args.list.now.digest c.new-rows.ensures.rules c.digest.ensures.value file
+    (saved_of rows.parts) c.in-Ok.journal.changes (c.in-Ok.ensures.stood file is))
 
 pub returns-in-Ok-clause-within : goal.returns-in-Ok-clause-within
 returns-in-Ok-clause-within g c file is =

@@ -18,4 +18,5 @@ returns-in-Err g c =
         device = device_none _ _ v v v (roomier_same c.args.self.now.journal v) _ _ memory_down;
         tidy = λ _. tt;
       };
+      power = refl;
     }

@@ -15,6 +15,7 @@ returns-in-Ok-clause-seen g c =
         seen.1,
         λ file d n is means.
             (c.in-Ok.ensures.means file d n is (c.in-Ok.ensures.within file is) means).0,
+        λ file is. (c.in-Ok.opened.journal.changes, c.in-Ok.ensures.stood file is),
       ),
     )
 

@@ -1,5 +1,5 @@
 -- A line runs and waits, or it is the last of its batch, which is committed; or it changes nothing.
-use Rattle.std.proofs.Common.{ap, ◌∙◌}
+use Rattle.std.proofs.Common.{ap, refl, ◌∙◌}
 use Rattle.journal.specs.Journal.{JournalView}
 use Rattle.script_actions.specs.Plain.{action_of}
 use Rattle.agent_core.proofs.LineLemmas.{held_down, line_ends, line_held, line_leaves, line_stays, memory_down, no_body_ran, not_full, power_is, still_standing, wanting}
@@ -25,6 +25,7 @@ returns-in-Err g c =
           wanting _ c.run_line.new.memory c.self.inside.batch c.run_line.new.batch _
           c.run_line.new.store.journal _ _ _ _ _ c.run_line.new.store.disk _
           (g.D.Disk.view c.run_line.new.store.disk) a kept c.in-Err.ensures.roomier seen);
+      power = refl;
     })
 
 pub invariant_of-self-then-is_full : goal.invariant_of-self-then-is_full
@@ -84,6 +85,7 @@ returns-then-is_full g c =
             ∙ c.in-Ok.ensures.roomier.stays.changing;
         waits = λ is. absurd (done.ends is);
       };
+      power = done.power;
     })
 
 pub invariant_of-self-in-Ok : goal.invariant_of-self-in-Ok
@@ -110,4 +112,5 @@ returns-else-is_full g c =
           (power_is _ _ c.self.view_is c.requires.up) fits
           (not_full c.is_full.result c.run_line.new.batch.size _ c.is_full.ensures
           c.if-is_full.false));
+      power = refl;
     })

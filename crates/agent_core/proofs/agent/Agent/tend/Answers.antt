@@ -19,6 +19,7 @@ returns-then-is_due g c =
             (sym c.is_due.ensures ∙ c.if-is_due.true) made.device;
         tidy = made.tidy;
       };
+      power = c.make_checkpoint.ensures.power;
     }
 
 pub returns : goal.returns
@@ -43,4 +44,5 @@ returns g c = record {
         (not_down c.new.result);
     tidy = λ _. sym c.is_due.ensures ∙ c.if-is_due.false;
   };
+  power = refl;
 }

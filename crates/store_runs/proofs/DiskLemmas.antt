@@ -209,7 +209,7 @@ module _ (cuts : List Cut) (old : View) (empty : old.contents ≡ Some []) (on :
   memory_writes ending list start batch checkpoint new steps before after (inl (why, is, refused)) =
       inl (subst (λ e. IsUnopened e cuts) (sym is) (unopened why list new before after refused), refused.text)
   memory_writes ending list start batch checkpoint new steps before after (inr (base, valid, means, opens, written)) =
-      let nothing : base ≡ nothing_saved = means [] nothing_saved 0 empty (inr (inl (omega arith), refl, refl)) in
+      let nothing : base ≡ nothing_saved = (means [] empty).alone nothing_saved 0 (inr (inl (omega arith), refl, refl)) in
       let told_lines : WritesLines ending list.rules batch checkpoint (opened_at start base) (cuts ≡ [])
       steps before after (λ history. Unit {0}) =
       writes_other list.rules batch checkpoint (opened_at start base) (cuts ≡ []) (HasNoCuts old)

@@ -1,6 +1,6 @@
 -- What the loop over the lines keeps, and how it ends.
 use Rattle.std.proofs.Common.{◌≡◌, ◌≢◌, ℕ, ◌+◌, ◌<◌, ◌≤◌, ◌^◌, true, false, List, [], ◌∷◌, ◌++◌, Option, take, drop, length, get_or, inl, inr, refl, sym, ap, subst, ⊎_elim, ◌∙◌, append-nil, arith}
-use Rattle.std.proofs.lemmas.Bool.{cases_Bool}
+use Rattle.std.proofs.lemmas.Bool.{cases_Bool, false≢true}
 use Rattle.std.proofs.lemmas.List.{length-map, length-take-le, map-append, take-append-drop, take_more}
 use Rattle.agent_base.specs.Counts.{Rose}
 use Rattle.unwinding.specs.Admissible.{History}
@@ -264,6 +264,7 @@ module _ (rules : List Rule) (batch : ℕ) (x : AgentOpening) (watch : Watch) wh
       parts = parts;
       history = lost;
       «is» = lost_is;
+      whole = λ committed. absurd (false≢true committed);
       text = subst (TakesPrefix first later) (sym lost_text)
           (front_part first out later (text_on rules x on.course) waiting on.text took);
       left = left;
@@ -313,6 +314,7 @@ module _ (rules : List Rule) (batch : ℕ) (x : AgentOpening) (watch : Watch) wh
         parts = no_rest;
         history = answered;
         «is» = answered_is stored.0;
+        whole = λ committed. refl;
         text =
             subst (TakesPrefix first later) (sym (answered_text stored.0))
             (front_part first out later (text_on rules x on.course ++ text_of a.held)

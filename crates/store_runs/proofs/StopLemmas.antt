@@ -60,6 +60,7 @@ module _ (rules : List Rule) (batch checkpoint : ℕ) (x : AgentOpening) (P Q : 
     parts = ran.parts;
     history = ran.history;
     «is» = quieter ran.front ran.history ran.«is»;
+    whole = ran.whole;
     text = ran.text;
     left = left ran.history ran.left;
   }

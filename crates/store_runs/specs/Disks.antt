@@ -45,11 +45,15 @@ pub record IsRefusedOn (list : RuleList) (why : OpenFault) (old new : View)
   pub images : IsSettled old → (c : List ℕ) → old.contents ≡ Some c → (file : List ℕ)
       → new.may_leave file → IsOpening list.digest c file
 
+-- a durable state is what a file stands for, and no other is
+pub record IsStateOf (list : RuleList) (file : List ℕ) (base : Saved) : Type 0 where
+  pub stands : (n : ℕ) × FileMeans (bodies.Takes list.rules) nothing_saved list.digest file base n
+  pub alone : (d : Saved) (n : ℕ)
+      → FileMeans (bodies.Takes list.rules) nothing_saved list.digest file d n → base ≡ d
+
 -- a durable state is what a disk's bytes stand for
 abbrev pub IsMeantBy : RuleList → View → Saved → Type 0
-IsMeantBy list view base =
-    (c : List ℕ) (d : Saved) (n : ℕ) → view.contents ≡ Some c
-    → FileMeans (bodies.Takes list.rules) nothing_saved list.digest c d n → base ≡ d
+IsMeantBy list view base = (c : List ℕ) → view.contents ≡ Some c → IsStateOf list c base
 
 -- A run over a disk ended so. The first opening was refused, or the lines ran from the durable
 -- state that the disk's bytes stand for, which is a valid one.

@@ -1,7 +1,7 @@
 -- What a run of lines writes and leaves, and what each ending means.
 -- A clause on bytes speaks of a sink that tells its bytes; one that tells none has `None`.
 -- Source: none; these are the words of the promise.
-use Rattle.std.specs.Prelude.{◌≡◌, ◌≢◌, ◌⊎◌, ℕ, false, List, [], ◌++◌, Option, Some}
+use Rattle.std.specs.Prelude.{◌≡◌, ◌≢◌, ◌⊎◌, ℕ, true, false, List, [], ◌++◌, Option, Some}
 use Rattle.unwinding.specs.Admissible.{History}
 use Rattle.agent_base.specs.Streams.{Takes, TakesPrefix}
 use Rattle.disk_model.specs.Disk.{View}
@@ -47,7 +47,8 @@ pub record Ran (rules : List Rule) (batch : ℕ) (opening : AgentOpening) (NoCut
   pub left : Left history
 
 -- the run was stopped: there is a history of the first lines, the sink took a part of its text from
--- its start, and it leaves what is said of it
+-- its start, and it leaves what is said of it. Lines that wait for their batch are committed by
+-- themselves behind the last line alone.
 pub record Stopped (rules : List Rule) (batch : ℕ) (opening : AgentOpening) (NoCuts : Type 0)
     (steps : List PlainStep) (before after : Option (List ℕ))
     (Left : History PlainAction → Type 0) : Type 0 where
@@ -56,6 +57,7 @@ pub record Stopped (rules : List Rule) (batch : ℕ) (opening : AgentOpening) (N
   pub parts : steps ≡ front ++ rest
   pub history : History PlainAction
   pub is : IsHistoryOf rules batch opening NoCuts front history
+  pub whole : history.committed ≡ true → rest ≡ []
   pub text : TakesPrefix before after (history_text rules opening history)
   pub left : Left history
 

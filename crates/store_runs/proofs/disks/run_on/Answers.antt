@@ -47,7 +47,8 @@ returns-in-Ok-clause-written g c = λ told.
     (g.D.Disk.view disk)) (sym c.into_disk.ensures)
     (opened_writes list start batch checkpoint old view agent base under.0 under.1 under.2 under.3 seen.1
     c.run_lines-ending.result (g.D.Disk.view c.run_lines-ending.new.agent.disk)
-    steps before after c.in-Ok.ensures.powered c.in-Ok.ensures.others.faults seen.2.2 cuts
+    steps before after c.in-Ok.ensures.powered c.in-Ok.ensures.others.faults
+    (λ file is. record { stands = seen.2.3 file is; alone = λ d n means. seen.2.2 file d n is means }) cuts
     (c.run_lines-ending.ensures.written (opened_at start base) opened))
 
 pub returns-in-Ok-clause-refused : goal.returns-in-Ok-clause-refused

@@ -116,7 +116,10 @@ impl Parts {
         ensures edited { IsEdited (plain.AreaRemove (plain_key key.now) name.now)
             self.old self.new result }
     {
-        self.storage.remove(AreaKind::Local, 0, key, name).is_some()
+        match self.storage.remove(AreaKind::Local, 0, key, name) {
+            Ok(value) => value.is_some(),
+            Err(NoMemory) => false,
+        }
     }
 
     fn clear(&mut self, key: &StorageKey) -> bool

@@ -85,7 +85,7 @@ fn is_emptied(alloc: Global, storage: &mut Storage, at: Place) -> Result<bool, F
     let key = key_of(alloc, at)?;
     let removed = storage.remove(AreaKind::Local, 1, &key, "k");
     storage.clear(AreaKind::Session, 1, &key);
-    Ok(removed.is_some())
+    Ok(matches!(&removed, Ok(Some(_))))
 }
 
 // Areas once `A` has a pair of each kind in tab 1, with the values there.

@@ -19,8 +19,8 @@ fn put<K: Ord + Drop>(
     ensures none { IfNone result (SameAreas sessions.old sessions.new) }
 {
     match sessions.area_mut(tab, key) {
-        Some(area) => Some(area.put(name, value)),
-        None => None,
+        Ok(area) => Some(area.put(name, value)),
+        Err(_) => None,
     }
 }
 
@@ -43,7 +43,7 @@ fn three_areas(alloc: Global) -> Result<Sessions<u32>, AllocError> {
 // A tab, a key, and the value in the area there.
 const VALUES: &[(u16, u32, Option<&str>)] = &[
     (2, 7, Some("v")),
-    (2, 3, Some("w")),
+    (2, 3, Some("y")),
     (2, 5, None),
     (1, 7, None),
 ];
@@ -83,6 +83,15 @@ fn is_copied(alloc: Global, sessions: &mut Sessions<u32>) -> Result<bool, AllocE
     Ok(sessions.clone_tab(1, 2, keys).is_ok())
 }
 
+// Whether an area that is changed in tab 2 stays as it was in tab 1, with which it was shared.
+fn is_changed_apart(alloc: Global, sessions: &mut Sessions<u32>) -> Result<bool, AllocError> {
+    let name = String::from_str(alloc, "k")?;
+    let value = String::from_str(alloc, "y")?;
+    let changed = put(sessions, 2, &3, name, value);
+    let is_changed = matches!(&changed, Some(Ok(Put::Changed(_))));
+    Ok(is_changed && has_value(sessions, 1, 3, Some("w")))
+}
+
 // Closes tab 1, which a copy still has.
 fn is_closed_apart(sessions: &mut Sessions<u32>) -> bool {
     let Ok(copy) = sessions.copy() else {
@@ -97,6 +106,7 @@ fn copied_tab_goes_its_own_way(rt: HostRuntime) -> Result<(), Fail> {
     let alloc = rt.alloc();
     let mut sessions = three_areas(alloc)?;
     assert!(rt; is_copied(alloc, &mut sessions)?);
+    assert!(rt; is_changed_apart(alloc, &mut sessions)?);
     assert!(rt; is_closed_apart(&mut sessions));
     check_areas(&rt, &sessions);
     sessions.drop_empty(2, &3);

@@ -209,7 +209,7 @@ impl Holdings {
         let events = events_of(alloc, to.as_slice(), area, Some(name), before, None, url)?;
         self.live.reserve_queues(to.as_slice())?;
         write_in(area, ChangeRef::AreaRemove { key, name }, body)?;
-        self.storage.remove(area, at.tab, key, name);
+        self.storage.remove(area, at.tab, key, name)?;
         self.live.send(events);
         Ok(answer("ok"))
     }

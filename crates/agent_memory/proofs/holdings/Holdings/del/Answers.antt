@@ -12,7 +12,7 @@ use Rattle.agent_model.specs.Effects.{Done}
 use Rattle.agent_memory.specs.HoldingsView.{cells_of, held_of}
 use Rattle.agent_memory.proofs.TreeLemmas.{trees_sent}
 use Rattle.agent_memory.proofs.WriteLemmas.{events_ready, is_removed, is_written, none_copied, removed_is, these_sent}
-use Rattle.agent_memory.proofs.WritesLemmas.{front_same, writes_wanting}
+use Rattle.agent_memory.proofs.WritesLemmas.{appended_front, front_same, writes_wanting}
 use Rattle.agent_memory.proofs.holdings.Holdings.del.Goals as goal
 
 pub send-requires : goal.send-requires
@@ -50,7 +50,7 @@ returns c =
           c.reserve_queues.ensures.same.0
           (these_sent event c.in_ok-events.ensures.events (c.url-url.ensures.url document there)
           (c.as_slice.ensures.value ∙ c.in_ok-to.ensures.hearers))
-          c.send.ensures.sent c.remove.ensures.removed c.answer-2.ensures);
+          c.send.ensures.sent c.in_ok-remove.ensures.removed c.answer-2.ensures);
       limit = c.write_in.ensures.limit;
       changes = λ document there.
           subst (λ (d : Done). IsAppended d.changes c.args.body.now.bytes c.write_in.new.body.bytes)
@@ -68,3 +68,8 @@ pub returns-in_err-reserve_queues-clause-changes : goal.returns-in_err-reserve_q
 returns-in_err-reserve_queues-clause-changes c = λ document there. writes_wanting _ c.args.body.now.bytes
     c.args.body.now.bytes c.from_residual-in_err-reserve_queues.result
     c.from_residual-in_err-reserve_queues.ensures.0 (front_same c.args.body.now.bytes)
+
+pub returns-in_err-remove-clause-changes : goal.returns-in_err-remove-clause-changes
+returns-in_err-remove-clause-changes c = λ document there. writes_wanting _ c.args.body.now.bytes
+    c.write_in.new.body.bytes c.from_residual-in_err-remove.result c.from_residual-in_err-remove.ensures.0
+    (appended_front _ c.args.body.now.bytes c.write_in.new.body.bytes c.in_ok-write_in.ensures.changes)

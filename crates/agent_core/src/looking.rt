@@ -1,5 +1,5 @@
 //! What an agent tells of what it has in memory, which stays as it is. No call of the disk is made.
-//! Where a restart was refused, what is in memory is not what the store stands for: nothing is told.
+//! Where a restart was refused, memory is not what the store stands for, and nothing is told.
 ghost use Rattle.std.specs.Prelude.{◌≡◌, ◌↔◌, ◌+◌, ◌%◌, ◌^◌, true, IfOk, IsErr, length, map};
 ghost use Rattle.unwinding.specs.FiniteCells.{get_cell};
 ghost use Rattle.origin_site.specs.Plain.{plain_site};

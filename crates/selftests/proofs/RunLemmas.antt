@@ -46,7 +46,7 @@ module _ (list : RuleList) (old new : View) (steps : List PlainStep) (before aft
       → RanAnew Done list steps before after new.may_leave
   done_anew (inl (why, is, refused)) = absurd (never_done why is)
   done_anew (inr (base, valid, means, opens, written)) =
-      let nothing : base ≡ nothing_saved = means [] nothing_saved 0 empty (inr (inl (omega arith), refl, refl)) in
+      let nothing : base ≡ nothing_saved = (means [] empty).alone nothing_saved 0 (inr (inl (omega arith), refl, refl)) in
       let x = opened_at day_start base in
       subst (λ d. WritesLines Done list.rules day_batch day_checkpoint (opened_at day_start d) (Unit {0})
       steps before after (LeavesHistory list day_batch (opened_at day_start d) new.may_leave)) nothing

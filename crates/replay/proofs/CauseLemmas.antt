@@ -5,15 +5,15 @@ use Rattle.agent_base.specs.Counts.{Rose}
 use Rattle.suffix_list.specs.ListText.{RuleList, list_of}
 use Rattle.script_lines.specs.Script.{PlainScript}
 use Rattle.store_runs.specs.declared.ending.Ending.{Ending}
-use Rattle.command_line.specs.Words.{Dump, Replay}
+use Rattle.command_line.specs.Words.{PlainCommand, Dump, Replay}
 use Rattle.hosts.specs.Hosts.{LeavesOtherStores, LeavesOthers, LeavesStores, SameImages, raised}
 use Rattle.replay.specs.BeforeAfter.{BeforeAfter}
-use Rattle.replay.specs.Causes.{DeviceCounts, ListCause, ListFailed, ReadCause, ReadCounts, RoseByStore}
+use Rattle.replay.specs.Causes.{DeviceCounts, ListCause, ListFailed, ReadCause, ReadCounts, RoseByStore, StoreUnopened}
 use Rattle.replay.specs.Commands.{IsAfterList, StoreCounts}
 use Rattle.replay.specs.Readings.{IsListOf, ScriptCounts}
 use Rattle.replay.specs.Runs.{ListRead, ReadAndRan, ScriptRead, WritesScript, Written}
 use Rattle.replay.specs.Openings.{Images}
-use Rattle.replay.specs.Stores.{RanOverStore, RanStored}
+use Rattle.replay.specs.Stores.{LeftAlone, RanOverStore, RanStored}
 use Rattle.replay.specs.declared.status.Status.{Status}
 use Rattle.replay.specs.declared.status.Status.TheVariants.{Done, Usage, Script, List as ListStatus, Store, Read, Write, Device, Memory}
 use Rattle.replay.proofs.StatusLemmas.{written_weaker}
@@ -31,10 +31,11 @@ list_fine (Some own) list (bytes, (has, grammar)) =
     subst IsOk (sym same) refl
 
 -- what was written of a script was written under that list
-pub writes_under : (status : Status) (allowed : Bool) (told : Option (List ℕ)) (left taken : BeforeAfter (Option (List ℕ))) (list : RuleList) (Ran : Ending → RuleList → PlainScript → Type 0) → IsListOf told list
-    → Written status taken (λ e. (read : ScriptRead allowed left) × Ran e list read.script) → WritesScript status allowed told left taken Ran
-writes_under status allowed told left taken list Ran read written =
-    written_weaker status taken (λ e. (script : ScriptRead allowed left) × Ran e list script.script) (λ e. ReadAndRan allowed told left (Ran e)) (λ e ran. (list_read list told read, (ran.0, ran.1))) written
+pub writes_under : (status : Status) (allowed : Bool) (told : Option (List ℕ)) (left : BeforeAfter (Option (List ℕ))) (Nothing : Type 0) (list : RuleList) (Ran : Ending → RuleList → PlainScript → Type 0) → IsListOf told list
+    → Written status Nothing (λ e. (read : ScriptRead allowed left) × Ran e list read.script) → WritesScript status allowed told left Nothing Ran
+writes_under status allowed told left Nothing list Ran read written =
+    written_weaker status Nothing Nothing (λ e. (script : ScriptRead allowed left) × Ran e list script.script) (λ e. ReadAndRan allowed told left (Ran e)) (λ nothing. nothing)
+    (λ e ran. (list_read list told read, (ran.0, ran.1))) written
 
 pub later_list : (status : Status) (told : Option (List ℕ)) → IsAfterList status → IfSome told (λ bytes. IsOk (list_of bytes)) → ListCause status told
 later_list Done told later fine = fine
@@ -70,34 +71,24 @@ if_told : (A B : Type 0) (told : Option (List ℕ)) → IfSome told (λ bytes. I
 if_told A B None fine rose = tt
 if_told A B (Some bytes) fine rose = inr (fine, rose)
 
-module _ (told : Option (List ℕ)) (fine : IfSome told (λ bytes. IsOk (list_of bytes))) (host reads script : BeforeAfter ℕ) where
-  -- a script over a new store
-  pub script_read_cause : (status : Status) → ScriptCounts status script → ReadCause None status told host reads script
-  script_read_cause Done counts = tt
-  script_read_cause Usage counts = tt
-  script_read_cause (Script why) counts = tt
-  script_read_cause (ListStatus why) counts = tt
-  script_read_cause (Store why) counts = tt
-  script_read_cause Read counts = if_told _ (Rose reads.before reads.after) told fine (inl counts)
-  script_read_cause Write counts = tt
-  script_read_cause Device counts = tt
-  script_read_cause Memory counts = tt
+-- why reading failed, of a command that came behind its list
+pub read_cause : (command : Option PlainCommand) (list script : Option (List ℕ)) (host reads scripts : BeforeAfter ℕ) (status : Status) → IfSome list (λ bytes. IsOk (list_of bytes))
+    → (status ≡ Read → Rose scripts.before scripts.after ⊎ StoreUnopened command script host) → ReadCause command status list script host reads scripts
+read_cause command list script host reads scripts Done fine cause = tt
+read_cause command list script host reads scripts Usage fine cause = tt
+read_cause command list script host reads scripts (Script why) fine cause = tt
+read_cause command list script host reads scripts (ListStatus why) fine cause = tt
+read_cause command list script host reads scripts (Store why) fine cause = tt
+read_cause command list script host reads scripts Read fine cause = if_told _ (Rose reads.before reads.after) list fine (cause refl)
+read_cause command list script host reads scripts Write fine cause = tt
+read_cause command list script host reads scripts Device fine cause = tt
+read_cause command list script host reads scripts Memory fine cause = tt
 
-  -- a script or a dump over the store of a path
-  pub store_read_cause : (path : List ℕ) (status : Status) (stores : BeforeAfter ℕ) → ReadCounts status host stores script → ReadCause (Some path) status told host reads script
-  store_read_cause path Done stores counts = tt
-  store_read_cause path Usage stores counts = tt
-  store_read_cause path (Script why) stores counts = tt
-  store_read_cause path (ListStatus why) stores counts = tt
-  store_read_cause path (Store why) stores counts = tt
-  store_read_cause path Read stores counts = if_told _ (Rose reads.before reads.after) told fine (either counts.1)
-    where
-      either : Rose host.before host.after ⊎ Rose script.before script.after → Rose script.before script.after ⊎ Rose host.before host.after
-      either (inl rose) = inr rose
-      either (inr rose) = inl rose
-  store_read_cause path Write stores counts = tt
-  store_read_cause path Device stores counts = tt
-  store_read_cause path Memory stores counts = tt
+-- a script over a new store, or two scripts
+pub script_read_cause : (command : Option PlainCommand) (list script : Option (List ℕ)) (host reads scripts : BeforeAfter ℕ) (status : Status) → IfSome list (λ bytes. IsOk (list_of bytes))
+    → ScriptCounts status scripts → ReadCause command status list script host reads scripts
+script_read_cause command list script host reads scripts status fine counts =
+    read_cause command list script host reads scripts status fine (λ is. inl (subst (λ s. ScriptCounts s scripts) is counts))
 
 -- the store of a path
 pub replay_device : (list store : List ℕ) (batch checkpoint start : ℕ) (tells : Bool) (stores : BeforeAfter ℕ) (status : Status) → (tells ≡ true → StoreCounts status stores) → DeviceCounts (Some (Replay list (Some store) batch checkpoint start)) tells status stores
@@ -131,11 +122,18 @@ module _ (start batch checkpoint : ℕ) (taken : BeforeAfter (Option (List ℕ))
   pub stored_before : (tells told : Bool) → told ≡ tells → (e : Ending) (list : RuleList) (script : PlainScript) → RanStored start batch checkpoint taken counts told mid after e list script → RanStored start batch checkpoint taken counts tells old after e list script
   stored_before tells told is e list script ran tell = ran_before e list _ (ran (is ∙ tell))
 
-pub others_before : (path : List ℕ) (old mid new : List ℕ → Images) → LeavesStores old mid → LeavesOtherStores path mid new → LeavesOtherStores path old new
-others_before path old mid new first then other apart = record {
-  no_more = λ file is. (first other).no_more file ((then other apart).no_more file is);
-  no_fewer = λ file is. (then other apart).no_fewer file ((first other).no_fewer file is);
+pub images_before : (old mid new : Images) → SameImages old mid → SameImages mid new → SameImages old new
+images_before old mid new first then = record {
+  no_more = λ file is. first.no_more file (then.no_more file is);
+  no_fewer = λ file is. then.no_fewer file (first.no_fewer file is);
 }
+
+pub others_before : (path : List ℕ) (old mid new : List ℕ → Images) → LeavesStores old mid → LeavesOtherStores path mid new → LeavesOtherStores path old new
+others_before path old mid new first then other apart = images_before (old other) (mid other) (new other) (first other) (then other apart)
+
+-- and nothing was done
+pub alone_before : (taken : BeforeAfter (Option (List ℕ))) (old mid new : Images) → SameImages old mid → LeftAlone taken mid new → LeftAlone taken old new
+alone_before taken old mid new first nothing = (nothing.0, images_before old mid new first nothing.1)
 
 -- lists that stand as they stood when the list was read
 pub lists_before : (path : List ℕ) (old mid new : List ℕ → Option (List ℕ)) → LeavesOthers path old mid → new ≡ mid → LeavesOthers path old new

@@ -6,14 +6,15 @@ use Rattle.agent_base.proofs.Pieces.{takes_none}
 use Rattle.agent_base.specs.declared.sink.Sink.{Ghosts as SinkTells}
 use Rattle.agent_base.specs.declared.source.Source.{Ghosts as SourceTells}
 use Rattle.hosts.specs.declared.host.Host.{Ghosts as HostTells}
+use Rattle.hosts.specs.Hosts.{SameImages}
 use Rattle.command_line.specs.Words.{PlainCommand, Help, Replay, Twin, Dump, Selftest, TakesMemory}
 use Rattle.replay.specs.BeforeAfter.{BeforeAfter, from_to}
 use Rattle.replay.specs.Causes.{DeviceCounts, LeavesListsBut, ListCause, ReadCause, ReadCounts, ScriptCause, WriteCounts}
 use Rattle.replay.specs.Endings.{CanEnd}
-use Rattle.replay.specs.Commands.{Obeys, told_of}
+use Rattle.replay.specs.Commands.{Obeys, Writes, told_of}
 use Rattle.replay.specs.Openings.{Images}
 use Rattle.replay.specs.Runs.{WritesSelftest}
-use Rattle.replay.specs.Stores.{LeavesAllBut, Writes}
+use Rattle.replay.specs.Stores.{LeavesAllBut}
 use Rattle.replay.specs.Words.{IsNoCommand, NamesSite, list_named, store_named}
 use Rattle.replay.specs.declared.status.Status.{Status}
 use Rattle.replay.specs.declared.status.Status.TheVariants.{Done, Usage, Script, List as ListStatus, Store, Read, Write, Device, Memory}
@@ -28,10 +29,14 @@ IsNotUsage status = Unit {0}
 pub no_usage : {T : Type 0} (status : Status) → IsNotUsage status → status ≡ Usage → T
 no_usage status not is = absurd (subst IsNotUsage is not)
 
+-- a store that is left alone is as it was
+pub same_images : (images : Images) → SameImages images images
+same_images images = record { no_more = λ file is. is; no_fewer = λ file is. is }
+
 -- no store is another one where none changed
 same_stores : (store : Option (List ℕ)) (stores : List ℕ → Images) → LeavesAllBut store stores stores
-same_stores None stores = λ path. record { no_more = λ file is. is; no_fewer = λ file is. is }
-same_stores (Some own) stores = λ path apart. record { no_more = λ file is. is; no_fewer = λ file is. is }
+same_stores None stores = λ path. same_images (stores path)
+same_stores (Some own) stores = λ path apart. same_images (stores path)
 
 -- and no list
 same_lists : (named : Option (List ℕ)) (lists : List ℕ → Option (List ℕ)) → LeavesListsBut named lists lists
@@ -44,7 +49,7 @@ module _ {Hosts Lists Stores Scripts Outs : Type 0} (H : HostTells Hosts Lists S
       → Writes command status (H.lists host) (H.tells_stores host) (H.stores host) (H.stores host) (told_of H.store_faults (from_to host host)) (told_of I.left (from_to script script)) (told_of O.taken out)
       → (IsNoCommand command → NamesSite command × (status ≡ Memory)) → CanEnd command status → ScriptCause command status (I.left script) → ListCause status (option_and_then (H.lists host) (list_named command))
       → ReadCounts status (told_of H.faults (from_to host host)) (told_of H.store_faults (from_to host host)) (told_of I.faults (from_to script script))
-      → ReadCause (store_named command) status (option_and_then (H.lists host) (list_named command)) (told_of H.faults (from_to host host)) (told_of H.reads (from_to host host)) (told_of I.faults (from_to script script))
+      → ReadCause command status (option_and_then (H.lists host) (list_named command)) (I.left script) (told_of H.faults (from_to host host)) (told_of H.reads (from_to host host)) (told_of I.faults (from_to script script))
       → DeviceCounts command (H.tells_stores host) status (told_of H.store_faults (from_to host host)) → WriteCounts status (told_of O.faults out) → Obeys H I O command status (from_to host host) (from_to script script) out
   left_alone command status out not text no_command ends refused list read read_told device write = record {
     text = text;
@@ -81,9 +86,9 @@ module _ {Hosts Lists Stores Scripts Outs : Type 0} (H : HostTells Hosts Lists S
   obeys_memory None out some is = absurd (false≢true some)
   obeys_memory (Some Help) out some is = absurd is
   obeys_memory (Some (Replay list None batch checkpoint start)) out some is = wanting (Some (Replay list None batch checkpoint start)) out (inl (takes_none (O.taken out))) (λ none. absurd none) tt tt tt
-  obeys_memory (Some (Replay list (Some path) batch checkpoint start)) out some is = wanting (Some (Replay list (Some path) batch checkpoint start)) out (inl (takes_none (O.taken out))) (λ none. absurd none) tt tt tt
+  obeys_memory (Some (Replay list (Some path) batch checkpoint start)) out some is = wanting (Some (Replay list (Some path) batch checkpoint start)) out (inl (takes_none (O.taken out), same_images (H.stores host path))) (λ none. absurd none) tt tt tt
   obeys_memory (Some (Twin site list batch checkpoint start)) out some is = wanting (Some (Twin site list batch checkpoint start)) out (takes_none (O.taken out)) (λ none. tt) tt tt tt
-  obeys_memory (Some (Dump list path)) out some is = wanting (Some (Dump list path)) out (inl (takes_none (O.taken out))) (λ none. absurd none) tt tt tt
+  obeys_memory (Some (Dump list path)) out some is = wanting (Some (Dump list path)) out (inl (takes_none (O.taken out), same_images (H.stores host path))) (λ none. absurd none) tt tt tt
   obeys_memory (Some (Selftest seed)) out some is = wanting (Some (Selftest seed)) out (takes_none (O.taken out)) (λ none. absurd none) tt tt tt
 
   -- a self-test

@@ -16,7 +16,7 @@ use Rattle.durable_model.specs.Saved.{IsValid, Saved, nothing_saved}
 use Rattle.hosts.specs.Hosts.{LeavesOthers, LeavesStores, SameImages}
 use Rattle.row_store.specs.Bodies as bodies
 use Rattle.spelled_model.specs.Rows.{IsReadSaved}
-use Rattle.store_dumps.specs.Dump.{Writes, dump_text}
+use Rattle.store_dumps.specs.Dump.{StandsAsTold, Writes, dump_text}
 use Rattle.store_dumps.specs.Opening.{OpensStore, opening_of}
 use Rattle.store_dumps.specs.declared.fault.DumpFault.{DumpFault}
 use Rattle.store_dumps.specs.declared.fault.DumpFault.TheVariants.{Open, Write, NoMemory}
@@ -31,11 +31,11 @@ use Rattle.replay.specs.Commands.{HasRun, HostCounts, IsAfterList, LeavesStoreCl
 use Rattle.replay.specs.Readings.{IsListOf}
 use Rattle.replay.specs.Runs.{ListRead, Written}
 use Rattle.replay.specs.Openings.{Images, IsExcusedEnding, LeavesOpening, Unopened}
-use Rattle.replay.specs.Stores.{DumpedRows, DumpedStore, WritesRows}
+use Rattle.replay.specs.Stores.{DumpedRows, DumpedStore, LeftAlone, WritesRows}
 use Rattle.replay.specs.declared.status.Status.{Status}
 use Rattle.replay.specs.declared.status.Status.TheVariants.{Done, Usage, Script, List as ListStatus, Store, Read, Device, Memory}
 use Rattle.replay.specs.declared.status.Status.TheVariants as status
-use Rattle.replay.proofs.CauseLemmas.{dump_device, later_list, list_fine, list_read, lists_before, others_before, store_read_cause}
+use Rattle.replay.proofs.CauseLemmas.{alone_before, dump_device, later_list, list_fine, list_read, lists_before, others_before, read_cause}
 use Rattle.replay.proofs.CommandLemmas.{IsNotUsage, no_usage}
 use Rattle.replay.proofs.StatusLemmas.{written_weaker}
 
@@ -59,12 +59,14 @@ refused_ending (fault.TooLarge len) of = refl
 
 module _ {T : Type 0} (result : Result T DumpFault) (list : RuleList) (file : List ℕ) (taken : BeforeAfter (Option (List ℕ))) (old new : View) (opens : OpensStore list old new (opening_of result)) (held : old.contents ≡ Some file) where
   wrote_by : (r : Result T DumpFault) → OpensStore list old new (opening_of r)
-      → MatchResult (opening_of r) (λ _. (d : Saved) × IsValid d × IsReadSaved list.rules d × Writes (dump_text d) r taken.before taken.after) (λ _. Takes taken.before taken.after [])
-      → (after : Images) → LeavesOpening list file after → Unopened list file (dump_ending r) taken after ⊎ ((d : Saved) × IsValid d × WritesRows (dump_ending r) (dump_text d) taken × LeavesOpening list file after)
-  wrote_by (Ok done) opens (d, valid, spelled, wrote) after left = inr (d, valid, wrote, left)
+      → MatchResult (opening_of r) (λ _. (d : Saved) × IsValid d × IsReadSaved list.rules d × StandsAsTold list old.contents d × Writes (dump_text d) r taken.before taken.after) (λ _. Takes taken.before taken.after [])
+      → (after : Images) → LeavesOpening list file after
+      → Unopened list file (dump_ending r) taken after
+      ⊎ ((d : Saved) × (n : ℕ) × IsValid d × FileMeans (bodies.Takes list.rules) nothing_saved list.digest file d n × WritesRows (dump_ending r) (dump_text d) taken × LeavesOpening list file after)
+  wrote_by (Ok done) opens (d, valid, spelled, stands, wrote) after left = let means = stands file held in inr (d, means.0, valid, means.1, wrote, left)
   wrote_by (Err (Open why)) opens took after left = inl (record { why = why; ends = refl; cause = opens.refused why refl file held; text = took; left = left })
-  wrote_by (Err Write) opens (d, valid, spelled, wrote) after left = inr (d, valid, wrote, left)
-  wrote_by (Err NoMemory) opens (d, valid, spelled, wrote) after left = inr (d, valid, wrote, left)
+  wrote_by (Err Write) opens (d, valid, spelled, stands, wrote) after left = let means = stands file held in inr (d, means.0, valid, means.1, wrote, left)
+  wrote_by (Err NoMemory) opens (d, valid, spelled, stands, wrote) after left = let means = stands file held in inr (d, means.0, valid, means.1, wrote, left)
 
   rows_by : (r : Result T DumpFault) (text : List ℕ) → IfErr (opening_of r) IsExcused → Writes text r taken.before taken.after → WritesRows (dump_ending r) text taken ⊎ IsExcusedEnding (dump_ending r)
   rows_by (Ok done) text excused wrote = inl wrote
@@ -85,7 +87,7 @@ module _ {T : Type 0} (result : Result T DumpFault) (list : RuleList) (file : Li
   limit_by (Err NoMemory) limit = absurd limit
 
   pub dumped : (before after : Images) → before file → SameImages new.may_leave after → IsLawful new → LeavesOnly old new (IsOpening list.digest file)
-      → MatchResult (opening_of result) (λ _. (d : Saved) × IsValid d × IsReadSaved list.rules d × Writes (dump_text d) result taken.before taken.after) (λ _. Takes taken.before taken.after [])
+      → MatchResult (opening_of result) (λ _. (d : Saved) × IsValid d × IsReadSaved list.rules d × StandsAsTold list old.contents d × Writes (dump_text d) result taken.before taken.after) (λ _. Takes taken.before taken.after [])
       → ((c : List ℕ) (d : Saved) (n : ℕ) → old.contents ≡ Some c → IsWithin true c → FileMeans (bodies.Takes list.rules) nothing_saved list.digest c d n → Writes (dump_text d) result taken.before taken.after)
       → DumpedStore taken before after (dump_ending result) list
   dumped before after found same lawful leaves rows written = record {
@@ -119,7 +121,7 @@ ran_counts host stores script status ran counts =
 module _ {Hosts Lists Stores Scripts Outs : Type 0} (H : HostTells Hosts Lists Stores) (I : SourceTells Scripts) (O : SinkTells Outs) (path store : List ℕ) (status : Status) (old mid new : Hosts) (script : Scripts) (out : BeforeAfter Outs) where
   pub obeys_dump : (list : RuleList) → IsListOf (H.lists old path) list → LeavesStores (H.stores old) (H.stores mid) → H.faults mid ≡ H.faults old → H.store_faults mid ≡ H.store_faults old
       → H.tells_stores mid ≡ H.tells_stores old → H.lists_out mid ≡ H.lists_out old → LeavesOthers path (H.lists old) (H.lists mid) → LeavesStoreClosed H store (from_to mid new)
-      → Written status (told_of O.taken out) (λ e. DumpedRows (told_of O.taken out) (H.tells_stores mid) (H.stores mid store) (H.stores new store) e list) → HasRun status
+      → Written status (LeftAlone (told_of O.taken out) (H.stores mid store) (H.stores new store)) (λ e. DumpedRows (told_of O.taken out) (H.tells_stores mid) (H.stores mid store) (H.stores new store) e list) → HasRun status
       → HostCounts status (told_of H.faults (from_to mid new)) (told_of H.store_faults (from_to mid new)) → StoreCounts status (told_of H.store_faults (from_to mid new)) → WriteCounts status (told_of O.faults out)
       → Obeys H I O (Some (Dump path store)) status (from_to old new) (from_to script script) out
   obeys_dump list read stores still none is closed lists left text ran rose device write =
@@ -133,7 +135,8 @@ module _ {Hosts Lists Stores Scripts Outs : Type 0} (H : HostTells Hosts Lists S
       subst (λ n. HostCounts status (from_to n (H.faults new)) counts) still (subst (λ n. HostCounts status (told_of H.faults (from_to mid new)) (from_to n (H.store_faults new))) none rose) in
       let read_counts : ReadCounts status host counts faults = ran_counts host counts (I.faults script) status ran counted in
       record {
-        text = written_weaker status taken (λ e. DumpedRows taken (H.tells_stores mid) (H.stores mid store) (H.stores new store) e list) (λ e. (read : ListRead told) × DumpedRows taken (H.tells_stores old) (H.stores old store) (H.stores new store) e read.list)
+        text = written_weaker status (LeftAlone taken (H.stores mid store) (H.stores new store)) (LeftAlone taken (H.stores old store) (H.stores new store)) (λ e. DumpedRows taken (H.tells_stores mid) (H.stores mid store) (H.stores new store) e list) (λ e. (read : ListRead told) × DumpedRows taken (H.tells_stores old) (H.stores old store) (H.stores new store) e read.list)
+            (alone_before taken (H.stores old store) (H.stores mid store) (H.stores new store) (stores store))
             (λ e dump. (list_read list told read, λ tell. dumped_before list (stores store) e (dump (is ∙ tell)))) text;
         usage = no_usage status (by_run IsNotUsage tt tt tt tt tt (λ why of. tt) status ran);
         no_command = λ never. absurd never;
@@ -141,7 +144,7 @@ module _ {Hosts Lists Stores Scripts Outs : Type 0} (H : HostTells Hosts Lists S
         refused = tt;
         list = later_list status told (by_run IsAfterList tt tt tt tt tt (λ why of. tt) status ran) fine;
         read = read_counts;
-        read_told = store_read_cause told fine host (told_of H.reads (from_to old new)) faults store status counts read_counts;
+        read_told = read_cause (Some (Dump path store)) told (I.left script) host (told_of H.reads (from_to old new)) faults status fine (λ is. inr (subst (λ s. HostCounts s host counts) is counted).1);
         device = dump_device path store (H.tells_stores old) counts status (subst (λ n. StoreCounts status (from_to n (H.store_faults new))) none device);
         write = write;
         untouched = λ never. absurd never;

@@ -3,6 +3,7 @@ pub mod StatusLemmas
 pub mod ScriptLemmas
 pub mod CauseLemmas
 pub mod CommandLemmas
+pub mod TextLemmas
 pub mod ReplayLemmas
 pub mod TwinLemmas
 pub mod TwinFacts

@@ -11,12 +11,12 @@ use Rattle.replay.specs.BeforeAfter.{BeforeAfter, from_to}
 use Rattle.replay.specs.Causes.{ReadCounts, ReadsNoScript, ScriptCauseOf, WriteCounts}
 use Rattle.replay.specs.Endings.{ScriptCanEnd}
 use Rattle.replay.specs.Commands.{IsAfterList, LeavesStoreClosed, Obeys, StoreCounts, told_of}
-use Rattle.replay.specs.Readings.{IsListOf, ScriptCounts}
-use Rattle.replay.specs.Runs.{RanInMemory, ScriptRead, Written}
-use Rattle.replay.specs.Stores.{RanStored}
+use Rattle.replay.specs.Readings.{IsListOf, ScriptCounts, StoreReadCause}
+use Rattle.replay.specs.Runs.{RanInMemory, ScriptRead, TakesNone, Written}
+use Rattle.replay.specs.Stores.{LeftAlone, RanStored}
 use Rattle.replay.specs.declared.status.Status.{Status}
 use Rattle.replay.specs.declared.status.Status.TheVariants.{Done, Usage, Script, List as ListStatus, Store, Read, Write, Device, Memory}
-use Rattle.replay.proofs.CauseLemmas.{later_list, list_fine, lists_before, never_failed, others_before, replay_device, script_read_cause, script_read_counts, store_read_cause, stored_before, writes_under}
+use Rattle.replay.proofs.CauseLemmas.{alone_before, later_list, list_fine, lists_before, never_failed, others_before, read_cause, replay_device, script_read_cause, script_read_counts, stored_before, writes_under}
 use Rattle.replay.proofs.CommandLemmas.{IsNotUsage, no_usage}
 use Rattle.replay.proofs.StatusLemmas.{written_weaker}
 
@@ -49,7 +49,7 @@ module _ {Hosts Lists Stores Scripts Outs : Type 0} (H : HostTells Hosts Lists S
     (closed : H.lists_out mid ≡ H.lists_out old) (lists : LeavesOthers path (H.lists old) (H.lists mid)) (reads : H.reads mid ≡ H.reads old) where
   -- the script ran over a new store in memory, and the host was left as it was when the list was read
   pub obeys_new : H.store_out mid ≡ None
-      → Written status (told_of O.taken out) (λ e. (read : ScriptRead true (told_of I.left script)) × RanInMemory start batch checkpoint (told_of O.taken out) e list read.script)
+      → Written status (TakesNone (told_of O.taken out)) (λ e. (read : ScriptRead true (told_of I.left script)) × RanInMemory start batch checkpoint (told_of O.taken out) e list read.script)
       → ScriptCanEnd None status → IsAfterList status → ScriptCauseOf (script_of_bytes true) status (I.left script.before) → ScriptCounts status (told_of I.faults script) → WriteCounts status (told_of O.faults out)
       → Obeys H I O (Some (Replay path None batch checkpoint start)) status (from_to old mid) script out
   obeys_new store_closed text ends later cause script_counts write =
@@ -57,14 +57,14 @@ module _ {Hosts Lists Stores Scripts Outs : Type 0} (H : HostTells Hosts Lists S
       let taken = told_of O.taken out in
       let fine = list_fine told list read in
       record {
-        text = writes_under status true told (told_of I.left script) taken list (RanInMemory start batch checkpoint taken) read text;
+        text = writes_under status true told (told_of I.left script) (TakesNone taken) list (RanInMemory start batch checkpoint taken) read text;
         usage = no_usage status (later_usage status later);
         no_command = λ never. absurd never;
         ends = ends;
         refused = cause;
         list = later_list status told later fine;
         read = script_read_counts status (told_of H.faults (from_to old mid)) (told_of H.store_faults (from_to old mid)) (told_of I.faults script) still none script_counts;
-        read_told = script_read_cause told fine (told_of H.faults (from_to old mid)) (told_of H.reads (from_to old mid)) (told_of I.faults script) status script_counts;
+        read_told = script_read_cause (Some (Replay path None batch checkpoint start)) told (I.left script.before) (told_of H.faults (from_to old mid)) (told_of H.reads (from_to old mid)) (told_of I.faults script) status fine script_counts;
         device = tt;
         write = write;
         untouched = λ never. absurd never;
@@ -78,13 +78,14 @@ module _ {Hosts Lists Stores Scripts Outs : Type 0} (H : HostTells Hosts Lists S
 
   -- the script ran over the store of a path
   pub obeys_stored : (new : Hosts) (store : List ℕ) → H.tells_stores mid ≡ H.tells_stores old → LeavesStoreClosed H store (from_to mid new)
-      → Written status (told_of O.taken out) (λ e. (read : ScriptRead false (told_of I.left script))
+      → Written status (LeftAlone (told_of O.taken out) (H.stores mid store) (H.stores new store)) (λ e. (read : ScriptRead false (told_of I.left script))
       × RanStored start batch checkpoint (told_of O.taken out) (told_of H.store_faults (from_to mid new)) (H.tells_stores mid) (H.stores mid store) (H.stores new store) e list read.script)
       → ScriptCanEnd (Some store) status → IsAfterList status → ScriptCauseOf (script_of_bytes false) status (I.left script.before)
+      → StoreReadCause status (I.left script.before) (told_of H.faults (from_to mid new)) (told_of I.faults script)
       → ReadCounts status (told_of H.faults (from_to mid new)) (told_of H.store_faults (from_to mid new)) (told_of I.faults script)
       → (H.tells_stores mid ≡ true → StoreCounts status (told_of H.store_faults (from_to mid new))) → WriteCounts status (told_of O.faults out)
       → Obeys H I O (Some (Replay path (Some store) batch checkpoint start)) status (from_to old new) script out
-  obeys_stored new store is host_left text ends later cause read_counts device write =
+  obeys_stored new store is host_left text ends later cause unread read_counts device write =
       let told = H.lists old path in
       let left = told_of I.left script in
       let taken = told_of O.taken out in
@@ -95,9 +96,11 @@ module _ {Hosts Lists Stores Scripts Outs : Type 0} (H : HostTells Hosts Lists S
       let counted : ReadCounts status host counts faults =
       subst (λ n. ReadCounts status (from_to n (H.faults new)) counts faults) still (subst (λ n. ReadCounts status (told_of H.faults (from_to mid new)) (from_to n (H.store_faults new)) faults) none read_counts) in
       record {
-        text = writes_under status false told left taken list (RanStored start batch checkpoint taken counts (H.tells_stores old) (H.stores old store) (H.stores new store)) read
-            (written_weaker status taken (λ e. (read : ScriptRead false left) × RanStored start batch checkpoint taken (told_of H.store_faults (from_to mid new)) (H.tells_stores mid) (H.stores mid store) (H.stores new store) e list read.script)
+        text = writes_under status false told left (LeftAlone taken (H.stores old store) (H.stores new store)) list
+            (RanStored start batch checkpoint taken counts (H.tells_stores old) (H.stores old store) (H.stores new store)) read
+            (written_weaker status (LeftAlone taken (H.stores mid store) (H.stores new store)) (LeftAlone taken (H.stores old store) (H.stores new store)) (λ e. (read : ScriptRead false left) × RanStored start batch checkpoint taken (told_of H.store_faults (from_to mid new)) (H.tells_stores mid) (H.stores mid store) (H.stores new store) e list read.script)
             (λ e. (read : ScriptRead false left) × RanStored start batch checkpoint taken counts (H.tells_stores old) (H.stores old store) (H.stores new store) e list read.script)
+            (alone_before taken (H.stores old store) (H.stores mid store) (H.stores new store) (stores store))
             (λ e ran. (
               ran.0,
               subst (λ n. RanStored start batch checkpoint taken (from_to n (H.store_faults new)) (H.tells_stores old) (H.stores old store) (H.stores new store) e list ran.0.script) none
@@ -109,7 +112,9 @@ module _ {Hosts Lists Stores Scripts Outs : Type 0} (H : HostTells Hosts Lists S
         refused = cause;
         list = later_list status told later fine;
         read = counted;
-        read_told = store_read_cause told fine host (told_of H.reads (from_to old new)) faults store status counts counted;
+        read_told = read_cause (Some (Replay path (Some store) batch checkpoint start)) told (I.left script.before) host (told_of H.reads (from_to old new)) faults status fine
+            (λ reads. subst (λ s. StoreReadCause s (I.left script.before) host faults) reads
+            (subst (λ n. StoreReadCause status (I.left script.before) (from_to n (H.faults new)) faults) still unread));
         device = replay_device path store batch checkpoint start (H.tells_stores old) counts status (λ tell. subst (λ n. StoreCounts status (from_to n (H.store_faults new))) none (device (is ∙ tell)));
         write = write;
         untouched = λ never. absurd never;

@@ -70,7 +70,7 @@ store_writes e list start batch checkpoint file old new steps taken counts after
     let x : AgentOpening = opened_at start ran.0 in
     inr (
       ran.0,
-      record { valid = ran.1; meant = λ d n means. ran.2 file d n held means },
+      record { valid = ran.1; meant = ran.2 file held },
       writes_other list.rules batch checkpoint x ⊥ (HasNoCuts old) (LeavesDisk e list batch x old new) (LeavesStore e list batch x counts after) (λ never. absurd never)
           (λ history left. (
             (λ image is. left.0 image (same.no_more image is)),

@@ -146,7 +146,7 @@ module _ {Hosts Lists Stores Scripts Outs : Type 0} (H : HostTells Hosts Lists S
         refused = cause;
         list = later_list status told (by_compared IsAfterList tt tt tt tt (λ why of. tt) status compared) fine;
         read = script_read_counts status (told_of H.faults (from_to old mid)) (told_of H.store_faults (from_to old mid)) (told_of I.faults script) still none script_counts;
-        read_told = script_read_cause told fine (told_of H.faults (from_to old mid)) (told_of H.reads (from_to old mid)) (told_of I.faults script) status script_counts;
+        read_told = script_read_cause (Some (words.Twin word path batch checkpoint start)) told (I.left script.before) (told_of H.faults (from_to old mid)) (told_of H.reads (from_to old mid)) (told_of I.faults script) status fine script_counts;
         device = tt;
         write = write;
         untouched = never word site named;

@@ -97,19 +97,23 @@ DeviceCounts (Some (Replay list (Some store) batch checkpoint start)) tells Devi
 DeviceCounts (Some (Dump list store)) tells Device stores = Rose stores.before stores.after
 DeviceCounts command tells status stores = Unit {0}
 
--- a command that names a store found it closed, and the host's count rose when it was to be opened
-abbrev pub StoreUnopened : (store : Option (List ℕ)) → (host : BeforeAfter ℕ) → Type 0
-StoreUnopened None host = ⊥
-StoreUnopened (Some path) host = Rose host.before host.after
+-- the store that a command names could not be opened, and the host's count rose. A run comes to its
+-- store behind its script, which has no fault.
+abbrev pub StoreUnopened : Option PlainCommand → (script : Option (List ℕ)) → (host : BeforeAfter ℕ)
+    → Type 0
+StoreUnopened (Some (Replay list (Some store) batch checkpoint start)) script host =
+    ScriptFine (script_of_bytes false) script × Rose host.before host.after
+StoreUnopened (Some (Dump list store)) script host = Rose host.before host.after
+StoreUnopened command script host = ⊥
 
 -- why reading failed, where the host tells the list: a call on an opened list failed, or the list
 -- has no fault and a call on the script failed, or the store could not be opened
-abbrev pub ReadCause : (store : Option (List ℕ)) → Status → (told : Option (List ℕ))
-    → (host reads script : BeforeAfter ℕ) → Type 0
-ReadCause store Read told host reads script =
-    IfSome told (λ bytes. Rose reads.before reads.after
-    ⊎ (IsOk (list_of bytes) × (Rose script.before script.after ⊎ StoreUnopened store host)))
-ReadCause store status told host reads script = Unit {0}
+abbrev pub ReadCause : Option PlainCommand → Status → (list script : Option (List ℕ))
+    → (host reads scripts : BeforeAfter ℕ) → Type 0
+ReadCause command Read list script host reads scripts =
+    IfSome list (λ bytes. Rose reads.before reads.after ⊎ (IsOk (list_of bytes)
+    × (Rose scripts.before scripts.after ⊎ StoreUnopened command script host)))
+ReadCause command status list script host reads scripts = Unit {0}
 
 -- ---- what is left alone
 

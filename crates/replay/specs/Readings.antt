@@ -1,15 +1,16 @@
 -- Why list and scripts are not read: what only private functions answer.
 -- Source: none.
-use Rattle.std.specs.Prelude.{◌≡◌, ℕ, List, Option, Some, IfSome, Ok, Err}
+use Rattle.std.specs.Prelude.{◌≡◌, ◌⊎◌, ℕ, List, Option, Some, IfSome, Ok, Err}
 use Rattle.agent_base.specs.Counts.{Rose}
 use Rattle.suffix_list.specs.ListText.{RuleList, list_of}
+use Rattle.script_lines.specs.Grammar.{script_of_bytes}
 use Rattle.script_lines.specs.Plain.{fault_of}
 use Rattle.script_lines.specs.Script.{PlainFault}
 use Rattle.script_lines.specs.declared.script.ScriptFault.{ScriptFault}
 use Rattle.script_lines.specs.declared.script.ScriptFault.TheVariants.{NoMemory, ReadFault}
 use Rattle.hosts.specs.Hosts.{HasLeft}
 use Rattle.replay.specs.BeforeAfter.{BeforeAfter}
-use Rattle.replay.specs.Causes.{GrammarOf, ScriptFaulty}
+use Rattle.replay.specs.Causes.{GrammarOf, ScriptFaulty, ScriptFine}
 use Rattle.replay.specs.Endings.{IsOfList}
 use Rattle.replay.specs.declared.status.Status.{Status}
 use Rattle.replay.specs.declared.status.Status.TheVariants.{Script, List as ListStatus, Read, Memory}
@@ -52,6 +53,15 @@ abbrev pub refusal_status : ScriptFault → Status
 refusal_status ReadFault = Read
 refusal_status NoMemory = Memory
 refusal_status why = Script why
+
+-- why a run over the store of a path could not read: a call on the script failed, or the script has
+-- no fault and the store could not be opened
+abbrev pub StoreReadCause : Status → (told : Option (List ℕ)) → (host script : BeforeAfter ℕ)
+    → Type 0
+StoreReadCause Read told host script =
+    Rose script.before script.after
+    ⊎ (ScriptFine (script_of_bytes false) told × Rose host.before host.after)
+StoreReadCause _ told host script = Unit {0}
 
 -- the count of faults of a script's source rose where reading it failed, and stays else
 abbrev pub ScriptCounts : Status → (script : BeforeAfter ℕ) → Type 0

@@ -2,7 +2,7 @@
 -- A clause on bytes speaks of a source or sink that tells its bytes; one that tells none has
 -- `None`.
 -- Source: none; these are the words of the promise.
-use Rattle.std.specs.Prelude.{◌≡◌, ◌⊎◌, ℕ, Bool, List, [], map, Option, Some, IfSome, Ok}
+use Rattle.std.specs.Prelude.{◌≡◌, ◌⊎◌, ℕ, Bool, List, [], map, Option, Some, None, IfSome, Ok}
 use Rattle.agent_base.specs.Streams.{Gives, Takes, TakesPrefix}
 use Rattle.suffix_list.specs.ListText.{RuleList, list_of}
 use Rattle.script_actions.specs.Action.{PlainStep}
@@ -13,6 +13,7 @@ use Rattle.store_runs.specs.Disks.{WritesInMemory}
 use Rattle.store_runs.specs.declared.ending.Ending.{Ending}
 use Rattle.store_runs.specs.declared.ending.Ending.TheVariants as ending
 use Rattle.hosts.specs.Hosts.{HasLeft}
+use Rattle.command_line.specs.Words.{PlainCommand, Help, Selftest}
 use Rattle.replay.specs.BeforeAfter.{BeforeAfter}
 use Rattle.replay.specs.FaultLines.{usage_line}
 use Rattle.replay.specs.declared.status.Status.{Status}
@@ -47,23 +48,26 @@ abbrev pub ReadAndRan : (cuts_allowed : Bool) → (told : Option (List ℕ))
 ReadAndRan cuts_allowed told left Ran =
     (list : ListRead told) × ((read : ScriptRead cuts_allowed left) × Ran list.list read.script)
 
--- What the sink took, and what holds, of a command that ended so: where it came to its work, what
--- is said of that work, which ended so; else nothing was taken. Memory may be wanting before.
-abbrev pub Written : Status → (taken : BeforeAfter (Option (List ℕ))) → (Ran : Ending → Type 0)
-    → Type 0
-Written Done taken Ran = Ran ending.Done
-Written Write taken Ran = Ran ending.Write
-Written Device taken Ran = Ran ending.Device
-Written (Store why) taken Ran = Ran (ending.Store why)
-Written Memory taken Ran = Takes taken.before taken.after [] ⊎ Ran ending.Memory
-Written _ taken Ran = Takes taken.before taken.after []
+-- What holds of a command that ended so: where it came to its work, what is said of that work,
+-- which ended so; else this, that nothing was done. Memory may be wanting before.
+abbrev pub Written : Status → (Nothing : Type 0) → (Ran : Ending → Type 0) → Type 0
+Written Done Nothing Ran = Ran ending.Done
+Written Write Nothing Ran = Ran ending.Write
+Written Device Nothing Ran = Ran ending.Device
+Written (Store why) Nothing Ran = Ran (ending.Store why)
+Written Memory Nothing Ran = Nothing ⊎ Ran ending.Memory
+Written _ Nothing Ran = Nothing
+
+-- the sink took nothing
+abbrev pub TakesNone : (taken : BeforeAfter (Option (List ℕ))) → Type 0
+TakesNone taken = Takes taken.before taken.after []
 
 -- the same of a script: list and script were read, and its lines ran so
 abbrev pub WritesScript : Status → (cuts_allowed : Bool) → (told : Option (List ℕ))
-    → (left taken : BeforeAfter (Option (List ℕ)))
+    → (left : BeforeAfter (Option (List ℕ))) → (Nothing : Type 0)
     → (Ran : Ending → RuleList → PlainScript → Type 0) → Type 0
-WritesScript status cuts_allowed told left taken Ran =
-    Written status taken (λ ended. ReadAndRan cuts_allowed told left (Ran ended))
+WritesScript status cuts_allowed told left Nothing Ran =
+    Written status Nothing (λ ended. ReadAndRan cuts_allowed told left (Ran ended))
 
 -- the lines ran over a new store in memory, whose power is cut as the script says
 abbrev pub RanInMemory : (start batch checkpoint : ℕ) → (taken : BeforeAfter (Option (List ℕ)))
@@ -78,7 +82,14 @@ RanInMemory start batch checkpoint taken ending list script =
 abbrev pub WritesUsage : Status → (taken : BeforeAfter (Option (List ℕ))) → Type 0
 WritesUsage Done taken = Takes taken.before taken.after usage_line
 WritesUsage Write taken = TakesPrefix taken.before taken.after usage_line
-WritesUsage _ taken = Takes taken.before taken.after []
+WritesUsage _ taken = TakesNone taken
+
+-- the same of `--help`, and that nothing was taken where the words are no command; of other
+-- commands it says nothing
+abbrev pub Helps : Option PlainCommand → Status → (taken : BeforeAfter (Option (List ℕ))) → Type 0
+Helps (Some Help) status taken = WritesUsage status taken
+Helps None status taken = TakesNone taken
+Helps command status taken = Unit {0}
 
 -- ---- a line
 
@@ -94,3 +105,9 @@ WritesLine _ taken Is = Takes taken.before taken.after []
 -- what the sink took of the self-test of a seed: a line of its day
 abbrev pub WritesSelftest : (seed : ℕ) → Status → (taken : BeforeAfter (Option (List ℕ))) → Type 0
 WritesSelftest seed status taken = WritesLine status taken (IsLineOf seed)
+
+-- the same of a command; of others it says nothing
+abbrev pub TestsItself : Option PlainCommand → Status → (taken : BeforeAfter (Option (List ℕ)))
+    → Type 0
+TestsItself (Some (Selftest seed)) status taken = WritesSelftest seed status taken
+TestsItself command status taken = Unit {0}

@@ -13,19 +13,19 @@ use Rattle.durable_model.specs.Histories.{AgentOpening, opened_at}
 use Rattle.durable_model.specs.Saved.{IsValid, Saved, nothing_saved}
 use Rattle.row_store.specs.Bodies as bodies
 use Rattle.store_dumps.specs.Dump.{dump_text}
+use Rattle.store_runs.specs.Disks.{IsStateOf}
 use Rattle.store_runs.specs.Endings.{IsLimitEnding}
 use Rattle.store_runs.specs.Faults.{RoseBy, faults_of}
 use Rattle.store_runs.specs.Runs.{LeavesHistory, WritesLines}
 use Rattle.store_runs.specs.Tidy.{LeavesTidy}
 use Rattle.store_runs.specs.declared.ending.Ending.{Ending}
 use Rattle.store_runs.specs.declared.ending.Ending.TheVariants as ending
-use Rattle.hosts.specs.Hosts.{LeavesOtherStores, LeavesStores}
-use Rattle.command_line.specs.Words.{PlainCommand, Help, Replay, Twin, Dump, Selftest}
+use Rattle.hosts.specs.Hosts.{LeavesOtherStores, LeavesStores, SameImages}
+use Rattle.command_line.specs.Words.{PlainCommand, Replay, Dump}
 use Rattle.replay.specs.BeforeAfter.{BeforeAfter}
 use Rattle.replay.specs.Openings.{Images, IsExcusedEnding, IsRefused, LeavesOpening, Unopened}
-use Rattle.replay.specs.Runs.{ListRead, RanInMemory, WritesScript, WritesSelftest, WritesUsage}
-use Rattle.replay.specs.Runs.{Written, steps_in}
-use Rattle.replay.specs.Twins.{WritesTwin}
+use Rattle.replay.specs.Runs.{ListRead, RanInMemory, TakesNone, WritesScript, Written}
+use Rattle.replay.specs.Runs.{steps_in}
 use Rattle.replay.specs.declared.status.Status.{Status}
 
 -- ---- a run
@@ -33,8 +33,7 @@ use Rattle.replay.specs.declared.status.Status.{Status}
 -- a durable state is valid, and is what the bytes of a file stand for
 pub record IsMeantBy (list : RuleList) (file : List ℕ) (base : Saved) : Type 0 where
   pub valid : IsValid base
-  pub meant : (d : Saved) (n : ℕ)
-      → FileMeans (bodies.Takes list.rules) nothing_saved list.digest file d n → base ≡ d
+  pub meant : IsStateOf list file base
 
 -- what a history leaves of the store of a path, whose run ended so: what the host tells of it
 -- afterwards are images that the history leaves, and the host's count of the stores' faults rose by
@@ -62,9 +61,13 @@ pub record RanOverStore (start batch checkpoint : ℕ) (taken : BeforeAfter (Opt
       × WritesLines ended list.rules batch checkpoint (opened_at start base) ⊥ steps taken.before
       taken.after (LeavesStore ended list batch (opened_at start base) counts after))
   pub refused : (why : OpenFault) → IsOfFile why → IsRefused list file why
-      → (ended ≡ ending.Store why) ⊎ IsExcusedEnding ended
+      → TakesNone taken × ((ended ≡ ending.Store why) ⊎ IsExcusedEnding ended)
   pub limit : IsOver true file → IsLimitEnding file ended
   pub tidy : ended ≡ ending.Done → LeavesTidy checkpoint list.digest after
+
+-- nothing was done: the sink took nothing, and what the host tells of the store of a path stands
+abbrev pub LeftAlone : (taken : BeforeAfter (Option (List ℕ))) → (before after : Images) → Type 0
+LeftAlone taken before after = TakesNone taken × SameImages before after
 
 -- the same where the host tells what stores hold
 abbrev pub RanLines : (start batch checkpoint : ℕ) → (taken : BeforeAfter (Option (List ℕ)))
@@ -101,8 +104,9 @@ pub record DumpedStore (taken : BeforeAfter (Option (List ℕ))) (before after :
   pub found : before file
   pub wrote :
       Unopened list file ended taken after
-      ⊎ ((d : Saved) × IsValid d × WritesRows ended (dump_text d) taken
-      × LeavesOpening list file after)
+      ⊎ ((d : Saved) × (n : ℕ) × IsValid d
+      × FileMeans (bodies.Takes list.rules) nothing_saved list.digest file d n
+      × WritesRows ended (dump_text d) taken × LeavesOpening list file after)
   pub rows : (d : Saved) (n : ℕ) → IsWithin true file
       → FileMeans (bodies.Takes list.rules) nothing_saved list.digest file d n
       → WritesRows ended (dump_text d) taken ⊎ IsExcusedEnding ended
@@ -123,28 +127,29 @@ abbrev pub LeavesAllBut : Option (List ℕ) → (before after : List ℕ → Ima
 LeavesAllBut None before after = LeavesStores before after
 LeavesAllBut (Some path) before after = LeavesOtherStores path before after
 
--- What the sink took of a command that ended so, and what that leaves of the store that it names;
--- nothing where the words are no command. The host told these lists, and of stores this before and
--- that afterwards, with these counts of their faults.
-abbrev pub Writes : Option PlainCommand → Status → (lists : List ℕ → Option (List ℕ))
+-- What the sink took of a run of a script that ended so, and what that leaves of the store that it
+-- names. The host told these lists, and of stores this before and that afterwards, with these
+-- counts of their faults. Of other commands it says nothing.
+abbrev pub Replays : Option PlainCommand → Status → (lists : List ℕ → Option (List ℕ))
     → (tells : Bool) → (before after : List ℕ → Images) → (counts : BeforeAfter ℕ)
     → (left taken : BeforeAfter (Option (List ℕ))) → Type 0
-Writes (Some
+Replays (Some
     (Replay list None batch checkpoint start)) status lists tells before after counts left taken =
-    WritesScript status true (lists list) left taken (RanInMemory start batch checkpoint taken)
-Writes (Some
+    WritesScript status true (lists list) left (TakesNone taken)
+    (RanInMemory start batch checkpoint taken)
+Replays (Some
     (Replay list
     (Some store) batch checkpoint start)) status lists tells before after counts left taken =
-    WritesScript status false (lists list) left taken
+    WritesScript status false (lists list) left (LeftAlone taken (before store) (after store))
     (RanStored start batch checkpoint taken counts tells (before store) (after store))
-Writes (Some
-    (Twin site list batch checkpoint
-    start)) status lists tells before after counts left taken =
-    WritesTwin site start batch status (lists list) left taken
-Writes (Some (Dump list store)) status lists tells before after counts left taken =
-    Written status taken (λ ended. (read : ListRead (lists list))
+Replays command status lists tells before after counts left taken = Unit {0}
+
+-- the same of a dump
+abbrev pub Dumps : Option PlainCommand → Status → (lists : List ℕ → Option (List ℕ))
+    → (tells : Bool) → (before after : List ℕ → Images)
+    → (taken : BeforeAfter (Option (List ℕ))) → Type 0
+Dumps (Some (Dump list store)) status lists tells before after taken =
+    Written status (LeftAlone taken (before store) (after store))
+    (λ ended. (read : ListRead (lists list))
     × DumpedRows taken tells (before store) (after store) ended read.list)
-Writes (Some (Selftest seed)) status lists tells before after counts left taken =
-    WritesSelftest seed status taken
-Writes (Some Help) status lists tells before after counts left taken = WritesUsage status taken
-Writes None status lists tells before after counts left taken = Takes taken.before taken.after []
+Dumps command status lists tells before after taken = Unit {0}

@@ -1,12 +1,14 @@
 -- What is written of two scripts: whether they give a site the same local script.
 -- Source: none; these are the words of the promise.
 -- Our own choice: the answer is a JSON object with its members in this order.
-use Rattle.std.specs.Prelude.{◌≡◌, ℕ, List, [], ◌++◌, codes, decimal, Option, IfSome, Ok}
+use Rattle.std.specs.Prelude.{◌≡◌, ℕ, List, [], ◌++◌, codes, decimal, Option, Some, IfSome, Ok}
 use Rattle.agent_base.specs.Streams.{Gives}
 use Rattle.origin_site.specs.Site.{PlainSite, site_of_text}
 use Rattle.suffix_list.specs.ListText.{RuleList}
 use Rattle.script_lines.specs.Script.{PlainScript}
 use Rattle.script_lines.specs.TwoScripts.{two_of_bytes}
+use Rattle.command_line.specs.Words.{PlainCommand}
+use Rattle.command_line.specs.Words as words
 use Rattle.script_courses.specs.Twins.{Equal, IsTwin, LocalDiffer, Twin, TwinSetting}
 use Rattle.replay.specs.BeforeAfter.{BeforeAfter}
 use Rattle.replay.specs.Runs.{ListRead, WritesLine, steps_in}
@@ -46,8 +48,15 @@ pub record IsAnswered (word : List ℕ) (start batch : ℕ) (told : Option (List
       (steps_in scripts.second) answer
   pub is : line ≡ twin_line answer
 
--- what the sink took of a comparison of two scripts
+-- what the sink took of a comparison of two scripts, whose word for a site is this
 abbrev pub WritesTwin : (word : List ℕ) → (start batch : ℕ) → Status → (told : Option (List ℕ))
     → (left taken : BeforeAfter (Option (List ℕ))) → Type 0
 WritesTwin word start batch status told left taken =
     WritesLine status taken (IsAnswered word start batch told left)
+
+-- the same of a command; of others it says nothing
+abbrev pub Compares : Option PlainCommand → Status → (lists : List ℕ → Option (List ℕ))
+    → (left taken : BeforeAfter (Option (List ℕ))) → Type 0
+Compares (Some (words.Twin site list batch checkpoint start)) status lists left taken =
+    WritesTwin site start batch status (lists list) left taken
+Compares command status lists left taken = Unit {0}

@@ -6,7 +6,7 @@ ghost use Rattle.replay.specs.Causes.{WriteCounts};
 ghost use Rattle.replay.specs.Commands.{HasRun, HostCounts, LeavesStoreClosed, Obeys};
 ghost use Rattle.replay.specs.Commands.{StoreCounts, dump_ending, status_of};
 ghost use Rattle.replay.specs.Runs.{Written};
-ghost use Rattle.replay.specs.Stores.{DumpedRows};
+ghost use Rattle.replay.specs.Stores.{DumpedRows, LeftAlone};
 
 use crate::Status;
 use crate::lists::read_list;
@@ -45,7 +45,8 @@ fn dump_over<H: Host, O: Sink>(
     out: &mut O,
 ) -> Status
     requires closed { H.store_out host.old ≡ None }
-    ensures text { Written result (from_to (O.taken out.old) (O.taken out.new)) (λ ended.
+    ensures text { Written result (LeftAlone (from_to (O.taken out.old) (O.taken out.new))
+        (H.stores host.old path.now) (H.stores host.new path.now)) (λ ended.
         DumpedRows (from_to (O.taken out.old) (O.taken out.new)) (H.tells_stores host.old)
         (H.stores host.old path.now) (H.stores host.new path.now) ended list.now) }
     ensures ran { HasRun result }

@@ -9,8 +9,9 @@ ghost use Rattle.replay.specs.Endings.{CanEnd};
 ghost use Rattle.replay.specs.Causes.{ReadCounts, ReadsNoScript, ScriptCause, TellsFault};
 ghost use Rattle.replay.specs.Causes.{WriteCounts};
 ghost use Rattle.replay.specs.Commands.{Obeys};
-ghost use Rattle.replay.specs.Runs.{WritesUsage};
-ghost use Rattle.replay.specs.Stores.{LeavesAllBut, Writes};
+ghost use Rattle.replay.specs.Runs.{Helps, TestsItself, WritesUsage};
+ghost use Rattle.replay.specs.Stores.{Dumps, LeavesAllBut, Replays};
+ghost use Rattle.replay.specs.Twins.{Compares};
 ghost use Rattle.replay.specs.Words.{IsNoCommand, NamesSite, list_named, list_told, store_named};
 
 use crate::dumps::dump_store;
@@ -44,11 +45,23 @@ pub fn run<H: Host, I: Source, O: Sink, E: Sink>(
 ) -> Status
     requires { H.store_out host.old ≡ None }
 
-    // What was printed, and what is left of the store.
-    ensures text { Writes (command_of (map string_bytes words.now)) result (H.lists host.old)
+    // What was printed of a script, and what is left of the store.
+    ensures text { Replays (command_of (map string_bytes words.now)) result (H.lists host.old)
         (H.tells_stores host.old) (H.stores host.old) (H.stores host.new)
         (from_to (H.store_faults host.old) (H.store_faults host.new))
         (from_to (I.left script.old) (I.left script.new))
+        (from_to (O.taken out.old) (O.taken out.new)) }
+
+    // What was printed of each other command.
+    ensures rows { Dumps (command_of (map string_bytes words.now)) result (H.lists host.old)
+        (H.tells_stores host.old) (H.stores host.old) (H.stores host.new)
+        (from_to (O.taken out.old) (O.taken out.new)) }
+    ensures twin { Compares (command_of (map string_bytes words.now)) result (H.lists host.old)
+        (from_to (I.left script.old) (I.left script.new))
+        (from_to (O.taken out.old) (O.taken out.new)) }
+    ensures selftest { TestsItself (command_of (map string_bytes words.now)) result
+        (from_to (O.taken out.old) (O.taken out.new)) }
+    ensures help { Helps (command_of (map string_bytes words.now)) result
         (from_to (O.taken out.old) (O.taken out.new)) }
 
     // The promise on what is printed of every history.
@@ -69,8 +82,8 @@ pub fn run<H: Host, I: Source, O: Sink, E: Sink>(
     ensures read { ReadCounts result (from_to (H.faults host.old) (H.faults host.new))
         (from_to (H.store_faults host.old) (H.store_faults host.new))
         (from_to (I.faults script.old) (I.faults script.new)) }
-    ensures read_told { ReadCause (store_named (command_of (map string_bytes words.now))) result
-        (list_told (H.lists host.old) (map string_bytes words.now))
+    ensures read_told { ReadCause (command_of (map string_bytes words.now)) result
+        (list_told (H.lists host.old) (map string_bytes words.now)) (I.left script.old)
         (from_to (H.faults host.old) (H.faults host.new))
         (from_to (H.reads host.old) (H.reads host.new))
         (from_to (I.faults script.old) (I.faults script.new)) }

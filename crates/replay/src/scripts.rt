@@ -10,9 +10,9 @@ ghost use Rattle.replay.specs.Causes.{ReadCounts, ScriptCauseOf, WriteCounts};
 ghost use Rattle.replay.specs.Endings.{IsOfScript, ScriptCanEnd};
 ghost use Rattle.replay.specs.Commands.{HasRun, HostCounts, IsAfterList, LeavesStoreClosed, Obeys};
 ghost use Rattle.replay.specs.Commands.{StoreCounts, status_of};
-ghost use Rattle.replay.specs.Readings.{ScriptCounts, ScriptRefusal};
-ghost use Rattle.replay.specs.Runs.{RanInMemory, ScriptRead, Written};
-ghost use Rattle.replay.specs.Stores.{RanLines, RanStored};
+ghost use Rattle.replay.specs.Readings.{ScriptCounts, ScriptRefusal, StoreReadCause};
+ghost use Rattle.replay.specs.Runs.{RanInMemory, ScriptRead, TakesNone, Written};
+ghost use Rattle.replay.specs.Stores.{LeftAlone, RanLines, RanStored};
 ghost use Rattle.script_lines.specs.Grammar.{script_of_bytes};
 ghost use Rattle.script_lines.specs.Plain.{script_of};
 ghost use Rattle.store_runs.specs.Steps.{steps_of};
@@ -66,8 +66,8 @@ fn run_in_new<I: Source, O: Sink>(
 ) -> Status
     requires start { options.start ≤ last_moment }
     requires batch { (1 ≤ options.batch) × (options.batch ≤ longest_batch) }
-    ensures text { Written result (from_to (O.taken out.old) (O.taken out.new)) (λ ended.
-        (read : ScriptRead true (from_to (I.left script.old) (I.left script.new)))
+    ensures text { Written result (TakesNone (from_to (O.taken out.old) (O.taken out.new)))
+        (λ ended. (read : ScriptRead true (from_to (I.left script.old) (I.left script.new)))
         × RanInMemory options.start options.batch options.checkpoint
         (from_to (O.taken out.old) (O.taken out.new)) ended list.now read.script) }
     ensures ends { ScriptCanEnd None result }
@@ -98,8 +98,9 @@ fn run_stored<H: Host, I: Source, O: Sink>(
     requires start { options.start ≤ last_moment }
     requires batch { (1 ≤ options.batch) × (options.batch ≤ longest_batch) }
     requires closed { H.store_out host.old ≡ None }
-    ensures text { Written result (from_to (O.taken out.old) (O.taken out.new)) (λ ended.
-        (read : ScriptRead false (from_to (I.left script.old) (I.left script.new)))
+    ensures text { Written result (LeftAlone (from_to (O.taken out.old) (O.taken out.new))
+        (H.stores host.old path.now) (H.stores host.new path.now))
+        (λ ended. (read : ScriptRead false (from_to (I.left script.old) (I.left script.new)))
         × RanStored options.start options.batch options.checkpoint
         (from_to (O.taken out.old) (O.taken out.new))
         (from_to (H.store_faults host.old) (H.store_faults host.new)) (H.tells_stores host.old)
@@ -107,6 +108,9 @@ fn run_stored<H: Host, I: Source, O: Sink>(
     ensures ends { ScriptCanEnd (Some path.now) result }
     ensures later { IsAfterList result }
     ensures script { ScriptCauseOf (script_of_bytes false) result (I.left script.old) }
+    ensures unread { StoreReadCause result (I.left script.old)
+        (from_to (H.faults host.old) (H.faults host.new))
+        (from_to (I.faults script.old) (I.faults script.new)) }
     ensures read { ReadCounts result (from_to (H.faults host.old) (H.faults host.new))
         (from_to (H.store_faults host.old) (H.store_faults host.new))
         (from_to (I.faults script.old) (I.faults script.new)) }
@@ -135,7 +139,8 @@ fn run_over<H: Host, O: Sink>(
     requires batch { (1 ≤ options.batch) × (options.batch ≤ longest_batch) }
     requires fits { length lines.now + 2 < 2 ^ 64 }
     requires closed { H.store_out host.old ≡ None }
-    ensures text { Written result (from_to (O.taken out.old) (O.taken out.new)) (λ ended.
+    ensures text { Written result (LeftAlone (from_to (O.taken out.old) (O.taken out.new))
+        (H.stores host.old path.now) (H.stores host.new path.now)) (λ ended.
         RanLines options.start options.batch options.checkpoint
         (from_to (O.taken out.old) (O.taken out.new))
         (from_to (H.store_faults host.old) (H.store_faults host.new)) (H.tells_stores host.old)

@@ -2,7 +2,7 @@ use Rattle.std.proofs.Common.{◌∙◌, subst, sym}
 use Rattle.replay.specs.BeforeAfter.{from_to}
 use Rattle.replay.specs.Commands.{dump_ending}
 use Rattle.replay.specs.Runs.{Written}
-use Rattle.replay.specs.Stores.{DumpedRows}
+use Rattle.replay.specs.Stores.{DumpedRows, LeftAlone}
 use Rattle.replay.proofs.DumpLemmas.{dumped}
 use Rattle.replay.proofs.StatusLemmas.{written_of}
 use Rattle.replay.proofs.dumps.dump_over.Goals as goal
@@ -20,5 +20,5 @@ returns-in-Ok-clause-text g c =
     let held = c.in-Ok.ensures.told tell in
     dumped c.dump-dumped.result list held.0 taken _ _ c.dump-dumped.ensures.opening held.1 before after held.2 (c.close_store.ensures.told (c.in-Ok.ensures.tells ∙ tell)) (g.met.H.Store.Disk.lawful c.dump-dumped.new.disk)
     (c.dump-dumped.ensures.opening.any_moment c.in-Ok.ensures.settled held.0 held.1) c.dump-dumped.ensures.rows c.dump-dumped.ensures.written in
-    subst (λ s. Written s taken (λ e. DumpedRows taken tells before after e list)) (sym c.status.ensures)
-    (written_of (dump_ending c.dump-dumped.result) taken (λ e. DumpedRows taken tells before after e list) ran)
+    subst (λ s. Written s (LeftAlone taken before after) (λ e. DumpedRows taken tells before after e list)) (sym c.status.ensures)
+    (written_of (dump_ending c.dump-dumped.result) (LeftAlone taken before after) (λ e. DumpedRows taken tells before after e list) ran)

@@ -18,7 +18,7 @@ returns-in-Some g c =
     let ran = c.run_stored.ensures in
     subst (λ s. Obeys g.H.Host g.I.Source g.O.Sink (Some (Replay c.args.list.now (option_map (λ path. path.now) s) options.batch options.checkpoint options.start)) status (from_to old new) script out) (sym c.in-Some.is)
     (obeys_stored g.H.Host g.I.Source g.O.Sink c.args.list.now options.start options.batch options.checkpoint status old mid script out c.in-Ok.list list.list list.stores list.still list.store_faults list.closed list.others list.reads new
-    c.in-Some.path.now list.tells ran.left ran.text ran.ends ran.later ran.script ran.read ran.device ran.write)
+    c.in-Some.path.now list.tells ran.left ran.text ran.ends ran.later ran.script ran.unread ran.read ran.device ran.write)
 
 pub returns-in-Ok : goal.returns-in-Ok
 returns-in-Ok g c =

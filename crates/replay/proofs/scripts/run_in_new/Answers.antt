@@ -1,6 +1,6 @@
 use Rattle.std.proofs.Common.{subst, sym}
 use Rattle.replay.specs.BeforeAfter.{from_to}
-use Rattle.replay.specs.Runs.{RanInMemory, ScriptRead, Written}
+use Rattle.replay.specs.Runs.{RanInMemory, ScriptRead, TakesNone, Written}
 use Rattle.store_runs.specs.Disks.{WritesInMemory}
 use Rattle.store_runs.specs.Steps.{steps_of}
 use Rattle.std.proofs.Common.{true}
@@ -19,6 +19,6 @@ returns-in-Ok-clause-text g c =
     let lines = script.lines.items in
     let wrote : WritesInMemory ended list.rules options.start options.batch options.checkpoint script.cuts.items (steps_of lines) taken.before taken.after =
     subst (λ ls. WritesInMemory ended list.rules options.start options.batch options.checkpoint script.cuts.items (steps_of ls) taken.before taken.after) c.deref.ensures.value c.run_in_memory-ending.ensures.written in
-    subst (λ s. Written s taken (λ e. (r : ScriptRead true (from_to (g.I.Source.left c.args.script.now) (g.I.Source.left c.read_script.new.script))) × RanInMemory options.start options.batch options.checkpoint taken e list r.script)) (sym c.status.ensures)
-    (written_of ended taken (λ e. (r : ScriptRead true (from_to (g.I.Source.left c.args.script.now) (g.I.Source.left c.read_script.new.script))) × RanInMemory options.start options.batch options.checkpoint taken e list r.script)
+    subst (λ s. Written s (TakesNone taken) (λ e. (r : ScriptRead true (from_to (g.I.Source.left c.args.script.now) (g.I.Source.left c.read_script.new.script))) × RanInMemory options.start options.batch options.checkpoint taken e list r.script)) (sym c.status.ensures)
+    (written_of ended (TakesNone taken) (λ e. (r : ScriptRead true (from_to (g.I.Source.left c.args.script.now) (g.I.Source.left c.read_script.new.script))) × RanInMemory options.start options.batch options.checkpoint taken e list r.script)
     (read.0, memory_ran options.start options.batch options.checkpoint taken ended list read.0.script script.cuts.items lines read.1 wrote))

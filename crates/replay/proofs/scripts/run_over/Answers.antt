@@ -2,7 +2,7 @@ use Rattle.std.proofs.Common.{◌∙◌, ap, subst, sym}
 use Rattle.hosts.specs.Hosts.{raised}
 use Rattle.replay.specs.BeforeAfter.{from_to}
 use Rattle.replay.specs.Runs.{Written}
-use Rattle.replay.specs.Stores.{RanLines}
+use Rattle.replay.specs.Stores.{LeftAlone, RanLines}
 use Rattle.store_runs.specs.Steps.{steps_of}
 use Rattle.replay.proofs.ScriptLemmas.{store_writes}
 use Rattle.replay.proofs.StatusLemmas.{written_of}
@@ -28,9 +28,9 @@ returns-in-Ok-clause-text g c =
       found = held.2;
       wrote = store_writes ended list options.start options.batch options.checkpoint held.0 _ _ steps taken counts after held.1 c.in-Ok.ensures.settled c.in-Ok.ensures.fresh (c.close_store.ensures.store_faults ∙ ap (raised _) c.in-Ok.ensures.store_faults) (c.close_store.ensures.told (c.in-Ok.ensures.tells ∙ tell))
           (c.run_on-finished.ensures.written ((g.met.H.Store.Disk.lawful c.in-Ok.disk).tells_contents held.0 held.1));
-      refused = λ why of why_so. (c.run_on-finished.ensures.refused why held.0 held.1 of why_so).1;
+      refused = λ why of why_so. c.run_on-finished.ensures.refused why held.0 held.1 of why_so;
       limit = λ over. c.run_on-finished.ensures.limit held.0 held.1 over;
       tidy = λ done now left. c.run_on-finished.ensures.tidy ((g.met.H.Store.Disk.lawful c.in-Ok.disk).tells_contents held.0 held.1) done now ((c.close_store.ensures.told (c.in-Ok.ensures.tells ∙ tell)).no_more now left);
     } in
-    subst (λ s. Written s taken (λ e. RanLines options.start options.batch options.checkpoint taken counts tells before after e list steps)) (sym c.status.ensures)
-    (written_of ended taken (λ e. RanLines options.start options.batch options.checkpoint taken counts tells before after e list steps) ran)
+    subst (λ s. Written s (LeftAlone taken before after) (λ e. RanLines options.start options.batch options.checkpoint taken counts tells before after e list steps)) (sym c.status.ensures)
+    (written_of ended (LeftAlone taken before after) (λ e. RanLines options.start options.batch options.checkpoint taken counts tells before after e list steps) ran)

@@ -11,7 +11,8 @@ use Rattle.command_line.specs.Words.{PlainCommand, Help, Replay, Twin, Dump, Sel
 use Rattle.replay.specs.BeforeAfter.{BeforeAfter, from_to}
 use Rattle.replay.specs.Causes.{DeviceCounts, LeavesListsBut, ListCause, ReadCause, ReadCounts, ScriptCause, WriteCounts}
 use Rattle.replay.specs.Endings.{CanEnd}
-use Rattle.replay.specs.Commands.{Obeys, Writes, told_of}
+use Rattle.replay.specs.Commands.{Obeys, told_of}
+use Rattle.replay.specs.Kinds.{Writes}
 use Rattle.replay.specs.Openings.{Images}
 use Rattle.replay.specs.Runs.{WritesSelftest}
 use Rattle.replay.specs.Stores.{LeavesAllBut}

@@ -31,7 +31,8 @@ use Rattle.replay.specs.Commands.{HasRun, HostCounts, IsAfterList, LeavesStoreCl
 use Rattle.replay.specs.Readings.{IsListOf}
 use Rattle.replay.specs.Runs.{ListRead, Written}
 use Rattle.replay.specs.Openings.{Images, IsExcusedEnding, LeavesOpening, Unopened}
-use Rattle.replay.specs.Stores.{DumpedRows, DumpedStore, LeftAlone, WritesRows}
+use Rattle.replay.specs.Dumps.{DumpedRows, DumpedStore, WritesRows}
+use Rattle.replay.specs.Stores.{LeftAlone}
 use Rattle.replay.specs.declared.status.Status.{Status}
 use Rattle.replay.specs.declared.status.Status.TheVariants.{Done, Usage, Script, List as ListStatus, Store, Read, Device, Memory}
 use Rattle.replay.specs.declared.status.Status.TheVariants as status

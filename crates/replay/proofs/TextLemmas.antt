@@ -2,10 +2,11 @@
 use Rattle.std.proofs.Common.{◌≡◌, ℕ, Bool, List, Option, Some, None}
 use Rattle.command_line.specs.Words.{PlainCommand, Help, Replay, Twin, Dump, Selftest}
 use Rattle.replay.specs.BeforeAfter.{BeforeAfter}
-use Rattle.replay.specs.Commands.{Writes}
+use Rattle.replay.specs.Kinds.{Writes}
 use Rattle.replay.specs.Openings.{Images}
 use Rattle.replay.specs.Runs.{Helps, TestsItself}
-use Rattle.replay.specs.Stores.{Dumps, Replays}
+use Rattle.replay.specs.Dumps.{Dumps}
+use Rattle.replay.specs.Stores.{Replays}
 use Rattle.replay.specs.Twins.{Compares}
 use Rattle.replay.specs.declared.status.Status.{Status}
 

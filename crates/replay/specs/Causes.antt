@@ -39,8 +39,7 @@ ScriptFaulty grammar told why = IfSome told (λ bytes. grammar bytes ≡ Err why
 abbrev pub ScriptFine : {Scripts : Type 0} → GrammarOf Scripts → Option (List ℕ) → Type 0
 ScriptFine grammar told = IfSome told (λ bytes. IsOk (grammar bytes))
 
--- why one script is refused, or two: this is the first fault. Every status after that step shows
--- that there is none.
+-- why one script is refused, or two: this is the first fault. Every later status shows no fault.
 abbrev pub ScriptCauseOf : {Scripts : Type 0}
     → GrammarOf Scripts → Status → Option (List ℕ) → Type 0
 ScriptCauseOf grammar (Script why) told = ScriptFaulty grammar told (fault_of why)
@@ -58,8 +57,7 @@ ScriptCause (Some (Twin site list batch checkpoint start)) status told =
     ScriptCauseOf two_of_bytes status told
 ScriptCause command status told = Unit {0}
 
--- why the list is refused: this is its first fault. Every status after that step shows that it has
--- none.
+-- why the list is refused: this is its first fault. Every later status shows that it has none.
 abbrev pub ListCause : Status → Option (List ℕ) → Type 0
 ListCause (ListStatus why) told = IfSome told (λ bytes. list_of bytes ≡ Err why)
 ListCause Done told = IfSome told (λ bytes. IsOk (list_of bytes))

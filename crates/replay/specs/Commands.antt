@@ -1,7 +1,6 @@
 -- What the parts of a command answer. Only private functions see it.
 -- Source: none.
-use Rattle.std.specs.Prelude.{◌≡◌, ℕ, Bool, option_and_then, List, Option, Some, None, Ok}
-use Rattle.std.specs.Prelude.{◌⊎◌, Err, Result}
+use Rattle.std.specs.Prelude.{◌≡◌, ◌⊎◌, ℕ, option_and_then, List, Option, None, Result, Ok, Err}
 use Rattle.agent_base.specs.Counts.{Rose}
 use Rattle.agent_base.specs.declared.sink.Sink.{Ghosts as SinkTells}
 use Rattle.agent_base.specs.declared.source.Source.{Ghosts as SourceTells}
@@ -19,13 +18,12 @@ use Rattle.journal.specs.Opening.{IsOfFile}
 use Rattle.hosts.specs.Hosts.{LeavesOtherStores}
 use Rattle.hosts.specs.declared.host.Host.{Ghosts as HostTells}
 use Rattle.command_line.specs.Words.{PlainCommand}
-use Rattle.command_line.specs.Words as words
 use Rattle.replay.specs.BeforeAfter.{BeforeAfter, from_to}
-use Rattle.replay.specs.Runs.{Helps, TestsItself, steps_in}
-use Rattle.replay.specs.Twins.{Compares, ScriptsRead, setting_of, twin_line}
+use Rattle.replay.specs.Runs.{steps_in}
+use Rattle.replay.specs.Twins.{ScriptsRead, setting_of, twin_line}
 use Rattle.replay.specs.Words.{IsNoCommand, NamesSite, list_named, store_named}
-use Rattle.replay.specs.Openings.{Images}
-use Rattle.replay.specs.Stores.{Dumps, LeavesAllBut, Replays}
+use Rattle.replay.specs.Kinds.{Writes}
+use Rattle.replay.specs.Stores.{LeavesAllBut}
 use Rattle.replay.specs.Causes.{DeviceCounts, ListCause, ReadCause, ReadCounts, ScriptCause}
 use Rattle.replay.specs.Endings.{CanEnd}
 use Rattle.replay.specs.Causes.{LeavesListsBut, ListFailed, OpensNoList, ReadsNoScript}
@@ -111,27 +109,6 @@ dump_ending (Err dump.Write) = ending.Write
 dump_ending (Err dump.NoMemory) = ending.Memory
 
 -- ---- the command
-
--- what a command that ended so wrote and left, whichever it is
-abbrev pub Writes : Option PlainCommand → Status → (lists : List ℕ → Option (List ℕ))
-    → (tells : Bool) → (before after : List ℕ → Images) → (counts : BeforeAfter ℕ)
-    → (left taken : BeforeAfter (Option (List ℕ))) → Type 0
-Writes (Some
-    (words.Replay list store batch checkpoint
-    start)) status lists tells before after counts left taken =
-    Replays (Some (words.Replay list store batch checkpoint start)) status lists tells before after
-    counts left taken
-Writes (Some
-    (words.Twin site list batch checkpoint
-    start)) status lists tells before after counts left taken =
-    Compares (Some (words.Twin site list batch checkpoint start)) status lists left taken
-Writes (Some (words.Dump list store)) status lists tells before after counts left taken =
-    Dumps (Some (words.Dump list store)) status lists tells before after taken
-Writes (Some (words.Selftest seed)) status lists tells before after counts left taken =
-    TestsItself (Some (words.Selftest seed)) status taken
-Writes (Some words.Help) status lists tells before after counts left taken =
-    Helps (Some words.Help) status taken
-Writes None status lists tells before after counts left taken = Helps None status taken
 
 -- what a value tells before and after
 abbrev pub told_of : {T U : Type 0} → (tells : T → U) → BeforeAfter T → BeforeAfter U

@@ -6,9 +6,11 @@ pub mod Runs
 pub mod Twins
 pub mod Openings
 pub mod Stores
+pub mod Dumps
 pub mod Endings
 pub mod Causes
 -- What private functions compute. No public clause rests on it.
 pub mod LineParts
 pub mod Readings
+pub mod Kinds
 pub mod Commands

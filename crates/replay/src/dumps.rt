@@ -6,7 +6,8 @@ ghost use Rattle.replay.specs.Causes.{WriteCounts};
 ghost use Rattle.replay.specs.Commands.{HasRun, HostCounts, LeavesStoreClosed, Obeys};
 ghost use Rattle.replay.specs.Commands.{StoreCounts, dump_ending, status_of};
 ghost use Rattle.replay.specs.Runs.{Written};
-ghost use Rattle.replay.specs.Stores.{DumpedRows, LeftAlone};
+ghost use Rattle.replay.specs.Dumps.{DumpedRows};
+ghost use Rattle.replay.specs.Stores.{LeftAlone};
 
 use crate::Status;
 use crate::lists::read_list;

@@ -10,7 +10,8 @@ ghost use Rattle.replay.specs.Causes.{ReadCounts, ReadsNoScript, ScriptCause, Te
 ghost use Rattle.replay.specs.Causes.{WriteCounts};
 ghost use Rattle.replay.specs.Commands.{Obeys};
 ghost use Rattle.replay.specs.Runs.{Helps, TestsItself, WritesUsage};
-ghost use Rattle.replay.specs.Stores.{Dumps, LeavesAllBut, Replays};
+ghost use Rattle.replay.specs.Dumps.{Dumps};
+ghost use Rattle.replay.specs.Stores.{LeavesAllBut, Replays};
 ghost use Rattle.replay.specs.Twins.{Compares};
 ghost use Rattle.replay.specs.Words.{IsNoCommand, NamesSite, list_named, list_told, store_named};
 

@@ -2,7 +2,8 @@ use Rattle.std.proofs.Common.{◌∙◌, subst, sym}
 use Rattle.replay.specs.BeforeAfter.{from_to}
 use Rattle.replay.specs.Commands.{dump_ending}
 use Rattle.replay.specs.Runs.{Written}
-use Rattle.replay.specs.Stores.{DumpedRows, LeftAlone}
+use Rattle.replay.specs.Dumps.{DumpedRows}
+use Rattle.replay.specs.Stores.{LeftAlone}
 use Rattle.replay.proofs.DumpLemmas.{dumped}
 use Rattle.replay.proofs.StatusLemmas.{written_of}
 use Rattle.replay.proofs.dumps.dump_over.Goals as goal

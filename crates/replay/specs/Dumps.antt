@@ -1,0 +1,66 @@
+-- What a dump writes, and leaves of the store of a path.
+-- A clause on a store speaks of a host that tells what stores hold.
+-- Source: none; these are the words of the promise.
+use Rattle.std.specs.Prelude.{◌≡◌, ◌⊎◌, ℕ, Bool, true, List, Option, Some}
+use Rattle.agent_base.specs.Streams.{Takes, TakesPrefix}
+use Rattle.journal.specs.Opening.{FileMeans, IsOfFile, IsOver, IsWithin}
+use Rattle.journal.specs.declared.open_fault.OpenFault.{OpenFault}
+use Rattle.suffix_list.specs.ListText.{RuleList}
+use Rattle.durable_model.specs.Saved.{IsValid, Saved, nothing_saved}
+use Rattle.row_store.specs.Bodies as bodies
+use Rattle.store_dumps.specs.Dump.{dump_text}
+use Rattle.store_runs.specs.Endings.{IsLimitEnding}
+use Rattle.store_runs.specs.declared.ending.Ending.{Ending}
+use Rattle.store_runs.specs.declared.ending.Ending.TheVariants as ending
+use Rattle.command_line.specs.Words.{PlainCommand, Dump}
+use Rattle.replay.specs.BeforeAfter.{BeforeAfter}
+use Rattle.replay.specs.Openings.{Images, IsExcusedEnding, IsRefused, LeavesOpening, Unopened}
+use Rattle.replay.specs.Runs.{ListRead, Written}
+use Rattle.replay.specs.Stores.{LeftAlone}
+use Rattle.replay.specs.declared.status.Status.{Status}
+
+-- what the sink took of a text, by how the work ended
+abbrev pub WritesRows : Ending → List ℕ → (taken : BeforeAfter (Option (List ℕ))) → Type 0
+WritesRows ending.Done text taken = Takes taken.before taken.after text
+WritesRows ending.Write text taken = TakesPrefix taken.before taken.after text
+WritesRows ending.Memory text taken = TakesPrefix taken.before taken.after text
+WritesRows ending.Device text taken = ⊥
+WritesRows (ending.Store why) text taken = ⊥
+
+-- The rows of the store of a path were to be written. It held this file, which is one of the images
+-- that the host told of it before, and what the host tells afterwards is what an opening leaves.
+-- The store was not opened; or the sink took the lines of a state, which is the one that the file
+-- stands for. A file that is no store of the list is refused, but for want of memory and a failed
+-- call of the disk, and one over the limit of size is never told as want of memory.
+pub record DumpedStore (taken : BeforeAfter (Option (List ℕ))) (before after : Images)
+    (ended : Ending) (list : RuleList) : Type 0 where
+  pub file : List ℕ
+  pub found : before file
+  pub wrote :
+      Unopened list file ended taken after
+      ⊎ ((d : Saved) × (n : ℕ) × IsValid d
+      × FileMeans (bodies.Takes list.rules) nothing_saved list.digest file d n
+      × WritesRows ended (dump_text d) taken × LeavesOpening list file after)
+  pub rows : (d : Saved) (n : ℕ) → IsWithin true file
+      → FileMeans (bodies.Takes list.rules) nothing_saved list.digest file d n
+      → WritesRows ended (dump_text d) taken ⊎ IsExcusedEnding ended
+  pub refused : (why : OpenFault) → IsOfFile why → IsRefused list file why
+      → (ended ≡ ending.Store why) ⊎ IsExcusedEnding ended
+  pub limit : IsOver true file → IsLimitEnding file ended
+
+-- the same where the host tells what stores hold
+abbrev pub DumpedRows : (taken : BeforeAfter (Option (List ℕ))) → Bool → (before after : Images)
+    → Ending → RuleList → Type 0
+DumpedRows taken tells before after ended list =
+    tells ≡ true → DumpedStore taken before after ended list
+
+-- What the sink took of a dump that ended so, and what that leaves of the store. Of other commands
+-- it says nothing.
+abbrev pub Dumps : Option PlainCommand → Status → (lists : List ℕ → Option (List ℕ))
+    → (tells : Bool) → (before after : List ℕ → Images)
+    → (taken : BeforeAfter (Option (List ℕ))) → Type 0
+Dumps (Some (Dump list store)) status lists tells before after taken =
+    Written status (LeftAlone taken (before store) (after store))
+    (λ ended. (read : ListRead (lists list))
+    × DumpedRows taken tells (before store) (after store) ended read.list)
+Dumps command status lists tells before after taken = Unit {0}

@@ -1,6 +1,6 @@
 -- Why list and scripts are not read: what only private functions answer.
 -- Source: none.
-use Rattle.std.specs.Prelude.{◌≡◌, ◌⊎◌, ℕ, List, Option, Some, IfSome, Ok, Err}
+use Rattle.std.specs.Prelude.{◌≡◌, ◌⊎◌, ℕ, false, List, Option, Some, IfSome, Ok, Err}
 use Rattle.agent_base.specs.Counts.{Rose}
 use Rattle.suffix_list.specs.ListText.{RuleList, list_of}
 use Rattle.script_lines.specs.Grammar.{script_of_bytes}

@@ -1,5 +1,6 @@
 -- The pieces of a body: how many they are, and where its first fault is.
-use Rattle.std.proofs.Common.{◌≡◌, ℕ, zero, suc, ◌+◌, ◌≤◌, ◌==◌, Bool, true, false, cond, not, ◌&&◌, List, [], ◌∷◌, length, Option, Some, None, sym, subst, arith}
+use Rattle.std.proofs.Common.{◌≡◌, ℕ, zero, suc, ◌+◌, ◌≤◌, ◌==◌, Bool, true, false, cond, not, ◌&&◌, List, [], ◌∷◌, drop, length, Option, Some, None, ap, sym, subst, arith}
+use Rattle.std.specs.Prelude.{slice_get}
 use Rattle.std.specs.Prelude.{Result, Ok, Err}
 use Rattle.suffix_list.specs.Suffix.{Rule}
 use Rattle.row_changes.specs.Change.{PlainChange}
@@ -91,3 +92,11 @@ meaning rules by d e snapshot body same_rules same_state =
     let back = sym same_rules in
     let state = sym same_state in
     λ i. after_pieces (state i) 0 (pieces_of (back i) snapshot body)
+
+-- pieces whose first one is told
+pub first_piece : (pieces : List PlainPiece) {piece : PlainPiece} → Some piece ≡ slice_get pieces 0 → pieces ≡ piece ∷ drop 1 pieces
+first_piece [] is = absurd (none_is is)
+  where
+    none_is : {p : PlainPiece} → Some p ≡ None → ⊥
+    none_is e = cc
+first_piece (p ∷ ps) {piece} is = let same : piece ≡ p = cc in ap (λ q. q ∷ ps) (sym same)

@@ -8,39 +8,39 @@ use Rattle.replay.proofs.runs.run.Goals as goal
 pub returns-clause-text : goal.returns-clause-text
 returns-clause-text g c =
     let old = c.args.host.now in
-    let new = c.command.new.host in
+    let new = c.command-status.new.host in
     let H = g.H.Host in
-    of_replay c.command.result (H.lists old) (H.tells_stores old) (H.stores old) (H.stores new) (from_to (H.store_faults old) (H.store_faults new)) (from_to (g.I.Source.left c.args.script.now) (g.I.Source.left c.command.new.script))
-    (from_to (g.O.Sink.taken c.args.out.now) (g.O.Sink.taken c.command.new.out)) (command_of (map string_bytes c.args.words.now)) c.command.ensures.text
+    of_replay c.command-status.result (H.lists old) (H.tells_stores old) (H.stores old) (H.stores new) (from_to (H.store_faults old) (H.store_faults new)) (from_to (g.I.Source.left c.args.script.now) (g.I.Source.left c.command-status.new.script))
+    (from_to (g.O.Sink.taken c.args.out.now) (g.O.Sink.taken c.command-status.new.out)) (command_of (map string_bytes c.args.words.now)) c.command-status.ensures.text
 
 pub returns-clause-rows : goal.returns-clause-rows
 returns-clause-rows g c =
     let old = c.args.host.now in
-    let new = c.command.new.host in
+    let new = c.command-status.new.host in
     let H = g.H.Host in
-    of_dump c.command.result (H.lists old) (H.tells_stores old) (H.stores old) (H.stores new) (from_to (H.store_faults old) (H.store_faults new)) (from_to (g.I.Source.left c.args.script.now) (g.I.Source.left c.command.new.script))
-    (from_to (g.O.Sink.taken c.args.out.now) (g.O.Sink.taken c.command.new.out)) (command_of (map string_bytes c.args.words.now)) c.command.ensures.text
+    of_dump c.command-status.result (H.lists old) (H.tells_stores old) (H.stores old) (H.stores new) (from_to (H.store_faults old) (H.store_faults new)) (from_to (g.I.Source.left c.args.script.now) (g.I.Source.left c.command-status.new.script))
+    (from_to (g.O.Sink.taken c.args.out.now) (g.O.Sink.taken c.command-status.new.out)) (command_of (map string_bytes c.args.words.now)) c.command-status.ensures.text
 
 pub returns-clause-twin : goal.returns-clause-twin
 returns-clause-twin g c =
     let old = c.args.host.now in
-    let new = c.command.new.host in
+    let new = c.command-status.new.host in
     let H = g.H.Host in
-    of_twin c.command.result (H.lists old) (H.tells_stores old) (H.stores old) (H.stores new) (from_to (H.store_faults old) (H.store_faults new)) (from_to (g.I.Source.left c.args.script.now) (g.I.Source.left c.command.new.script))
-    (from_to (g.O.Sink.taken c.args.out.now) (g.O.Sink.taken c.command.new.out)) (command_of (map string_bytes c.args.words.now)) c.command.ensures.text
+    of_twin c.command-status.result (H.lists old) (H.tells_stores old) (H.stores old) (H.stores new) (from_to (H.store_faults old) (H.store_faults new)) (from_to (g.I.Source.left c.args.script.now) (g.I.Source.left c.command-status.new.script))
+    (from_to (g.O.Sink.taken c.args.out.now) (g.O.Sink.taken c.command-status.new.out)) (command_of (map string_bytes c.args.words.now)) c.command-status.ensures.text
 
 pub returns-clause-selftest : goal.returns-clause-selftest
 returns-clause-selftest g c =
     let old = c.args.host.now in
-    let new = c.command.new.host in
+    let new = c.command-status.new.host in
     let H = g.H.Host in
-    of_selftest c.command.result (H.lists old) (H.tells_stores old) (H.stores old) (H.stores new) (from_to (H.store_faults old) (H.store_faults new)) (from_to (g.I.Source.left c.args.script.now) (g.I.Source.left c.command.new.script))
-    (from_to (g.O.Sink.taken c.args.out.now) (g.O.Sink.taken c.command.new.out)) (command_of (map string_bytes c.args.words.now)) c.command.ensures.text
+    of_selftest c.command-status.result (H.lists old) (H.tells_stores old) (H.stores old) (H.stores new) (from_to (H.store_faults old) (H.store_faults new)) (from_to (g.I.Source.left c.args.script.now) (g.I.Source.left c.command-status.new.script))
+    (from_to (g.O.Sink.taken c.args.out.now) (g.O.Sink.taken c.command-status.new.out)) (command_of (map string_bytes c.args.words.now)) c.command-status.ensures.text
 
 pub returns-clause-help : goal.returns-clause-help
 returns-clause-help g c =
     let old = c.args.host.now in
-    let new = c.command.new.host in
+    let new = c.command-status.new.host in
     let H = g.H.Host in
-    of_help c.command.result (H.lists old) (H.tells_stores old) (H.stores old) (H.stores new) (from_to (H.store_faults old) (H.store_faults new)) (from_to (g.I.Source.left c.args.script.now) (g.I.Source.left c.command.new.script))
-    (from_to (g.O.Sink.taken c.args.out.now) (g.O.Sink.taken c.command.new.out)) (command_of (map string_bytes c.args.words.now)) c.command.ensures.text
+    of_help c.command-status.result (H.lists old) (H.tells_stores old) (H.stores old) (H.stores new) (from_to (H.store_faults old) (H.store_faults new)) (from_to (g.I.Source.left c.args.script.now) (g.I.Source.left c.command-status.new.script))
+    (from_to (g.O.Sink.taken c.args.out.now) (g.O.Sink.taken c.command-status.new.out)) (command_of (map string_bytes c.args.words.now)) c.command-status.ensures.text

@@ -2,16 +2,10 @@
 import os
 
 from . import addresses, har_entries, shapes, streams
+from .event_logs import Sent, request_of
 from .faults import RECORDING, Fault
 from .frame_trees import Frames
-from .requests import FRAME, RESOURCE, TOP, Removal, Request, is_to_other_origin, is_uncredentialed, starts_by_page
-
-
-class Sent:
-    """A request as it was announced, before its headers are known."""
-
-    __slots__ = ('at', 'number', 'id', 'place', 'url', 'method', 'frame', 'tab', 'parent', 'document', 'is_load',
-                 'is_preflight', 'is_local')
+from .requests import Removal
 
 
 class Extra:
@@ -27,7 +21,7 @@ class Log:
         self.name = os.path.basename(path)
         self.recording = recording
         self.frames = Frames()
-        self.tabs = {}
+        self.tabs, self.openers = {}, {}
         self.sent, self.removals = [], []
         self.asked, self.answered, self.hops, self.began = {}, {}, {}, {}
         self.now, self.clock, self.number = 0.0, None, 0
@@ -68,6 +62,7 @@ class Log:
         name = shapes.text(shapes.member(parameters, 'sessionId'))
         if shapes.member(target, 'type') == 'page':
             self.tabs[name] = shapes.text(shapes.member(target, 'targetId'))
+            self.openers[self.tabs[name]] = shapes.text(shapes.member(target, 'openerId'))
         else:
             self.tabs[name] = self.tabs.get(session)
 
@@ -91,25 +86,17 @@ class Log:
 
     def announce(self, parameters, session):
         """A request is to be sent."""
-        sent = Sent()
-        sent.number, sent.id = self.number, shapes.text(parameters.get('requestId'))
-        sent.place = self.hops.get(sent.id, 0)
-        sent.url = shapes.text(shapes.member(parameters, 'request', 'url'))
-        sent.method = shapes.text(shapes.member(parameters, 'request', 'method'))
-        if addresses.is_web(sent.url):
-            self.hops[sent.id] = sent.place + 1
-        sent.at = shapes.in_range(shapes.number(parameters.get('wallTime'))) or self.now
-        self.began[sent.id, sent.place] = sent.at
+        name, asked = shapes.text(parameters.get('requestId')), shapes.member(parameters, 'request')
+        key = name, self.hops.get(name, 0)
+        at = shapes.in_range(shapes.number(parameters.get('wallTime'))) or self.now
+        url, method = shapes.text(shapes.member(asked, 'url')), shapes.text(shapes.member(asked, 'method'))
+        sent = Sent(self.number, key, url, method, at)
+        if addresses.is_web(url):
+            self.hops[name] = key[1] + 1
+        self.began[key] = at
         sent.is_preflight = parameters.get('type') == 'Preflight'
-        sent.is_load = parameters.get('type') == 'Document' and parameters.get('loaderId') == sent.id
-        sent.frame = shapes.text(parameters.get('frameId')) or self.tabs.get(session)
-        sent.tab = self.frames.root(sent.frame)
-        sent.parent = self.frames.parents.get(sent.frame)
-        sent.is_local = False
-        sent.document = ''
-        if sent.frame and not sent.is_load:
-            sent.frame, sent.is_local = self.frames.with_address(sent.frame)
-            sent.document = self.frames.urls.get(sent.frame, '')
+        sent.is_load = parameters.get('type') == 'Document' and parameters.get('loaderId') == name
+        sent.put(self.frames, shapes.text(parameters.get('frameId')) or self.tabs.get(session))
         self.sent.append(sent)
 
     def send(self, parameters, session):
@@ -160,16 +147,20 @@ class Log:
         yield from self.removals
         for sent in self.sent:
             source = f'{self.name}#{sent.number}'
-            asked = self.asked.get(sent.id, [])[sent.place:sent.place + 1]
+            asked, answered = self.extras(self.asked, sent), self.extras(self.answered, sent)
             code = self.code_of_none(sent, asked)
             if code:
                 self.recording.lose(code, source)
                 continue
-            if sent.is_local:
-                self.recording.lose('local-document', source)
-            request = self.request(sent, asked[0], source)
+            request = self.request(sent, asked, answered, source)
             if request:
                 yield request
+
+    def extras(self, extras, sent):
+        """What was sent or received in truth for this hop of a request, or None."""
+        name, hop = sent.key
+        found = extras.get(name, [])
+        return found[hop] if hop < len(found) else None
 
     def code_of_none(self, sent, asked):
         """Why a request was not sent with cookies, or None."""
@@ -183,35 +174,17 @@ class Log:
             return 'no-document'
         return addresses.fault_of(sent.url)
 
-    def request(self, sent, asked, source):
+    def request(self, sent, asked, answered, source):
         """The request with its headers, or None where it has no credentials."""
-        is_top = sent.is_load and sent.frame == sent.tab
-        kind = TOP if is_top else FRAME if sent.is_load else RESOURCE
-        request = Request(kind, sent.at, sent.tab, sent.url, sent.method, source)
-        request.frame, request.parent = sent.frame, sent.parent if kind == FRAME else None
-        headers = asked.headers
-        request.sent, request.access = headers.cookies(), headers.first('sec-fetch-storage-access')
-        request.site, request.referrer = headers.first('sec-fetch-site'), headers.first('referer')
-        request.by_page = starts_by_page(request.site, request.referrer)
-        request.held = asked.held or None
-        request.redirects = sent.place + 1 < min(len(self.asked[sent.id]), self.hops[sent.id])
-        self.recording.met(headers.first('user-agent'))
-        answered = self.answered.get(sent.id, [])[sent.place:sent.place + 1]
-        allows = bool(answered) and 'true' in map(
-            str.strip, answered[0].headers.all('access-control-allow-credentials'))
-        mode = headers.first('sec-fetch-mode')
-        if kind == RESOURCE:
-            if not asked.has_cookies and is_uncredentialed(request, sent.document, mode, allows):
-                self.recording.lose('uncredentialed', source)
-                return None
-            request.credentials_unknown = not asked.has_cookies and is_to_other_origin(request, sent.document, mode)
-        if answered:
-            request.partition = answered[0].partition
-            request.set_cookies = tuple(
-                line for value in answered[0].headers.all('set-cookie') for line in value.split('\n'))
-            request.answered = self.answer_time(sent, answered[0]) if request.set_cookies else None
+        request = request_of(self.recording, sent, asked.headers, answered and answered.headers, source,
+                             asked.has_cookies)
+        if request:
+            name, hop = sent.key
+            request.opener = self.openers.get(sent.tab)
+            request.held = asked.held or None
+            request.redirects = hop + 1 < min(len(self.asked[name]), self.hops[name])
+            request.partition = answered and answered.partition
+            if request.set_cookies:
+                # An answer is told later, mostly; that of a redirect was there before the next request began.
+                request.answered = min(answered.at, self.began.get((name, hop + 1), answered.at))
         return request
-
-    def answer_time(self, sent, answered):
-        """When an answer was there: told later, mostly, and at a redirect before the next request began."""
-        return min(answered.at, self.began.get((sent.id, sent.place + 1), answered.at))

@@ -59,9 +59,9 @@ class Tab:
 class Conversion:
     """Writes the lines of a recording's events, in the order of their moments."""
 
-    def __init__(self, recording, suffixes, output, guess, jar, redaction):
-        self.recording, self.suffixes, self.output, self.redaction = recording, suffixes, output, redaction
-        self.setting = recording.setting()
+    def __init__(self, recording, setting, suffixes, output, guess, jar, redaction):
+        self.recording, self.setting = recording, setting
+        self.suffixes, self.output, self.redaction = suffixes, output, redaction
         self.events = sorted(recording.events, key=lambda event: event.at)
         recording.events = []
         requests = [event for event in self.events if event.kind != 'removal']

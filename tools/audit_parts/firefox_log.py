@@ -4,9 +4,10 @@ import binascii
 import os
 
 from . import addresses, shapes, streams
+from .event_logs import Sent, request_of
 from .faults import RECORDING, Fault
 from .frame_trees import Frames
-from .requests import FRAME, RESOURCE, TOP, Removal, Request, is_to_other_origin, is_uncredentialed, starts_by_page
+from .requests import Removal
 
 
 def headers_of(value):
@@ -25,13 +26,6 @@ def text_of(value):
         return ''
 
 
-class Sent:
-    """A request as it was announced."""
-
-    __slots__ = ('at', 'number', 'key', 'url', 'method', 'frame', 'tab', 'parent', 'document', 'is_load', 'headers',
-                 'is_local')
-
-
 class Answer:
     """The answer to a request, with what was sent in truth."""
 
@@ -45,6 +39,7 @@ class Log:
         self.name = os.path.basename(path)
         self.recording = recording
         self.frames = Frames()
+        self.openers = {}
         self.sent, self.removals, self.answers, self.last, self.began = [], [], {}, {}, {}
         self.now, self.number = 0.0, 0
         for self.number, event in enumerate(streams.line_values(path), 1):
@@ -73,8 +68,10 @@ class Log:
 
     def create_context(self, parameters):
         """A tab, or a frame below another."""
-        if shapes.text(parameters.get('parent')):
-            self.frames.parents[shapes.text(parameters.get('context'))] = shapes.text(parameters.get('parent'))
+        name, parent = shapes.text(parameters.get('context')), shapes.text(parameters.get('parent'))
+        if parent:
+            self.frames.parents[name] = parent
+        self.openers[name] = shapes.text(parameters.get('originalOpener'))
         self.navigate(parameters)
 
     def destroy_context(self, parameters):
@@ -90,20 +87,13 @@ class Log:
     def announce(self, parameters):
         """A request is to be sent."""
         asked = shapes.member(parameters, 'request')
-        sent = Sent()
-        sent.number, sent.key = self.number, self.key(parameters)
-        sent.url, sent.method = shapes.text(shapes.member(asked, 'url')), shapes.text(shapes.member(asked, 'method'))
-        began = shapes.number(shapes.member(asked, 'timings', 'requestTime'))
-        sent.at = shapes.in_range(began / 1000) or self.now
-        self.began[sent.key] = sent.at
+        at = shapes.in_range(shapes.number(shapes.member(asked, 'timings', 'requestTime')) / 1000) or self.now
+        url, method = shapes.text(shapes.member(asked, 'url')), shapes.text(shapes.member(asked, 'method'))
+        sent = Sent(self.number, self.key(parameters), url, method, at)
+        self.began[sent.key] = at
         sent.headers = headers_of(shapes.member(asked, 'headers'))
         sent.is_load = bool(parameters.get('navigation'))
-        sent.frame = shapes.text(parameters.get('context'))
-        sent.tab, sent.parent = self.frames.root(sent.frame), self.frames.parents.get(sent.frame)
-        sent.is_local, sent.document = False, ''
-        if sent.frame and not sent.is_load:
-            sent.frame, sent.is_local = self.frames.with_address(sent.frame)
-            sent.document = self.frames.urls.get(sent.frame, '')
+        sent.put(self.frames, shapes.text(parameters.get('context')))
         self.sent.append(sent)
 
     def receive(self, parameters):
@@ -143,8 +133,6 @@ class Log:
             if code:
                 self.recording.lose(code, source)
                 continue
-            if sent.is_local:
-                self.recording.lose('local-document', source)
             request = self.request(sent, answer, headers, source)
             if request:
                 yield request
@@ -163,29 +151,12 @@ class Log:
 
     def request(self, sent, answer, headers, source):
         """The request with its headers, or None where it has no credentials."""
-        is_top = sent.is_load and sent.frame == sent.tab
-        kind = TOP if is_top else FRAME if sent.is_load else RESOURCE
-        request = Request(kind, sent.at, sent.tab, sent.url, sent.method, source)
-        request.frame, request.parent = sent.frame, sent.parent if kind == FRAME else None
-        request.sent, request.access = headers.cookies(), headers.first('sec-fetch-storage-access')
-        request.site, request.referrer = headers.first('sec-fetch-site'), headers.first('referer')
-        request.by_page = starts_by_page(request.site, request.referrer)
-        request.redirects = self.last.get(sent.key[0], 0) > sent.key[1]
-        self.recording.met(headers.first('user-agent'))
-        allows = bool(answer) and 'true' in map(str.strip, answer.headers.all('access-control-allow-credentials'))
-        mode = headers.first('sec-fetch-mode')
-        if kind == RESOURCE:
-            if is_uncredentialed(request, sent.document, mode, allows):
-                self.recording.lose('uncredentialed', source)
-                return None
-            request.credentials_unknown = is_to_other_origin(request, sent.document, mode)
-        if answer:
-            request.set_cookies = tuple(
-                line for value in answer.headers.all('set-cookie') for line in value.split('\n'))
-            request.answered = self.answer_time(sent, answer) if request.set_cookies else None
+        request = request_of(self.recording, sent, headers, answer and answer.headers, source)
+        if request:
+            name, hop = sent.key
+            request.opener = self.openers.get(sent.tab)
+            request.redirects = self.last.get(name, 0) > hop
+            if request.set_cookies:
+                # That of a redirect was there before the next request began.
+                request.answered = min(answer.at, self.began.get((name, hop + 1), answer.at))
         return request
-
-    def answer_time(self, sent, answer):
-        """When an answer was there: at a redirect before the next request began."""
-        name, hop = sent.key
-        return min(answer.at, self.began.get((name, hop + 1), answer.at))

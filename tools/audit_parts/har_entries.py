@@ -63,8 +63,7 @@ def read_request(entry, headers):
 def read_answer(entry, response, headers):
     """What the response says."""
     entry.is_html = headers.first('content-type').startswith('text/html')
-    entry.allows = 'true' in [it.strip() for it in headers.all('access-control-allow-credentials')]
-    entry.set_cookies = tuple(line for value in headers.all('set-cookie') for line in value.split('\n'))
+    entry.allows, entry.set_cookies = headers.allows_credentials(), headers.set_cookies()
     target = shapes.text(shapes.member(response, 'redirectURL'))
     is_redirect = target and shapes.member(response, 'status') in REDIRECTS
     entry.redirect = joined(entry.url, target) if is_redirect else ''

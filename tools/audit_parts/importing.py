@@ -54,11 +54,11 @@ def run(words, suffixes):
     """Imports recordings, and tells what was lost."""
     recording = read(words.files, words.allow_no_cookies)
     jar = Jar.read(words.jar, suffixes) if words.jar else None
-    setting, browser = recording.setting(), recording.browser()
+    setting, browser = words.setting or recording.setting(), recording.browser()
     output = Output(words.out)
     try:
         redaction = Redaction() if words.redact else None
-        conversion = Conversion(recording, suffixes, output, words.guess, jar, redaction)
+        conversion = Conversion(recording, setting, suffixes, output, words.guess, jar, redaction)
         conversion.run()
         if not output.requests:
             raise Fault(RECORDING, f'{words.files[0]}: no entries')

@@ -64,14 +64,13 @@ def box(kind, glyph):
 
 
 def matrix_cell(domain, site, top):
-    """The two boxes of a site under a top-level site, or an empty cell."""
+    """The two boxes of a site under a top-level site, or an empty cell. Cells are many, so their end tags are left out."""
     if top not in site['tops']:
-        own = 'own' if short(top) == domain else ''
-        return f'<td class=no>{own}</td>'
+        return '<td class=no>own' if short(top) == domain else '<td>'
     left, right = state(site, ONE_JAR, top), state(site, PARTITIONED, top)
     glyph = 'G' if site['tops'][top]['granted'] else GLYPHS[right]
     text = escaped(tip(domain, site, top))
-    return f'<td title="{text}" aria-label="{text}">{box(left, GLYPHS[left])}{box(right, glyph)}</td>'
+    return f'<td title="{text}">{box(left, GLYPHS[left])}{box(right, glyph)}'
 
 
 def matrix(found, sites):
@@ -83,7 +82,7 @@ def matrix(found, sites):
         + ''.join(matrix_cell(domain, site, top) for top in found['tops']) + '</tr>\n'
         for domain, site in sites.items())
     small = ' small' if is_large(found) else ''
-    return (f'<div class=scroll tabindex=0 role=region aria-label="Matrix"><table class="matrix{small}">'
+    return (f'<div class="scroll{small}" tabindex=0 role=region aria-label="Matrix"><table class="matrix{small}">'
             f'<thead><tr><td></td>{heads}</tr></thead>\n<tbody>{rows}</tbody></table></div>')
 
 
@@ -102,7 +101,7 @@ def matrix_part(found):
             left_out = (f'<p class=note>{len(sites) - len(kept)} sites that are embedded under one top-level site alone, '
                         'and recognise nobody, stand in the list below only.')
         sites = dict(sorted(kept.items(), key=by_reach))
-    return f'<h2>Embedded site by top-level site</h2>\n{legend()}\n{matrix(found, sites)}{left_out}'
+    return f'<h2>Embedded site by top-level site</h2>\n{legend(found)}\n{matrix(found, sites)}{left_out}'
 
 
 def by_reach(it):
@@ -112,9 +111,10 @@ def by_reach(it):
     return -reach, -len(site['tops']), domain
 
 
-def legend():
+def legend(found):
     """What boxes mean."""
-    return (f'<p class=note>In each cell the left box is a browser with one jar, the right one with partitions.</p>'
+    first, second = ('upper', 'lower') if is_large(found) else ('left', 'right')
+    return (f'<p class=note>In each cell the {first} box is a browser with one jar, the {second} one with partitions.</p>'
             f'<p class=legend><span>{box(LINKS, "●")} recognises across sites</span> '
             f'<span>{box(APART, "○")} has cookies, kept apart</span> '
             f'<span>{box(NOTHING, "·")} no cookie sent</span> '

@@ -92,3 +92,11 @@ class Headers:
     def cookies(self):
         """What the Cookie headers say, or None where there are none."""
         return '; '.join(self.values['cookie']) if self.values.get('cookie') else None
+
+    def set_cookies(self):
+        """The Set-Cookie texts, which may stand in one value with a line each."""
+        return tuple(line for value in self.all('set-cookie') for line in value.split('\n'))
+
+    def allows_credentials(self):
+        """Whether an answer allows credentials to another origin."""
+        return 'true' in (value.strip() for value in self.all('access-control-allow-credentials'))

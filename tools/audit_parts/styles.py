@@ -28,6 +28,9 @@ i.nothing { background: var(--nothing); color: var(--on-nothing) }
 .small { font-size: 12px } .small td, .small th[scope=col] { min-width: 18px; width: 18px; padding: 1px }
 .small i { display: block; width: 16px; height: 14px; line-height: 14px; font-size: 10px; border-radius: 2px;
   margin: 0 auto 1px }
+.scroll.small { max-height: 90vh; overflow: auto }
+.small thead th, .small thead td { position: sticky; top: 0; background: var(--back); z-index: 2 }
+.small thead td { left: 0; z-index: 3 }
 .small tbody tr:hover { background: var(--nothing) }
 .graphs { display: flex; flex-wrap: wrap; gap: 8px 24px } figure { margin: 0; max-width: 100% }
 figcaption { font-weight: 600 } svg { max-width: 100%; height: auto; display: block }

@@ -99,6 +99,10 @@ class Log:
         sent.put(self.frames, shapes.text(parameters.get('frameId')) or self.tabs.get(session))
         self.sent.append(sent)
 
+    def open_socket(self, parameters, session):
+        """A web socket, of which the log does not say which frame opened it."""
+        self.recording.lose('no-document', f'{self.name}#{self.number}')
+
     def send(self, parameters, session):
         """The headers that were sent."""
         extra = self.extra(parameters)
@@ -130,6 +134,7 @@ class Log:
         'Network.requestWillBeSent': announce,
         'Network.requestWillBeSentExtraInfo': send,
         'Network.responseReceivedExtraInfo': receive,
+        'Network.webSocketCreated': open_socket,
     }
 
     def leave_out_preflights(self):

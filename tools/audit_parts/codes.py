@@ -16,6 +16,7 @@ LOSSES = {
     'no-document': 'a request of no document that the recording knows',
     'before-any-document': 'a request of a tab before its first document',
     'document-guessed': 'more than one document, or none, could have made the request',
+    'loaded-ahead': 'an address was loaded ahead, and the recording does not say whether its page was shown',
     'tab-guessed': 'the file names no tabs, and a new one was begun here',
     'opener-unknown': 'a page opened this tab, and the recording does not say which',
     'local-document': 'a document without an address of its own, whose parent stands for it',

@@ -18,8 +18,9 @@ class Frames:
 
     def with_address(self, frame):
         """The nearest frame at or above a frame whose document has an address of its own, and whether it is above."""
-        nearest = frame
-        while self.is_local(nearest) and nearest in self.parents:
+        nearest, seen = frame, set()
+        while self.is_local(nearest) and nearest in self.parents and nearest not in seen:
+            seen.add(nearest)
             nearest = self.parents[nearest]
         return nearest, nearest != frame
 

@@ -11,27 +11,34 @@ from .faults import RECORDING, Fault
 from .requests import FRAME, RESOURCE, TOP, Request, is_to_other_origin, is_uncredentialed, starts_by_page
 
 FRAMES = ('iframe', 'frame', 'fencedframe')
-# A proxy's file names no tabs; the one that a request came from is looked for in so many, the last used first.
-LATEST_TABS = 64
+# Where one of many tabs or documents is looked for, so many of the latest are looked at.
+LATEST = 64
 
 
 class Tab:
     """The documents of a tab: each with its address and the one above it."""
 
     def __init__(self):
-        self.documents = {}
-        self.makers = {}
+        self.clear()
+
+    def clear(self):
+        """All documents are gone."""
+        self.documents, self.makers = {}, {}
+        self.at_url, self.at_page, self.at_origin = {}, {}, {}
 
     def load(self, name, url):
-        """A new top document; all others are gone."""
-        self.documents = {name: (url, None)}
-        self.makers = {}
+        """A new top document."""
+        self.clear()
+        self.add(name, url, None)
 
-    def addresses(self):
-        """The addresses of the documents."""
-        return [url for url, _ in self.documents.values()]
+    def add(self, name, url, parent):
+        """A document below another, or at the top."""
+        self.documents[name] = url, parent
+        for index, key in ((self.at_url, url), (self.at_page, addresses.without_fragment(url)),
+                           (self.at_origin, addresses.origin_of(url))):
+            index.setdefault(key, []).append(name)
 
-    def chain(self, name):
+    def origins(self, name):
         """The origins of the document and those above it."""
         found = []
         while name is not None:
@@ -41,23 +48,20 @@ class Tab:
 
     def owner(self, entry):
         """The document that made a request, and whether no other could have."""
-        at = [name for name, (url, _) in self.documents.items() if entry.initiator and url == entry.initiator]
-        at = at or [name for name, (url, _) in self.documents.items()
-                    if entry.referrer and addresses.without_fragment(url) == entry.referrer]
-        if at:
-            return at[-1], self.are_alike(at)
+        found = self.at_url.get(entry.initiator) or self.at_page.get(entry.referrer)
+        if found:
+            return found[-1], self.are_alike(found)
         maker = self.makers.get(entry.initiator) or self.makers.get(entry.referrer)
-        if maker in self.documents:
+        if maker:
             return maker, True
-        origin = addresses.origin_of(entry.referrer)
-        at = [name for name, (url, _) in self.documents.items() if origin and addresses.origin_of(url) == origin]
-        if at:
-            return at[-1], self.are_alike(at)
+        found = entry.referrer and self.at_origin.get(addresses.origin_of(entry.referrer))
+        if found:
+            return found[-1], self.are_alike(found)
         return next(iter(self.documents)), not entry.referrer and bool(entry.page)
 
     def are_alike(self, names):
-        """Whether it makes no difference which of some documents made a request."""
-        return len({tuple(self.chain(name)) for name in names}) == 1
+        """Whether it makes no difference which of some documents made a request; the latest ones are asked."""
+        return len({tuple(self.origins(name)) for name in names[-LATEST:]}) == 1
 
 
 class File:
@@ -158,6 +162,8 @@ class File:
 
     def below(self, entry, request, documents):
         """The request of a frame or of a document in the tab, or None where it has no credentials."""
+        if entry.is_ahead:
+            self.lose('loaded-ahead', entry)
         owner, is_sure = documents.owner(entry)
         if not is_sure:
             self.lose('document-guessed', entry)
@@ -167,7 +173,7 @@ class File:
             request.kind, request.parent = FRAME, owner
             request.frame = f'{self.number}/{self.frames}'
             if not request.redirects:
-                documents.documents[request.frame] = entry.url, owner
+                documents.add(request.frame, entry.url, owner)
             return request
         if entry.dest in ('style', 'script'):
             documents.makers[entry.url] = owner
@@ -180,6 +186,8 @@ class File:
 
     def is_top(self, entry):
         """Whether an entry is the load of a tab's top document."""
+        if entry.is_ahead:
+            return False
         if entry.dest:
             return entry.dest == 'document'
         if entry.kind:
@@ -210,13 +218,13 @@ class File:
 
     def referring_tab(self, entry, is_top):
         """The tab that was used last of those with a document that refers to the entry, or None."""
-        order = list(itertools.islice(reversed(self.tabs), LATEST_TABS))
+        order = list(itertools.islice(reversed(self.tabs), LATEST))
         origin = addresses.origin_of(entry.referrer)
         if not is_top:
             for name in order:
-                if entry.referrer in self.tabs[name].addresses():
+                if entry.referrer in self.tabs[name].at_page:
                     return name
         for name in order:
-            if origin and origin in map(addresses.origin_of, self.tabs[name].addresses()):
+            if origin and origin in self.tabs[name].at_origin:
                 return name
         return None if is_top else next(iter(order), None)

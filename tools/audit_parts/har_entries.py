@@ -13,7 +13,7 @@ class Entry:
 
     __slots__ = ('at', 'number', 'url', 'method', 'page', 'kind', 'dest', 'mode', 'site', 'access', 'referrer',
                  'initiator', 'is_parsed', 'is_html', 'takes_html', 'allows', 'is_preflight', 'is_cached', 'is_served',
-                 'is_by_worker', 'is_blank', 'redirect', 'cookies', 'set_cookies', 'answered', 'partition', 'agent',
+                 'is_by_worker', 'is_blank', 'is_ahead', 'redirect', 'cookies', 'set_cookies', 'answered', 'partition', 'agent',
                  'has_cookies')
 
 
@@ -53,6 +53,7 @@ def read_request(entry, headers):
     entry.dest, entry.mode, entry.site, entry.access = (
         sys.intern(headers.first(f'sec-fetch-{name}')) for name in ('dest', 'mode', 'site', 'storage-access'))
     entry.referrer = sys.intern(headers.first('referer'))
+    entry.is_ahead = any(headers.first(name).startswith('prefetch') for name in ('sec-purpose', 'purpose'))
     entry.takes_html = headers.first('accept').startswith('text/html')
     entry.is_preflight = entry.kind == 'preflight' or (
         entry.method == 'OPTIONS' and 'access-control-request-method' in headers)

@@ -1,40 +1,42 @@
 """The word `import`: recordings in, a script and its map out."""
-import json
 import os
 import sys
 
 from . import chromium_log, codes, firefox_log, har, shapes, streams
 from .conversion import Conversion
-from .faults import RECORDING, Fault
+from .faults import READ, RECORDING, Fault
 from .jars import Jar
 from .output import Output
 from .redaction import Redaction
 from .requests import Recording
 
 VERSION = 1
-# The first line of a log is looked for in so many bytes; a HAR may be one line.
-LONGEST_FIRST = 8 << 20
+# What a HAR, or the log in it, begins with.
+OF_HAR = {'log', 'version', 'creator', 'browser', 'pages', 'entries', 'comment'}
+FIRST_BLOCK = 4096
 
 
 def kind_of(path):
     """Which reader takes a file, told by what is in it."""
     with streams.open_file(path) as file:
-        for _ in range(1000):
-            line = file.readline(LONGEST_FIRST).lstrip(b'\xef\xbb\xbf')
-            if not line:
-                return har.File
-            try:
-                value = json.loads(line) if line.strip() else None
-            except (ValueError, RecursionError):
-                return har.File
-            method = shapes.text(shapes.member(value, 'method'))
-            if method.startswith(('network.', 'browsingContext.', 'log.', 'script.')):
-                return firefox_log.Log
-            if method.partition('.')[0] in ('Network', 'Page', 'Target', 'Runtime'):
-                return chromium_log.Log
-            if isinstance(value, dict) and 'log' in value:
-                return har.File
+        name = first_name(file)
+    if name is None or name in OF_HAR:
+        return har.File
+    for value in streams.line_values(path):
+        domain, _, _ = shapes.text(shapes.member(value, 'method')).partition('.')
+        if domain in ('network', 'browsingContext'):
+            return firefox_log.Log
+        if domain in ('Network', 'Page', 'Target'):
+            return chromium_log.Log
     return har.File
+
+
+def first_name(file):
+    """The name of the first member of the object that a file begins with, or None."""
+    try:
+        return next(streams.Reader(file, FIRST_BLOCK).members(), None)
+    except (streams.NotJson, streams.CutOff):
+        return None
 
 
 def read(paths, allow_no_cookies):
@@ -45,7 +47,7 @@ def read(paths, allow_no_cookies):
         try:
             file = kind_of(path)(path, number, recording, allow_no_cookies)
         except OSError as error:
-            raise Fault(streams.READ, f'{path}: {error.strerror}') from None
+            raise Fault(READ, f'{path}: {error.strerror}') from None
         recording.events.extend(file.requests())
     return recording
 

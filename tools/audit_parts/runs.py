@@ -66,13 +66,13 @@ class Program:
         self.path, self.list = path, suffix_list
 
     def call(self, words, text):
-        """What the program prints; where it fails, its line and status are this tool's."""
+        """What the program prints. It tells of its faults, and of a build before it, by itself."""
         try:
-            done = subprocess.run([self.path, *words], input=text, capture_output=True, text=True, encoding='utf-8')
+            done = subprocess.run([self.path, *words], input=text, stdout=subprocess.PIPE, encoding='utf-8', check=False)
         except OSError as error:
             raise Fault(READ, f'{self.path}: {error.strerror}') from None
         if done.returncode:
-            raise Fault(done.returncode, done.stderr.rstrip('\n'))
+            raise Fault(done.returncode if done.returncode > 0 else 128 - done.returncode, None)
         return done.stdout
 
     def replay(self, lines, start):

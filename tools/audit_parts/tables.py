@@ -3,6 +3,7 @@ from . import codes
 from .checking import shown
 from .findings import ONE_JAR, PARTITIONED, sentence
 
+LONGEST_NAME = 40
 HEADS = ('embedded site', 'tops', 'one jar links', 'partitioned links', 'own-partition cookies', 'by grant')
 
 
@@ -13,7 +14,13 @@ def sizes(groups):
 
 def names(site, kind):
     """The names of a site's cookies of this kind, under any top-level site."""
-    return ','.join(sorted({name or '(no name)' for cell in site['tops'].values() for name in cell[kind]})) or '-'
+    found = {short(name) for cell in site['tops'].values() for name in cell[kind]}
+    return ','.join(sorted(found)) or '-'
+
+
+def short(name):
+    """A cookie's name, which may have 4,096 bytes."""
+    return name if 0 < len(name) <= LONGEST_NAME else name[:LONGEST_NAME - 1] + '…' if name else '(no name)'
 
 
 def row(domain, site):

@@ -134,15 +134,28 @@ def went_on(room, true, ended, file):
     return None if room.bytes() == file else 'leaves another store'
 
 
+def first_of(part, deed):
+    """Does that to the first call of this part."""
+    met = []
+
+    def deed_of(call, _):
+        if call.part != part or met:
+            return None
+        met.append(call)
+        return deed
+    return deed_of
+
+
 def told_faults(report, room):
-    """A line of standard error that is not written: the status stands."""
-    for what, deed in (('fails', ('fails', EIO)), ('does nothing', ('answers', 0)), ('is short', ('short', 1)),
-                       ('is interrupted', ('fails', EINTR))):
+    """A line of standard error that is not written, or not at once: the status stands, and no other line is told."""
+    line = b'read fault\n'
+    for what, deed, whole in (('fails', ('fails', EIO), False), ('does nothing', ('answers', 0), False),
+                              ('is short', ('short', 1), True), ('is interrupted', ('fails', EINTR), True)):
         room.put_back()
-        ended = room.traced(['replay', room.folder], lambda call, _, deed=deed: deed if call.part == 'error' else None)
-        stands = ended.status == 6 and ended.met and b'read fault\n'.startswith(ended.err)
-        report.hold('standard error', f'its write {what}',
-                    None if stands else f'ends with {ended.status} and tells {ended.err!r}')
+        ended = room.traced(['replay', room.folder], first_of('error', deed))
+        told = ended.err == line if whole else line.startswith(ended.err)
+        report.hold('standard error', f'its write {what}', None if ended.status == 6 and ended.met and told
+                    else f'ends with {ended.status} and tells {ended.err!r}')
 
 
 def kills(report, room, share):

@@ -1,5 +1,5 @@
 -- Lemmas on tests and on what a result says, which std's Bool and Result files do not have.
-use Rattle.std.proofs.Common.{◌≡◌, ◌⊎◌, inl, inr, Bool, true, false, ◌||◌}
+use Rattle.std.proofs.Common.{◌≡◌, inl, inr, Bool, true, false, ◌||◌}
 use Rattle.std.specs.Prelude.{Result, Ok, Err, OnOk, OnErr}
 use Rattle.agent_base.specs.Answers.{Answers, Decides}
 

@@ -7,9 +7,11 @@
 #![tactic(auto)]
 
 mod refusals;
+mod seconds;
 mod sink;
 mod source;
 
 pub use refusals::{Failed, Fault, Label, NoMemory};
+pub use seconds::{LAST_MOMENT, Seconds};
 pub use sink::{MemSink, Sink, WriteSink, write_all};
 pub use source::{MemSource, ReadAll, ReadSource, Source, read_all};

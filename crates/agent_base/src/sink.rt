@@ -1,12 +1,16 @@
 //! Sinks of bytes, and writing every byte of a text.
-ghost use Rattle.std.specs.Prelude.{◌≡◌, ◌≤◌, ◌<◌, ◌+◌, ◌-◌, ◌++◌, ◌↔◌, ◌⊎◌, ℕ, List, [], Option, Some, None, Ok, Err, IfOk, OnOk, OnErr, IsErr, IsTrue, MatchResult, length, take, min};
+ghost use Rattle.std.specs.Prelude.{◌≡◌, ◌≢◌, ◌≤◌, ◌<◌, ◌+◌, ◌-◌, ◌++◌, ◌↔◌, ◌⊎◌, ℕ, List, [], Option, Some, None, Ok, Err, IfErr, IfOk, OnOk, OnErr, IsErr, IsTrue, MatchResult, length, take, min};
 ghost use Rattle.agent_base.specs.Counts.{HasCause, next_count};
 ghost use Rattle.agent_base.specs.Streams.{Takes, TakesPrefix};
 ghost use Rattle.agent_base.specs.Memory.{SinkView, refuses};
+ghost use Rattle.std.specs.Io.{WritesAtMost};
+ghost use Rattle.std.specs.Io.KnownBytes.{WriteAppends};
+ghost use Rattle.std.specs.IoError.{error_kind};
 
 use crate::{Failed, NoMemory};
 use std::alloc::Global;
-use std::io::Write;
+use std::io;
+use std::io::{ErrorKind, Write};
 use std::marker::Model;
 
 /// Where bytes go, in their order.
@@ -166,9 +170,8 @@ impl<W: Write + Drop> Sink for WriteSink<W> {
     ghost faults = { λ s. s.faults };
 
     // A writer that takes nothing, or more than it was given, is at fault.
-    #[tactic(auto, using(crate::proofs::Adapters::takes_written, crate::proofs::Adapters::takes_nothing))]
     fn write(&mut self, bytes: &[u8]) -> Result<usize, Failed> {
-        match self.writer.write(bytes) {
+        match write_again(&mut self.writer, bytes) {
             Ok(n) if n > 0 && n <= bytes.len() => Ok(n),
             _ => {
                 self.faults = self.faults.saturating_add(1);
@@ -176,4 +179,19 @@ impl<W: Write + Drop> Sink for WriteSink<W> {
             }
         }
     }
+}
+
+// One write, which is made again where a signal interrupts it: an interrupted one took no byte.
+fn write_again<W: Write>(writer: &mut W, bytes: &[u8]) -> io::Result<usize>
+    ensures bound { WritesAtMost result bytes.now }
+    ensures bytes { WriteAppends (W.contents writer.old) (W.contents writer.new) result bytes.now }
+    ensures uninterrupted { IfErr result (λ e. error_kind e ≢ ErrorKind.Interrupted) }
+{
+    'tries: for _ in 0..u64::MAX {
+        match writer.write(bytes) {
+            Err(error) if error.kind() == ErrorKind::Interrupted => {}
+            answer => return answer,
+        }
+    }
+    Err(ErrorKind::TimedOut.into())
 }

@@ -1,12 +1,16 @@
 //! Sources of bytes, and reading one to its end.
-ghost use Rattle.std.specs.Prelude.{◌≡◌, ◌≤◌, ◌<◌, ◌↔◌, ◌++◌, ◌⊎◌, ℕ, List, [], Option, Some, None, Ok, Err, IfOk, IfSome, IsErr, IsErrOf, IsTrue, OnErr, OnOk, MatchResult, length, take, min};
+ghost use Rattle.std.specs.Prelude.{◌≡◌, ◌≢◌, ◌≤◌, ◌<◌, ◌↔◌, ◌++◌, ◌⊎◌, ℕ, List, [], Option, Some, None, Ok, Err, IfErr, IfOk, IfSome, IsErr, IsErrOf, IsTrue, OnErr, OnOk, MatchResult, length, take, min};
 ghost use Rattle.agent_base.specs.Counts.{Rose, HasCause, next_count};
 ghost use Rattle.agent_base.specs.Streams.{Gives, Shortens};
 ghost use Rattle.agent_base.specs.Memory.{SourceView, next_fails};
+ghost use Rattle.std.specs.Io.{ReadsAtMost};
+ghost use Rattle.std.specs.Io.KnownBytes.{ReadConsumes};
+ghost use Rattle.std.specs.IoError.{error_kind};
 
 use crate::{Failed, NoMemory};
 use std::alloc::Global;
-use std::io::Read;
+use std::io;
+use std::io::{ErrorKind, Read};
 use std::marker::Model;
 
 /// Bytes from outside, in their order.
@@ -193,10 +197,9 @@ impl<R: Read + Drop> Source for ReadSource<R> {
     ghost faults = { λ s. s.faults };
 
     // A reader that answers more than the room it was given is at fault.
-    #[tactic(auto, using(crate::proofs::Adapters::gives_read, crate::proofs::Adapters::gives_none, crate::proofs::Adapters::none_left))]
     fn read(&mut self, into: &mut [u8]) -> Result<usize, Failed> {
         let room = into.len();
-        match self.reader.read(into) {
+        match read_again(&mut self.reader, into) {
             Ok(n) if n <= room => Ok(n),
             _ => {
                 self.faults = self.faults.saturating_add(1);
@@ -204,4 +207,20 @@ impl<R: Read + Drop> Source for ReadSource<R> {
             }
         }
     }
+}
+
+// One read, which is made again where a signal interrupts it: an interrupted one gave no byte.
+fn read_again<R: Read>(reader: &mut R, into: &mut [u8]) -> io::Result<usize>
+    ensures room { length into.new ≡ length into.old }
+    ensures bound { ReadsAtMost result into.new }
+    ensures bytes { ReadConsumes (R.remaining reader.old) (R.remaining reader.new) result into.new }
+    ensures uninterrupted { IfErr result (λ e. error_kind e ≢ ErrorKind.Interrupted) }
+{
+    'tries: for _ in 0..u64::MAX {
+        match reader.read(into) {
+            Err(error) if error.kind() == ErrorKind::Interrupted => {}
+            answer => return answer,
+        }
+    }
+    Err(ErrorKind::TimedOut.into())
 }

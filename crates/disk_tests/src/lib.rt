@@ -11,6 +11,8 @@ mod failed_syncs;
 #[cfg(test)]
 mod forgetful_file;
 #[cfg(test)]
+mod interrupted;
+#[cfg(test)]
 mod journals;
 #[cfg(test)]
 mod named_stores;

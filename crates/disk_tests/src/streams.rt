@@ -1,4 +1,5 @@
-//! Calls with ample memory, and faults in mid-stream.
+//! Calls with ample memory, faults in mid-stream, and calls that are interrupted.
+use crate::interrupted::Interrupted;
 use agent_base::{Failed, MemSink, MemSource, ReadAll, ReadSource, WriteSink, read_all, write_all};
 use std::alloc::Global;
 use std::test::Fail;
@@ -98,5 +99,36 @@ fn adapters_pass_bytes_through(rt: HostRuntime) -> Result<(), Fail> {
     assert!(rt; is_read(rt.alloc()));
     let mut sink = WriteSink::new(rt.stderr());
     assert!(rt; write_all(&mut sink, b"written to standard error\n").is_ok());
+    Ok(())
+}
+
+// Whether bytes of std are read to their end where so many calls are interrupted first, and no
+// fault is counted.
+fn is_read_again(alloc: Global, interruptions: u32) -> bool {
+    let mut source = ReadSource::new(Interrupted::new(&b"abc"[..], interruptions));
+    match read_all(alloc, &mut source, 3) {
+        Ok(bytes) => bytes.as_slice() == b"abc".as_slice() && source.faults() == 0,
+        Err(_) => false,
+    }
+}
+
+// What stands in a room of six bytes after `abc` was written to it, where so many calls are
+// interrupted first.
+fn written_again(interruptions: u32) -> Result<[u8; 6], Failed> {
+    let mut room = [b'.'; 6];
+    let mut sink = WriteSink::new(Interrupted::new(&mut room[..], interruptions));
+    write_all(&mut sink, b"abc")?;
+    Ok(room)
+}
+
+#[test]
+fn an_interrupted_call_is_made_again(rt: HostRuntime) -> Result<(), Fail> {
+    for interruptions in [0, 1, 3] {
+        assert!(rt; is_read_again(rt.alloc(), interruptions), "{interruptions}");
+        assert!(rt;
+            written_again(interruptions) == Ok(*b"abc..."),
+            "{interruptions}"
+        );
+    }
     Ok(())
 }

@@ -12,5 +12,6 @@ pub mod MarkLemmas
 mod OrderLemmas
 mod HeaderLemmas
 mod StandardFacts
+mod DropFacts
 mod StoreLemmas
 mod UsedLemmas

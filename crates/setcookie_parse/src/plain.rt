@@ -2,6 +2,7 @@
 //! walk them by recursion, once for each part.
 ghost use Rattle.std.specs.Prelude.{◌≡◌, map, IfOk, pos, ◌≤ℤ◌};
 ghost use Rattle.std.specs.List.{slice_split};
+ghost use Rattle.agent_base.specs.Seconds.{last_moment};
 ghost use Rattle.setcookie_parse.specs.CookieDate.{first_of, time_of, day_of, month_of, year_of};
 ghost use Rattle.setcookie_parse.specs.CookieDate.{tokens_of, cookie_date};
 ghost use Rattle.setcookie_parse.specs.SetCookie.{is_semicolon, set_cookie_text};
@@ -93,7 +94,7 @@ fn tokens_of<'a>(alloc: Global, text: &'a str) -> Result<Vec<&'a [u8]>, AllocErr
 /// What a Set-Cookie text says.
 pub fn parse<'a>(alloc: Global, text: &'a str, now: i64) -> Result<Parsed<'a>, AllocError>
     requires begun { pos 0 ≤ℤ now }
-    requires lasting { now ≤ℤ pos 253402300799 }
+    requires lasting { now ≤ℤ pos last_moment }
     ensures { IfOk result (λ answer. plain_parsed answer ≡ set_cookie_text text.now now) }
 {
     let pieces = pieces_of(alloc, text)?;
@@ -105,7 +106,7 @@ pub fn parse<'a>(alloc: Global, text: &'a str, now: i64) -> Result<Parsed<'a>, A
 
 fn answer_to<'a>(pieces: &[&'a str], now: i64) -> Parsed<'a>
     requires begun { pos 0 ≤ℤ now }
-    requires lasting { now ≤ℤ pos 253402300799 }
+    requires lasting { now ≤ℤ pos last_moment }
     ensures { plain_parsed result ≡ answer_to (map (λ piece. piece.now) pieces.now) now }
 {
     match pieces {

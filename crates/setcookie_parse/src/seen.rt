@@ -4,6 +4,7 @@ ghost use Rattle.std.specs.Prelude.{option_copied, IfSome};
 ghost use Rattle.std.specs.List.{before_first, slice_split, slice_index};
 ghost use Rattle.std.specs.Str.{byte};
 ghost use Rattle.std.specs.Option.{option_and_then};
+ghost use Rattle.agent_base.specs.Seconds.{last_moment};
 ghost use Rattle.setcookie_parse.specs.SetCookie.{is_semicolon, kind_of, attribute_value};
 ghost use Rattle.setcookie_parse.specs.SetCookie.{without_dot, domain_in, path_in, expiry_of};
 ghost use Rattle.setcookie_parse.specs.DateParts.{pieces_after};
@@ -127,7 +128,7 @@ pub fn cookie_from<'a>(
     now: i64,
 ) -> CookieText<'a>
     requires begun { pos 0 ≤ℤ now }
-    requires lasting { now ≤ℤ pos 253402300799 }
+    requires lasting { now ≤ℤ pos last_moment }
     ensures { plain_text result ≡ cookie_from name.now value.now (plain_seen seen.entry) now }
 {
     CookieText {
@@ -182,7 +183,7 @@ fn path_in(value: Option<&str>) -> Option<&str>
 
 fn expiry_of(now: i64, age: Option<u32>, date: Option<i64>) -> Option<i64>
     requires begun { pos 0 ≤ℤ now }
-    requires lasting { now ≤ℤ pos 253402300799 }
+    requires lasting { now ≤ℤ pos last_moment }
     ensures { result ≡ expiry_of now age date }
 {
     match (age, date) {

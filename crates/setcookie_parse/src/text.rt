@@ -1,5 +1,6 @@
 ghost use Rattle.std.specs.Prelude.{◌≡◌, pos, ◌≤ℤ◌, option_copied};
 ghost use Rattle.std.specs.List.{list_any};
+ghost use Rattle.agent_base.specs.Seconds.{last_moment};
 ghost use Rattle.setcookie_parse.specs.SetCookie.{is_control, is_semicolon, set_cookie_text};
 ghost use Rattle.setcookie_parse.specs.SetCookie.{AreSlices};
 ghost use Rattle.setcookie_parse.specs.DateParts.{pieces_after};
@@ -19,7 +20,7 @@ const PAIR_LIMIT: usize = 4096;
 /// is linear in the text. Where several causes drop a text, the first of `DropCause` is told.
 pub fn parse<'a>(text: &'a str, now: i64) -> Parsed<'a>
     requires begun { pos 0 ≤ℤ now }
-    requires lasting { now ≤ℤ pos 253402300799 }
+    requires lasting { now ≤ℤ pos last_moment }
     ensures meaning { plain_parsed result ≡ set_cookie_text text.now now }
     ensures slices { AreSlices text.now (plain_parsed result) }
 {
@@ -40,7 +41,7 @@ pub fn has_control(text: &str) -> bool
 /// The answer to a pair and what the attributes say.
 pub fn answer_of<'a>(pair: &'a str, seen: AttributesSoFar<'a>, now: i64) -> Parsed<'a>
     requires begun { pos 0 ≤ℤ now }
-    requires lasting { now ≤ℤ pos 253402300799 }
+    requires lasting { now ≤ℤ pos last_moment }
     ensures { plain_parsed result ≡ answer_from pair.now (plain_seen seen.entry) now }
 {
     let (name, value) = split_pair(pair);

@@ -10,3 +10,4 @@ pub mod KeyLemmas
 pub mod PlaceLemmas
 pub mod SoundLemmas
 pub mod LawLemmas
+pub mod AboveLemmas

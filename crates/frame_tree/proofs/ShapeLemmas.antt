@@ -308,13 +308,13 @@ there_by : (b : Bool) (f : PlainFrame) (r : Option PlainFrame)
 there_by true f r = refl
 there_by false f r = refl
 
-there : (n : ℕ) (fs : List PlainFrame) → is_some (document_of n fs) ≡ has_frame n fs
-there n [] = refl
-there n (f ∷ fs) =
-    there_by (f.frame == n) f (find (λ g. g.frame == n) fs) ∙ ap (λ b. (f.frame == n) || b) (there n fs)
+pub document_there : (n : ℕ) (fs : List PlainFrame) → is_some (document_of n fs) ≡ has_frame n fs
+document_there n [] = refl
+document_there n (f ∷ fs) =
+    there_by (f.frame == n) f (find (λ g. g.frame == n) fs) ∙ ap (λ b. (f.frame == n) || b) (document_there n fs)
 
 pub has-document : (n : ℕ) (fs : List PlainFrame) (d : PlainDocument) → Some d ≡ document_of n fs → has_frame n fs ≡ true
-has-document n fs d is = sym (there n fs) ∙ ap is_some (sym is)
+has-document n fs d is = sym (document_there n fs) ∙ ap is_some (sym is)
 
 kept_by : (b : Bool) (h : PlainFrame → PlainFrame) (f : PlainFrame) (fs : List PlainFrame)
     → cond b (h f ∷ map h fs) (map h fs) ≡ map h (cond b (f ∷ fs) fs)

@@ -1,14 +1,14 @@
 //! Documents.
 ghost use Rattle.std.specs.Prelude.{◌≡◌, IfOk, option_map, option_copied};
-ghost use Rattle.origin_site.specs.Plain.{plain_address, plain_origin};
-ghost use Rattle.origin_site.specs.Site.{site_of_origin};
+ghost use Rattle.origin_site.specs.Plain.{plain_address, plain_origin, plain_site};
+ghost use Rattle.origin_site.specs.Site.{site_of_address, site_of_origin};
 ghost use Rattle.frame_tree.specs.Plain.{plain_document, plain_sandbox, plain_chain_site};
 ghost use Rattle.frame_tree.specs.Document.{is_active_by, loaded, loaded_below, loaded_instead};
 ghost use Rattle.frame_tree.specs.Document.{origin_under, same_document_origin};
 
 use crate::Sandbox;
 use agent_base::NoMemory;
-use origin_site::{Address, Origin, Site, same_origin, site_of};
+use origin_site::{Address, Origin, Site, domain_of, same_origin, site_of};
 use std::alloc::Global;
 use suffix_list::SuffixList;
 
@@ -102,6 +102,22 @@ impl Document {
             mark: None,
         })
     }
+}
+
+/// The site that a load of an address reaches: that of the address's origin, which is not made.
+pub fn site_of_address(
+    alloc: Global,
+    address: &Address,
+    list: &SuffixList,
+) -> Result<Site, NoMemory>
+    ensures site { let target = site_of_address list.now.rules (plain_address address.now) in
+        IfOk result (λ site. plain_site site ≡ target) }
+{
+    let host = domain_of(address.host.as_str(), address.ip, list);
+    Ok(Site {
+        https: address.https,
+        host: String::from_str(alloc, host)?,
+    })
 }
 
 fn origin_under(

@@ -16,6 +16,6 @@ mod sets;
 mod tab;
 
 pub use by_number::ByNumber;
-pub use document::Document;
+pub use document::{Document, site_of_address};
 pub use sandbox::Sandbox;
 pub use tab::{NoFrame, Tab, TreeFault};

@@ -1,17 +1,18 @@
 //! Tabs.
 ghost use Rattle.std.specs.Prelude.{◌≡◌, ◌≢◌, ◌==◌, ◌++◌, ◌∷◌, [], map, IfOk, OnErr, Err, Some};
-ghost use Rattle.std.specs.Prelude.{true};
+ghost use Rattle.std.specs.Prelude.{true, length, take, ◌-◌};
 ghost use Rattle.std.specs.Prelude.{option_copied, option_map, if◌then◌else◌};
 ghost use Rattle.agent_base.specs.Answers.{Answers};
 ghost use Rattle.origin_site.specs.Plain.{plain_address, plain_site};
-ghost use Rattle.storage_key.specs.Plain.{plain_key};
+ghost use Rattle.storage_key.specs.Context.{context_of};
+ghost use Rattle.storage_key.specs.Plain.{plain_context, plain_key};
 ghost use Rattle.frame_tree.specs.Calls.{IsDoneAt, activated, added, begins_with_site, consumed};
 ghost use Rattle.frame_tree.specs.Calls.{flagged, is_active, is_https_chain, navigated, opened};
 ghost use Rattle.frame_tree.specs.Calls.{sites_of, with_document, without};
-ghost use Rattle.frame_tree.specs.Keys.{is_first_at, key_of_frame};
+ghost use Rattle.frame_tree.specs.Keys.{is_first_at, key_of_frame, sites};
 ghost use Rattle.frame_tree.specs.Plain.{plain_chain_site, plain_document, plain_sandbox};
-ghost use Rattle.frame_tree.specs.Tree.{IsChain, IsLastFrame, IsTree, chain_of, document_of};
-ghost use Rattle.frame_tree.specs.Tree.{top_site};
+ghost use Rattle.frame_tree.specs.Tree.{IsChain, IsLastFrame, IsTree, chain_of};
+ghost use Rattle.frame_tree.specs.Tree.{document_of, has_frame, top_site};
 
 use crate::document::is_active_by;
 use crate::frames::{
@@ -26,7 +27,7 @@ use agent_base::NoMemory;
 use origin_site::{Address, Site};
 use std::alloc::Global;
 use std::marker::Model;
-use storage_key::StorageKey;
+use storage_key::{Context, StorageKey};
 use suffix_list::SuffixList;
 
 /// There is no frame of this number.
@@ -158,6 +159,21 @@ impl Tab {
             return Err(TreeFault::NoFrame);
         }
         Ok(sites_of(self.alloc, self.frames.as_slice(), frame)?)
+    }
+
+    /// The context of a load below the parent of a frame: by the frame's chain without its own
+    /// document.
+    pub fn context_above(&self, frame: u8, target: &Site) -> Result<Context, NoMemory>
+        requires there { has_frame frame self.now ≡ true }
+        ensures context { let chain = chain_of frame self.now in
+            let above = sites (take (length chain - 1) chain) in
+            IfOk result (λ context. plain_context context
+            ≡ context_of above (plain_site target.now)) }
+    {
+        match self.chain(frame) {
+            Ok(chain) => Ok(Context::of(above(chain.as_slice()), target)),
+            Err(_) => Err(NoMemory),
+        }
     }
 
     /// Whether a frame is there and each document from the top to it has an https address.
@@ -293,4 +309,11 @@ impl Tab {
             alloc: self.alloc,
         })
     }
+}
+
+// A chain without its last document.
+fn above(chain: &[Option<Site>]) -> &[Option<Site>]
+    ensures { result.now ≡ take (length chain.now - 1) chain.now }
+{
+    &chain[..chain.len().saturating_sub(1)]
 }

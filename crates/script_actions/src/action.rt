@@ -1,5 +1,6 @@
 //! What a line asks for.
 ghost use Rattle.std.specs.Prelude.{◌≡◌, IfOk, map, option_map, string_bytes};
+ghost use Rattle.script_actions.specs.Labels.{label_of};
 ghost use Rattle.script_actions.specs.ActionNames.{action_name};
 ghost use Rattle.script_actions.specs.Plain.{action_of, head_field_of};
 
@@ -184,6 +185,38 @@ impl Action {
             Action::Estimate { .. } => "estimate",
             Action::Persist { .. } => "persist",
             Action::Evict { .. } => "evict",
+        }
+    }
+
+    /// The document that the action names, if it names one.
+    pub fn label(&self) -> Option<Label>
+        ensures label { result ≡ label_of (action_of self.now) }
+    {
+        match self {
+            Action::Tick { .. }
+            | Action::Open { .. }
+            | Action::Close { .. }
+            | Action::Go { .. }
+            | Action::Evict { .. } => None,
+            Action::Frame { at, .. }
+            | Action::Nav { at, .. }
+            | Action::Drop { at }
+            | Action::Click { at }
+            | Action::Fetch { at, .. }
+            | Action::Set { at, .. }
+            | Action::Get { at, .. }
+            | Action::Del { at, .. }
+            | Action::Clear { at, .. }
+            | Action::Len { at, .. }
+            | Action::Key { at, .. }
+            | Action::Events { at }
+            | Action::Cookie { at }
+            | Action::SetCookie { at, .. }
+            | Action::Has { at }
+            | Action::Request { at, .. }
+            | Action::Persisted { at }
+            | Action::Estimate { at }
+            | Action::Persist { at, .. } => Some(*at),
         }
     }
 

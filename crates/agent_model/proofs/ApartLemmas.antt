@@ -5,7 +5,6 @@ use Rattle.agent_base.specs.declared.refusals.Label.{Label}
 use Rattle.suffix_list.specs.Suffix.{Rule}
 use Rattle.origin_site.specs.Site.{PlainSite}
 use Rattle.storage_key.specs.Key.{PlainKey}
-use Rattle.frame_tree.specs.Calls.{is_https_chain}
 use Rattle.frame_tree.specs.declared.tab.TreeFault.{TreeFault}
 use Rattle.frame_tree.specs.Document.{PlainDocument}
 use Rattle.frame_tree.specs.Keys.{key_of_document}
@@ -85,10 +84,8 @@ persist_by_apart true granted asker cells held = refl
 persist_by_apart false true asker cells held = refl
 persist_by_apart false false asker cells held = refl
 
-pub persist_apart : (tab : PlainTab) (answer : Prompt) (asker : Keyed) → IsApart (persist tab answer asker)
-persist_apart tab answer asker cells held =
-    either (is_https_chain asker.at.frame tab.frames) (persist_by (is_persistent asker.key held) (is_grant answer) asker) (answers (Plain (codes "insecure")))
-    (persist_by_apart (is_persistent asker.key held) (is_grant answer) asker) (λ cells held. refl) cells held
+pub persist_apart : (answer : Prompt) (asker : Keyed) → IsApart (persist answer asker)
+persist_apart answer asker cells held = persist_by_apart (is_persistent asker.key held) (is_grant answer) asker cells held
 
 -- ---- frames and queues
 

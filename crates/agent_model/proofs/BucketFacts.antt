@@ -21,6 +21,7 @@ use Rattle.agent_model.specs.Partition.{Areas, Holdings, no_holdings, area_of}
 use Rattle.row_changes.specs.Change.{AreaClear, SetMode}
 use Rattle.agent_model.specs.Effects.{SharedCells, no_shared_cells, answers, changes_to}
 use Rattle.agent_model.specs.Changes.{clears}
+use Rattle.agent_model.specs.Documents.{in_secure}
 use Rattle.agent_model.specs.Buckets.{is_persistent, made_persistent, persist_by, persist, is_evicted, areas_taken, evict}
 use Rattle.agent_model.proofs.KeptLemmas as kept
 use Rattle.agent_model.proofs.StandardFacts.{address, site, a, b, widget, widget_key}
@@ -32,7 +33,7 @@ use Rattle.agent_model.proofs.StorageFacts.{shows_a, key_a, writer, pairs}
 abbrev plain_http : PlainAddress
 plain_http = record { text = codes "http://a.test/"; https = false; ip = false; host = a; port = 80; path = codes "/" }
 
-insecure : (cells : SharedCells) (held : Holdings) → persist (made_tab 1 (opened [] plain_http) None None) Grant writer cells held ≡ answers (Plain (codes "insecure")) cells held
+insecure : (cells : SharedCells) (held : Holdings) → in_secure (made_tab 1 (opened [] plain_http) None None) (persist Grant) writer cells held ≡ answers (Plain (codes "insecure")) cells held
 insecure cells held = refl
 
 -- a grant makes a bucket persistent, which is a row change; without one it stays as it is
@@ -40,13 +41,13 @@ best_effort : is_persistent key_a no_holdings ≡ false
 unfolding no_holdings
 best_effort = ap is_some (get-empty key_order key_a)
 
-granted : persist (shows_a 1) Grant writer no_shared_cells no_holdings ≡ changes_to (SetMode key_a ∷ []) (Truth true) no_shared_cells (made_persistent key_a no_holdings)
+granted : in_secure (shows_a 1) (persist Grant) writer no_shared_cells no_holdings ≡ changes_to (SetMode key_a ∷ []) (Truth true) no_shared_cells (made_persistent key_a no_holdings)
 granted = ap (λ before. persist_by before true writer no_shared_cells no_holdings) best_effort
 
-denied : persist (shows_a 1) Deny writer no_shared_cells no_holdings ≡ answers (Truth false) no_shared_cells no_holdings
+denied : in_secure (shows_a 1) (persist Deny) writer no_shared_cells no_holdings ≡ answers (Truth false) no_shared_cells no_holdings
 denied = ap (λ before. persist_by before false writer no_shared_cells no_holdings) best_effort
 
-dismissed : persist (shows_a 1) Dismiss writer no_shared_cells no_holdings ≡ answers (Truth false) no_shared_cells no_holdings
+dismissed : in_secure (shows_a 1) (persist Dismiss) writer no_shared_cells no_holdings ≡ answers (Truth false) no_shared_cells no_holdings
 dismissed = ap (λ before. persist_by before false writer no_shared_cells no_holdings) best_effort
 
 -- a persistent one stays persistent whatever the answer
@@ -56,7 +57,7 @@ kept_a = made_persistent key_a no_holdings
 persistent : is_persistent key_a kept_a ≡ true
 persistent = ap is_some (get-insert key_order_total no_holdings.persistent key_a tt key_a)
 
-denied_late : persist (shows_a 1) Deny writer no_shared_cells kept_a ≡ answers (Truth true) no_shared_cells kept_a
+denied_late : in_secure (shows_a 1) (persist Deny) writer no_shared_cells kept_a ≡ answers (Truth true) no_shared_cells kept_a
 denied_late = ap (λ before. persist_by before false writer no_shared_cells kept_a) persistent
 
 -- ---- evict

@@ -20,11 +20,13 @@ use Rattle.agent_model.specs.CookieUse.{CookieUse, consulted_by}
 use Rattle.agent_model.specs.CookieUses.{fetch_use, frame_use, nav_use, script_use}
 use Rattle.agent_model.specs.Cookies.{read_cookies, request, set_cookie}
 use Rattle.agent_model.specs.Frames.{on_frames, frames_added, frames_navigated, refused_by}
+use Rattle.agent_model.specs.Buckets.{persist}
 use Rattle.agent_model.specs.SiteStep.{act_in}
 use Rattle.agent_model.specs.Consults.{by_script, names_in, unless_refused, where_there}
 use Rattle.agent_model.proofs.ApartLemmas.{IsApart, with_cells, clear_apart, click_apart, drop_apart, events_apart, has_apart, key_apart, persist_apart, remove_apart, request_apart, set_apart}
 use Rattle.agent_model.proofs.CookieCellsLemmas.{none_left}
 use Rattle.agent_model.proofs.CookieLemmas.{IsLocal, among, read_local, request_local, set_local}
+use Rattle.agent_model.proofs.SecureLemmas.{secure_by}
 
 -- an effect that looks at no shared cell
 pub apart_local : (does : Effect) → IsApart does → IsLocal [] does
@@ -85,4 +87,4 @@ module _ (rules : List Rule) (now : ℕ) (site : PlainSite) where
     act_local Events = apart_local _ (events_apart at tab)
     act_local Persisted = keyed_apart _ (λ reader cells held. refl)
     act_local Estimate = keyed_apart _ (λ reader cells held. refl)
-    act_local (Persist answer) = keyed_apart _ (persist_apart tab answer)
+    act_local (Persist answer) = keyed_apart _ (λ asker. secure_by IsApart tab (persist answer) asker (λ cells held. refl) (persist_apart answer asker))

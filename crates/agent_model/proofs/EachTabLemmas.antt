@@ -12,7 +12,6 @@ use Rattle.suffix_list.specs.Suffix.{Rule}
 use Rattle.origin_site.specs.Address.{PlainAddress}
 use Rattle.origin_site.specs.Site.{PlainSite}
 use Rattle.storage_key.specs.Key.{PlainKey}
-use Rattle.frame_tree.specs.Calls.{is_https_chain}
 use Rattle.frame_tree.specs.declared.tab.TreeFault.{TreeFault}
 use Rattle.frame_tree.specs.Document.{PlainDocument}
 use Rattle.frame_tree.specs.Keys.{key_of_document}
@@ -29,20 +28,21 @@ use Rattle.script_actions.specs.declared.words.Prompt.{Prompt}
 use Rattle.reply_lines.specs.Reply.{Plain}
 use Rattle.script_actions.specs.Action as script
 use Rattle.script_actions.specs.Action.{DocumentAction, Frame, Nav, Drop, Click, Fetch, SetCookie, Set, Get, Del, Clear, Len, Key, Has, Request, Persisted, Estimate, Persist}
+use Rattle.script_actions.specs.ActionFacts.{facts_of}
 use Rattle.agent_model.specs.Partition.{Holdings, tab_named, with_area}
 use Rattle.agent_model.specs.Effects.{SharedCells, Done, Effect, answers, ok}
 use Rattle.agent_model.specs.CookieUses.{fetch_use, frame_use, nav_use}
 use Rattle.agent_model.specs.Cookies.{read_cookies, request, set_cookie}
 use Rattle.agent_model.specs.Frames.{on_frames, frames_added, frames_navigated, frames_removed, frames_clicked}
-use Rattle.agent_model.specs.Documents.{Keyed, by_document, with_document, by_key, with_key, told_tab}
+use Rattle.agent_model.specs.Documents.{Keyed, by_document, with_document, by_key, in_secure, with_key, told_tab}
 use Rattle.agent_model.specs.AreaActions.{pairs_of, change_event, write, set_by, set_item, remove_by, remove_item, clear_area, get_item, get_name, get_length}
 use Rattle.agent_model.specs.Buckets.{is_persistent, is_grant, get_mode, get_usage, persist_by, persist}
 use Rattle.agent_model.specs.Queues.{with_taken, take_queue, take_events}
 use Rattle.agent_model.specs.StorageAccess.{access_facts, answer_of, decision_word, done_by, embedded_site, keeps_grant, outcome_of}
-use Rattle.agent_model.specs.Groups.{is_request}
 use Rattle.agent_model.specs.SiteStep.{act_in}
 use Rattle.agent_model.proofs.HoldingsLemmas.{with_area_tabs}
 use Rattle.agent_model.proofs.KeptLemmas as kept
+use Rattle.agent_model.proofs.SecureLemmas.{secure_by}
 
 -- this holds of each number and its tab, open or not
 abbrev pub OfEachTab : (ℕ → Option PlainTab → Type 0) → Holdings → Type 0
@@ -117,17 +117,13 @@ module _ (Q : ℕ → Option PlainTab → Type 0) (of_frames : IsOfFrames Q) whe
     remove_each (Some before) kind writer name =
         write_each kind writer (area_remove name (pairs_of kind writer held)) (change_event kind writer (Some name) (Some before) None)
 
-    persist_each : (tab : PlainTab) (answer : Prompt) (asker : Keyed) → Stays (persist tab answer asker cells held)
-    persist_each tab answer asker = at (is_https_chain asker.at.frame tab.frames)
+    persist_each : (answer : Prompt) (asker : Keyed) → Stays (persist answer asker cells held)
+    persist_each answer asker = by (is_persistent asker.key held) (is_grant answer)
       where
         by : (before granted : Bool) → Stays (persist_by before granted asker cells held)
         by true granted = all
         by false true = all
         by false false = all
-
-        at : (b : Bool) → Stays (cond b (persist_by (is_persistent asker.key held) (is_grant answer) asker cells held) (answers (Plain (codes "insecure")) cells held))
-        at true = by (is_persistent asker.key held) (is_grant answer)
-        at false = all
 
     module _ (at : Label) (tab : PlainTab) where
       with_document_each : (action : PlainDocument → Effect) → ((document : PlainDocument) → Stays (action document cells held)) → Stays (with_document at tab action cells held)
@@ -174,7 +170,7 @@ module _ (Q : ℕ → Option PlainTab → Type 0) (of_frames : IsOfFrames Q) whe
 
         -- ---- every action
 
-        pub act_each : (rules : List Rule) (now : ℕ) (site : PlainSite) (action : DocumentAction) → Keeps Q rules now at tab (is_request action) → Stays (act_in rules now site at action tab cells held)
+        pub act_each : (rules : List Rule) (now : ℕ) (site : PlainSite) (action : DocumentAction) → Keeps Q rules now at tab ((facts_of action).requests) → Stays (act_in rules now site at action tab cells held)
         act_each rules now site (Frame parent url sandbox deny head) keeps =
             frames_each None (λ frames. request rules now (frame_use rules site parent tab.frames url) head) (frames_added rules at parent url sandbox deny tab.frames) (keeps.added parent url sandbox deny)
             (λ frames more is. is)
@@ -203,4 +199,6 @@ module _ (Q : ℕ → Option PlainTab → Type 0) (of_frames : IsOfFrames Q) whe
         act_each rules now site script.Events keeps = events_each
         act_each rules now site Persisted keeps = with_key_each get_mode (λ reader. all)
         act_each rules now site Estimate keeps = with_key_each get_usage (λ reader. all)
-        act_each rules now site (Persist answer) keeps = with_key_each (persist tab answer) (persist_each tab answer)
+        act_each rules now site (Persist answer) keeps =
+            with_key_each (in_secure tab (persist answer))
+            (λ asker. secure_by (λ does. Stays (does cells held)) tab (persist answer) asker all (persist_each answer asker))

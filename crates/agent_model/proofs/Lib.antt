@@ -3,6 +3,8 @@ pub mod KeptLemmas
 -- What writes and copies leave.
 pub mod HoldingsLemmas
 pub mod SessionLemmas
+-- An action in secure contexts alone.
+pub mod SecureLemmas
 -- The cells that sites share.
 pub mod CookieCellsLemmas
 pub mod ApartLemmas
@@ -12,6 +14,8 @@ pub mod CookieActionLemmas
 -- What holds of the frames of each tab.
 pub mod TopKeptLemmas
 pub mod EachTabLemmas
+-- Which documents go, and what they leave.
+pub mod LeavingLemmas
 -- The law.
 pub mod Isolated
 mod NoCookieLemmas
@@ -36,3 +40,4 @@ mod StorageAccessFacts
 pub mod WidgetLemmas
 pub mod GrantRunFacts
 mod GrantGroupFacts
+mod RuleFacts

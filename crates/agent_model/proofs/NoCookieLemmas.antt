@@ -17,6 +17,7 @@ use Rattle.script_actions.specs.declared.words.Method.{Method}
 use Rattle.script_actions.specs.Action.{DocumentAction, HeadField, Frame, Nav, Drop, Click, Fetch, Set, Get, Del, Clear, Len, Key}
 use Rattle.script_actions.specs.Action.{Events, Cookie, SetCookie, Has, Request, Persisted, Estimate, Persist}
 use Rattle.script_actions.specs.Action.{PlainAction, Tick, Open, Close, Go, Evict, Act}
+use Rattle.script_actions.specs.ActionFacts.{facts_of}
 use Rattle.agent_model.specs.CookieCells.{Cookies, Domain, domain_order}
 use Rattle.agent_model.specs.PartitionedCells.{partitioned_order}
 use Rattle.agent_model.specs.Partition.{Holdings, Partition, tab_named, with_tab}
@@ -31,7 +32,7 @@ use Rattle.agent_model.specs.SiteEvent.{Acts, Closes}
 use Rattle.agent_model.specs.SiteStep.{act, act_in, close_at, site_step}
 use Rattle.agent_model.specs.Sessions.{show}
 use Rattle.agent_model.specs.Lines.{AgentWorld, SiteOccurrence, Starter, going, main_event, occurs, opener_of, opening, site_at}
-use Rattle.agent_model.specs.StoresNone.{ActsWithout, StoresNone}
+use Rattle.agent_model.specs.StoresNone.{GivesNone, StoresNone}
 use Rattle.agent_model.proofs.CookieCellsLemmas.{get_merge, get_none, get_restrict, get_set, none_left, same_cells}
 use Rattle.agent_model.proofs.CookieActionLemmas.{act_local}
 use Rattle.agent_model.proofs.CookieLemmas.{IsLocal}
@@ -98,7 +99,7 @@ module _ (rules : List Rule) (now : ℕ) where
         by None = refl
         by (Some key) = refl
 
-    act_none : (action : DocumentAction) → ActsWithout action → LeavesNone (act_in rules now site at action tab)
+    act_none : (action : DocumentAction) → GivesNone (facts_of action).stores → LeavesNone (act_in rules now site at action tab)
     act_none (Frame parent url sandbox deny head) none = frames_none at.tab tab None (frame_use rules site parent tab.frames url) head (frames_added rules at parent url sandbox deny tab.frames) none
     act_none (Nav url by_self method head) none = frames_none at.tab tab (Some at.frame) (nav_use rules site at.frame tab.frames url by_self method) head (frames_navigated rules at url by_self tab.frames) none
     act_none (Fetch url method head) none = fetch_none (fetch_use rules site at.frame tab.frames url method) head (document_of at.frame tab.frames) none
@@ -151,7 +152,7 @@ module _ (rules : List Rule) (w : AgentWorld) where
       by own None = refl
       by own (Some closed) = refl
 
-  acts_none : (at : Label) (action : DocumentAction) (here : Option PlainSite) → ActsWithout action → MainLeavesNone (option_map (occurs w (Acts at action)) here)
+  acts_none : (at : Label) (action : DocumentAction) (here : Option PlainSite) → GivesNone (facts_of action).stores → MainLeavesNone (option_map (occurs w (Acts at action)) here)
   unfolding site_step
   acts_none at action None none = tt
   acts_none at action (Some here) none = λ own. by own (tab_named at.tab own.held)

@@ -25,7 +25,8 @@ use Rattle.agent_model.specs.Consults.{names_at}
 use Rattle.agent_model.specs.Lines.{AgentWorld, SiteOccurrence, Starter, going, main_event, occurs, opener_of, opening, site_at, timed}
 use Rattle.agent_model.specs.SideEvents.{closes, copies, side_event, where_so}
 use Rattle.agent_model.specs.TheMachine.{machine, beginning}
-use Rattle.agent_model.specs.Groups.{AskNone, EachStandsApart, asks_access, group_of, is_request}
+use Rattle.script_actions.specs.ActionFacts.{facts_of}
+use Rattle.agent_model.specs.Groups.{AskNone, EachStandsApart, asks_access, group_of}
 use Rattle.agent_model.proofs.EachTabLemmas.{OfEachTab, act_each, each_changed}
 use Rattle.agent_model.proofs.OwnLemmas.{AreOf, none_of, others_own, within_at, within_own}
 use Rattle.agent_model.proofs.TopKeptLemmas.{opened_top}
@@ -41,7 +42,7 @@ module _ (rules : List Rule) where
   -- an event of a site that leaves it so: it is no request for storage access, and what arrives is
   -- of the site
   abbrev AsksNone : PlainSite → SiteEvent → Type 0
-  AsksNone s (Acts at action) = is_request action ≡ false
+  AsksNone s (Acts at action) = (facts_of action).requests ≡ false
   AsksNone s (Arrives load tab url method same_site head) = site_of_address rules url ≡ s
   AsksNone s (Leaves tab) = Unit {0}
   AsksNone s (Copies from to) = Unit {0}
@@ -53,13 +54,13 @@ module _ (rules : List Rule) where
   unfolding site_step
   step_unasked s p cells e none all = by e.event none
     where
-      by_act : (at : Label) (action : DocumentAction) → is_request action ≡ false → (tab : Option PlainTab) → tab_named at.tab p.held ≡ tab
+      by_act : (at : Label) (action : DocumentAction) → (facts_of action).requests ≡ false → (tab : Option PlainTab) → tab_named at.tab p.held ≡ tab
           → OfEachTab (IsUnaskedTab rules s) (act rules e.moment at action tab cells p).partition.held
       by_act at action asks None found = all
       by_act at action asks (Some tab) found =
           let own : IsUnaskedTab rules s at.tab (Some tab) = subst (IsUnaskedTab rules s at.tab) found (all at.tab) in
           act_each (IsUnaskedTab rules s) (of_frames rules s) cells p.held all at tab found rules e.moment p.site action
-          (unasked_keeps rules s at tab own.0 own.1 own.2 e.moment (is_request action) asks)
+          (unasked_keeps rules s at tab own.0 own.1 own.2 e.moment ((facts_of action).requests) asks)
 
       by_close : (number : ℕ) (tab : Option PlainTab) → OfEachTab (IsUnaskedTab rules s) (close_at number tab cells p).partition.held
       by_close number None = each_changed (IsUnaskedTab rules s) p.held number None tt all
@@ -128,7 +129,7 @@ module _ (rules : List Rule) where
     close_asks tab None = tt
     close_asks tab (Some here) = tt
 
-    act_asks : (at : Label) (action : DocumentAction) → is_request action ≡ false → (here : Option PlainSite) → MainAsksNone (option_map (occurs w (Acts at action)) here)
+    act_asks : (at : Label) (action : DocumentAction) → (facts_of action).requests ≡ false → (here : Option PlainSite) → MainAsksNone (option_map (occurs w (Acts at action)) here)
     act_asks at action none None = tt
     act_asks at action none (Some here) = none
 

@@ -2,22 +2,18 @@
 -- Source: Storage Standard, "Persistence permission" (`persist`, `persisted`), "Usage and quota"
 -- (`estimate`), "Storage pressure".
 -- Our own choice: `persist` alone asks for a secure context, where the standard has each of the
--- three in one; a context is secure where each document from the top to it is https. The answer of
--- a prompt stands in the script. An estimate counts the local area alone. An eviction is asked for,
--- and takes the local areas of all best-effort buckets under a site at once; no document is told.
--- Its count has 32 bits and stays at its last value.
+-- three in one. The answer of a prompt stands in the script. An estimate counts the local area
+-- alone. An eviction is asked for, and takes the local areas of all best-effort buckets under a
+-- site at once; no document is told. Its count has 32 bits and stays at its last value.
 use Rattle.std.specs.Prelude.{ℕ, ◌-◌, ◌^◌, Bool, true, false, not, ◌&&◌, min, [], ◌∷◌}
-use Rattle.std.specs.Prelude.{codes, if◌then◌else◌}
 use Rattle.std.specs.FinMap as finite
 use Rattle.origin_site.specs.Site.{PlainSite}
 use Rattle.storage_key.specs.Key.{PlainKey}
-use Rattle.frame_tree.specs.Calls.{is_https_chain}
 use Rattle.local_area.specs.Area.{area_weight}
 use Rattle.storage_events.specs.declared.event.AreaKind.TheVariants.{Local}
-use Rattle.live_state.specs.Tabs.{PlainTab}
 use Rattle.script_actions.specs.declared.words.Prompt.{Prompt}
 use Rattle.script_actions.specs.declared.words.Prompt.TheVariants as prompt
-use Rattle.reply_lines.specs.Reply.{Plain, Truth, Estimate, Cleared}
+use Rattle.reply_lines.specs.Reply.{Truth, Estimate, Cleared}
 use Rattle.row_changes.specs.Change.{SetMode}
 use Rattle.agent_model.specs.Partition.{Areas, Holdings, is_under}
 use Rattle.agent_model.specs.Effects.{Effect, answers, changes_to}
@@ -57,12 +53,10 @@ persist_by false true asker cells held =
     changes_to (SetMode asker.key ∷ []) (Truth true) cells (made_persistent asker.key held)
 persist_by false false asker cells held = answers (Truth false) cells held
 
--- `persist`, which is for secure contexts alone
-abbrev pub persist : PlainTab → Prompt → Keyed → Effect
-persist tab answer asker cells held =
-    if is_https_chain asker.at.frame tab.frames
-    then persist_by (is_persistent asker.key held) (is_grant answer) asker cells held
-    else answers (Plain (codes "insecure")) cells held
+-- `persist`, which is done in secure contexts alone
+abbrev pub persist : Prompt → Keyed → Effect
+persist answer asker cells held =
+    persist_by (is_persistent asker.key held) (is_grant answer) asker cells held
 
 -- ---- eviction
 

@@ -1,11 +1,14 @@
 -- The document that a line acts for: its storage key, and who hears of what it writes.
 -- Source: Storage Standard, "Storage keys" (obtain a storage key: failure for an opaque origin);
--- HTML, "Web storage", the broadcast of a storage object.
+-- Secure Contexts, "Is an environment settings object contextually secure?"; HTML, "Web storage",
+-- the broadcast of a storage object.
+-- Our own choice: a context is secure where each document from the top to it is https.
 use Rattle.std.specs.Prelude.{ℕ, Bool, false, map, Option, Some, None, codes, if◌then◌else◌}
 use Rattle.std.specs.Ordering.{eq_by_cmp}
 use Rattle.std.specs.FinMap as finite
 use Rattle.agent_base.specs.declared.refusals.Label.{Label}
 use Rattle.storage_key.specs.Key.{PlainKey, key_order}
+use Rattle.frame_tree.specs.Calls.{is_https_chain}
 use Rattle.frame_tree.specs.Document.{PlainDocument}
 use Rattle.frame_tree.specs.Tree.{document_of}
 use Rattle.storage_events.specs.declared.event.AreaKind.{AreaKind}
@@ -44,6 +47,14 @@ abbrev pub with_key : Label → PlainTab → (Keyed → Effect) → Effect
 with_key at tab action =
     with_document at tab (λ document.
     by_key at document (key_of_document at.frame tab.frames document) action)
+
+-- An action by the storage key of a document in this tab, and the refusal where that is in no
+-- secure context. Within `with_key` it is refused for want of a document first, then for want of a
+-- key, then here, and then for its own reasons.
+abbrev pub in_secure : PlainTab → (Keyed → Effect) → Keyed → Effect
+in_secure tab action asker cells held =
+    if is_https_chain asker.at.frame tab.frames then action asker cells held
+    else answers (Plain (codes "insecure")) cells held
 
 -- ---- who hears
 

@@ -15,11 +15,11 @@ use Rattle.frame_tree.specs.Sandbox.{sandbox_of}
 use Rattle.frame_tree.specs.Tree.{PlainFrame, has_frame}
 use Rattle.frame_tree.specs.Calls.{added, navigated, without, activated}
 use Rattle.origin_site.specs.Site.{PlainSite}
-use Rattle.live_state.specs.Tabs.{PlainTab, made_tab}
+use Rattle.live_state.specs.Tabs.{PlainTab}
 use Rattle.script_actions.specs.declared.words.Method.{Method}
 use Rattle.script_actions.specs.Action.{HeadField}
 use Rattle.reply_lines.specs.Reply.{PlainBody, Plain}
-use Rattle.agent_model.specs.Partition.{with_tab}
+use Rattle.agent_model.specs.TabChanges.{Framed, tab_becomes}
 use Rattle.agent_model.specs.Effects.{Effect, answers, ok}
 use Rattle.agent_model.specs.CookieUses.{frame_use, is_granted_nav, nav_use}
 use Rattle.agent_model.specs.Cookies.{request}
@@ -37,7 +37,7 @@ refused_by fault.NoMemory = Plain []
 abbrev pub on_frames : ℕ → PlainTab → (replaced : Option ℕ) → (List PlainFrame → Effect)
     → Result (List PlainFrame) TreeFault → Effect
 on_frames number tab replaced next (Ok frames) cells held =
-    next frames cells (with_tab number (made_tab number frames replaced (Some tab)) held)
+    next frames cells (tab_becomes number (Framed frames replaced (Some tab)) held)
 on_frames number tab replaced next (Err why) cells held = answers (refused_by why) cells held
 
 -- the frames afterwards, where this one is among them

@@ -10,9 +10,7 @@ use Rattle.unwinding.specs.LeftOut.{Group, IsGroup, lines_without}
 use Rattle.suffix_list.specs.Suffix.{Rule}
 use Rattle.origin_site.specs.Site.{PlainSite}
 use Rattle.script_actions.specs.Action.{PlainAction, Tick, Open, Close, Go, Evict, Act}
-use Rattle.script_actions.specs.Action.{DocumentAction, Frame, Nav, Drop, Click, Fetch, Set, Get, Del}
-use Rattle.script_actions.specs.Action.{Clear, Len, Key, Events, Cookie, SetCookie, Has, Request}
-use Rattle.script_actions.specs.Action.{Persisted, Estimate, Persist}
+use Rattle.script_actions.specs.ActionFacts.{facts_of}
 use Rattle.agent_model.specs.CookieCells.{Domain}
 use Rattle.agent_model.specs.Lines.{Rest, site_at}
 use Rattle.agent_model.specs.TheMachine.{machine, beginning}
@@ -37,31 +35,9 @@ StandApart rules domains start lines =
 
 -- ---- where no document asks for storage access
 
--- an action requests it
-abbrev pub is_request : DocumentAction → Bool
-is_request (Request answer) = true
-is_request (Frame parent url sandbox deny head) = false
-is_request (Nav url by_self method head) = false
-is_request Drop = false
-is_request Click = false
-is_request (Fetch url method head) = false
-is_request (Set area key value) = false
-is_request (Get area key) = false
-is_request (Del area key) = false
-is_request (Clear area) = false
-is_request (Len area) = false
-is_request (Key area n) = false
-is_request Events = false
-is_request Cookie = false
-is_request (SetCookie text) = false
-is_request Has = false
-is_request Persisted = false
-is_request Estimate = false
-is_request (Persist answer) = false
-
 -- a line requests it
 abbrev pub asks_access : PlainAction → Bool
-asks_access (Act at action) = is_request action
+asks_access (Act at action) = (facts_of action).requests
 asks_access (Tick s) = false
 asks_access (Open tab url opener noopener method head) = false
 asks_access (Close tab) = false

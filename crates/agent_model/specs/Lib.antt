@@ -26,6 +26,7 @@ pub mod Consults
 pub mod TheMachine
 pub mod Isolation
 pub mod StoresNone
+pub mod TabChanges
 pub mod SiteRuns
 pub mod Given
 pub mod Groups

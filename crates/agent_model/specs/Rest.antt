@@ -3,6 +3,7 @@
 -- Our own choice: the clock stands still at the last second of the year 9999.
 use Rattle.std.specs.Prelude.{ℕ, ◌+◌, min, pos, List, Option, Some, None, codes}
 use Rattle.std.specs.FinMap as map
+use Rattle.agent_base.specs.Seconds.{last_moment}
 use Rattle.suffix_list.specs.Suffix.{Rule}
 use Rattle.script_actions.specs.Action.{PlainAction, Tick, Open, Close, Go, Evict, Act}
 use Rattle.reply_lines.specs.Reply.{PlainBody, Plain, Now}
@@ -10,10 +11,6 @@ use Rattle.agent_model.specs.SiteEvent.{Answer}
 use Rattle.script_actions.specs.ActionNames.{action_name}
 use Rattle.agent_model.specs.Lines.{AgentWorld, Places, Rest, Starter, SiteOccurrence}
 use Rattle.agent_model.specs.Lines.{main_event, opener_of, placed}
-
--- the last second of the clock, 9999-12-31 23:59:59 UTC, in seconds since 1970
-abbrev pub last_moment : ℕ
-last_moment = 253402300799
 
 -- the clock after so many seconds
 abbrev pub clock_after : ℕ → ℕ → ℕ

@@ -3,7 +3,7 @@
 -- session storage is copied to one that its page opens.
 -- Our own choice: a copy has the areas under the site that the opener is at, and no others. A tab
 -- keeps its session areas while it is at other sites.
-use Rattle.std.specs.Prelude.{ℕ, ◌==◌, ◌&&◌, Bool, not, List, ◌++◌, map, None}
+use Rattle.std.specs.Prelude.{ℕ, ◌==◌, ◌&&◌, Bool, not, List, ◌++◌, map, Some, None}
 use Rattle.std.specs.List.{list_any}
 use Rattle.std.specs.FinMap as finite
 use Rattle.suffix_list.specs.Suffix.{Rule}
@@ -12,17 +12,21 @@ use Rattle.origin_site.specs.Address.{PlainAddress}
 use Rattle.origin_site.specs.Site.{PlainSite}
 use Rattle.local_area.specs.Area.{Pair}
 use Rattle.frame_tree.specs.Calls.{opened}
-use Rattle.live_state.specs.Tabs.{made_tab}
 use Rattle.script_actions.specs.declared.words.Method.{Method}
 use Rattle.script_actions.specs.Action.{HeadField}
-use Rattle.agent_model.specs.Partition.{SessionKey, Holdings, is_under, with_tab, without_tab}
+use Rattle.agent_model.specs.Partition.{SessionKey, Holdings, is_under}
+use Rattle.agent_model.specs.TabChanges.{TabChange, Framed, Gone, tab_becomes}
 use Rattle.agent_model.specs.Effects.{Effect}
 use Rattle.agent_model.specs.CookieUses.{top_use}
 use Rattle.agent_model.specs.Cookies.{request}
 
--- a tab shows this address alone, whatever it showed before
+-- a tab has a fresh document at this address in its top frame, and no other, whatever it had before
+abbrev pub arrival : List Rule → PlainAddress → TabChange
+arrival rules url = Framed (opened rules url) (Some 0) None
+
+-- a tab shows this address alone
 abbrev pub show : List Rule → ℕ → PlainAddress → Holdings → Holdings
-show rules number url held = with_tab number (made_tab number (opened rules url) None None) held
+show rules number url held = tab_becomes number (arrival rules url) held
 
 -- a tab reaches an address at a site at this moment, by this method, and the response has this head
 abbrev pub arrive : List Rule → ℕ → PlainSite → ℕ → PlainAddress → Method → (same_site : Bool)
@@ -41,7 +45,7 @@ has_session number held = list_any (is_of_tab number) (finite.keys held.sessions
 -- a tab is closed, and its session areas are gone
 abbrev pub close : ℕ → Holdings → Holdings
 close number held =
-    record (without_tab number held) {
+    record (tab_becomes number Gone held) {
       sessions = finite.retain_keys held.sessions (λ key. not (is_of_tab number key));
     }
 

@@ -2,7 +2,7 @@
 -- Source: that of each action stands where the action is defined.
 -- The machine sees one partition, the shared cells that its event consults, and one event; and no
 -- other site.
-use Rattle.std.specs.Prelude.{ℕ, List, Option, Some, None, codes}
+use Rattle.std.specs.Prelude.{ℕ, Bool, true, false, List, Option, Some, None, codes}
 use Rattle.agent_base.specs.declared.refusals.Label.{Label}
 use Rattle.suffix_list.specs.Suffix.{Rule}
 use Rattle.origin_site.specs.Site.{PlainSite}
@@ -10,9 +10,11 @@ use Rattle.live_state.specs.Tabs.{PlainTab}
 use Rattle.script_actions.specs.Action.{DocumentAction, Frame, Nav, Drop, Click, Fetch, Set, Get, Del}
 use Rattle.script_actions.specs.Action.{Clear, Len, Key, Events, Cookie, SetCookie, Has, Request}
 use Rattle.script_actions.specs.Action.{Persisted, Estimate, Persist}
-use Rattle.agent_model.specs.Partition.{Partition, tab_named, without_tab}
+use Rattle.script_actions.specs.ActionFacts.{facts_of}
+use Rattle.agent_model.specs.Partition.{Partition, tab_named}
+use Rattle.agent_model.specs.TabChanges.{Gone, tab_becomes}
 use Rattle.agent_model.specs.Effects.{SharedCells, Effect, answers, ok}
-use Rattle.agent_model.specs.Documents.{with_key}
+use Rattle.agent_model.specs.Documents.{Keyed, in_secure, with_key}
 use Rattle.agent_model.specs.Cookies.{fetch, read_cookies, set_cookie}
 use Rattle.agent_model.specs.StorageAccess.{request_access, tell_access}
 use Rattle.agent_model.specs.Frames.{add_frame, navigate_frame, remove_frame, click}
@@ -24,32 +26,46 @@ use Rattle.agent_model.specs.Sessions.{arrive, close, copy_sessions}
 use Rattle.agent_model.specs.SiteEvent.{SiteEvent, Acts, Arrives, Leaves, Copies, Closes, Evicts}
 use Rattle.agent_model.specs.SiteEvent.{TimedEvent, SiteOutcome, replied, silent}
 use Rattle.agent_model.specs.LoadNames.{load_name}
-use Rattle.script_actions.specs.ActionNames.{document_action_name}
+
+-- What an action does, in an open tab at a site: with the storage key of its document where it is
+-- keyed, and else by the label of that document.
+abbrev pub Deed : (keyed : Bool) → Type 0
+Deed true = PlainSite → PlainTab → Keyed → Effect
+Deed false = PlainSite → Label → PlainTab → Effect
+
+-- what each does
+abbrev pub deed_of : List Rule → ℕ → (action : DocumentAction) → Deed (facts_of action).keyed
+deed_of rules now (Frame parent url sandbox deny head) =
+    λ site at. add_frame rules now site at parent url sandbox deny head
+deed_of rules now (Nav url by_self method head) =
+    λ site at. navigate_frame rules now site at url by_self method head
+deed_of rules now Drop = λ site. remove_frame
+deed_of rules now Click = λ site. click now
+deed_of rules now (Fetch url method head) = λ site at. fetch rules now site at url method head
+deed_of rules now (Set area key value) = λ site tab. set_item area key value
+deed_of rules now (Get area key) = λ site tab. get_item area key
+deed_of rules now (Del area key) = λ site tab. remove_item area key
+deed_of rules now (Clear area) = λ site tab. clear_area area
+deed_of rules now (Len area) = λ site tab. get_length area
+deed_of rules now (Key area n) = λ site tab. get_name area n
+deed_of rules now Events = λ site. take_events
+deed_of rules now Cookie = λ site tab. read_cookies rules now site
+deed_of rules now (SetCookie text) = λ site tab. set_cookie rules now site text
+deed_of rules now Has = λ site. tell_access rules now
+deed_of rules now (Request answer) = λ site at. request_access rules now site at answer
+deed_of rules now Persisted = λ site tab. get_mode
+deed_of rules now Estimate = λ site tab. get_usage
+deed_of rules now (Persist answer) = λ site tab. in_secure tab (persist answer)
+
+-- a deed is done by the document of a frame, with its storage key where it is keyed
+abbrev pub by_deed : (keyed : Bool) → Deed keyed → PlainSite → Label → PlainTab → Effect
+by_deed true does site at tab = with_key at tab (does site tab)
+by_deed false does site at tab = does site at tab
 
 -- an action of a document in an open tab at this site
 abbrev pub act_in : List Rule → ℕ → PlainSite → Label → DocumentAction → PlainTab → Effect
-act_in rules now site at (Frame parent url sandbox deny head) tab =
-    add_frame rules now site at parent url sandbox deny head tab
-act_in rules now site at (Nav url by_self method head) tab =
-    navigate_frame rules now site at url by_self method head tab
-act_in rules now site at Drop tab = remove_frame at tab
-act_in rules now site at Click tab = click now at tab
-act_in rules now site at (Fetch url method head) tab =
-    fetch rules now site at url method head tab
-act_in rules now site at (Set area key value) tab = with_key at tab (set_item area key value)
-act_in rules now site at (Get area key) tab = with_key at tab (get_item area key)
-act_in rules now site at (Del area key) tab = with_key at tab (remove_item area key)
-act_in rules now site at (Clear area) tab = with_key at tab (clear_area area)
-act_in rules now site at (Len area) tab = with_key at tab (get_length area)
-act_in rules now site at (Key area n) tab = with_key at tab (get_name area n)
-act_in rules now site at Events tab = take_events at tab
-act_in rules now site at Cookie tab = with_key at tab (read_cookies rules now site)
-act_in rules now site at (SetCookie text) tab = with_key at tab (set_cookie rules now site text)
-act_in rules now site at Has tab = tell_access rules now at tab
-act_in rules now site at (Request answer) tab = request_access rules now site at answer tab
-act_in rules now site at Persisted tab = with_key at tab get_mode
-act_in rules now site at Estimate tab = with_key at tab get_usage
-act_in rules now site at (Persist answer) tab = with_key at tab (persist tab answer)
+act_in rules now site at action tab =
+    by_deed (facts_of action).keyed (deed_of rules now action) site at tab
 
 -- ---- every event
 
@@ -58,7 +74,7 @@ abbrev pub act : List Rule → ℕ → Label → DocumentAction → Option Plain
     → SiteOutcome
 act rules now at action None cells partition = silent partition cells partition.held
 act rules now at action (Some tab) cells partition =
-    replied partition (document_action_name action)
+    replied partition (facts_of action).name
     (act_in rules now partition.site at action tab cells partition.held)
 
 -- a tab is closed. The site that it is at replies.
@@ -78,7 +94,7 @@ site_step rules partition cells timed = step timed.event
         replied partition (load_name load)
         (arrive rules timed.moment partition.site tab url method same_site head cells
         partition.held)
-    step (Leaves tab) = silent partition cells (without_tab tab partition.held)
+    step (Leaves tab) = silent partition cells (tab_becomes tab Gone partition.held)
     step (Copies from to) =
         silent partition cells (copy_sessions partition.site from to partition.held)
     step (Closes tab) = close_at tab (tab_named tab partition.held) cells partition

@@ -3,38 +3,20 @@
 -- Source: RFC 6265bis, "Storage Model", where cookies come from; HTML, `document.cookie`.
 use Rattle.std.specs.Prelude.{◌≡◌, List, [], ◌∷◌}
 use Rattle.script_actions.specs.Action.{PlainAction, Tick, Open, Close, Go, Evict, Act}
-use Rattle.script_actions.specs.Action.{DocumentAction, Frame, Nav, Drop, Click, Fetch, Set, Get, Del}
-use Rattle.script_actions.specs.Action.{Clear, Len, Key, Events, Cookie, SetCookie, Has, Request}
-use Rattle.script_actions.specs.Action.{Persisted, Estimate, Persist}
+use Rattle.script_actions.specs.ActionFacts.{CookieSource, NoCookie, FromHead, FromScript, facts_of}
 use Rattle.agent_model.specs.CookieStore.{cookie_texts}
 
--- an action stores none: the head of its response has no such field, and it sets none
-abbrev pub ActsWithout : DocumentAction → Type 0
-ActsWithout (Frame parent url sandbox deny head) = cookie_texts head ≡ []
-ActsWithout (Nav url by_self method head) = cookie_texts head ≡ []
-ActsWithout (Fetch url method head) = cookie_texts head ≡ []
-ActsWithout (SetCookie text) = ⊥
-ActsWithout Cookie = Unit {0}
-ActsWithout Has = Unit {0}
-ActsWithout (Request answer) = Unit {0}
-ActsWithout Drop = Unit {0}
-ActsWithout Click = Unit {0}
-ActsWithout (Set area key value) = Unit {0}
-ActsWithout (Get area key) = Unit {0}
-ActsWithout (Del area key) = Unit {0}
-ActsWithout (Clear area) = Unit {0}
-ActsWithout (Len area) = Unit {0}
-ActsWithout (Key area n) = Unit {0}
-ActsWithout Events = Unit {0}
-ActsWithout Persisted = Unit {0}
-ActsWithout Estimate = Unit {0}
-ActsWithout (Persist answer) = Unit {0}
+-- none comes from there: from no head of a response with such a field, and from no script
+abbrev pub GivesNone : CookieSource → Type 0
+GivesNone NoCookie = Unit {0}
+GivesNone (FromHead head) = cookie_texts head ≡ []
+GivesNone FromScript = ⊥
 
 -- a line stores none
 abbrev pub StoresNone : PlainAction → Type 0
 StoresNone (Open tab url opener noopener method head) = cookie_texts head ≡ []
 StoresNone (Go tab url by_page method head) = cookie_texts head ≡ []
-StoresNone (Act at action) = ActsWithout action
+StoresNone (Act at action) = GivesNone (facts_of action).stores
 StoresNone (Tick s) = Unit {0}
 StoresNone (Close tab) = Unit {0}
 StoresNone (Evict site) = Unit {0}

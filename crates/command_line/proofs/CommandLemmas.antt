@@ -4,7 +4,8 @@ use Rattle.std.specs.Prelude.{bytes_eq, codes}
 use Rattle.std.proofs.lemmas.Bool.{and_parts, leb-true}
 use Rattle.std.proofs.lemmas.Slice.Eq.{bytes_eq-Decides}
 use Rattle.clap.specs.Words.{Text}
-use Rattle.command_line.specs.Options.{Pair, batch_of, checkpoint_of, default_batch, default_checkpoint, default_start, first_batch, first_start, is_path, last_batch, last_checkpoint, last_start, no_checkpoint, number_of, options_of, start_of, storeless_of, value_named}
+use Rattle.agent_base.specs.Seconds.{last_moment}
+use Rattle.command_line.specs.Options.{Pair, batch_of, checkpoint_of, default_batch, default_checkpoint, default_start, first_batch, first_start, is_path, last_batch, last_checkpoint, no_checkpoint, number_of, options_of, start_of, storeless_of, value_named}
 use Rattle.command_line.specs.Words.{AreInRange, Dump, Help, IsInRange, PlainCommand, Selftest, command_of, comparison_of, dump_of, first_seed, last_seed, replay_of, run_of, seed_of, selftest_of, twin_of}
 use Rattle.command_line.proofs.NumberLemmas.{number_in_range}
 
@@ -94,7 +95,7 @@ numbers_in_range : (options : List Pair) → AreInRange (batch_of (value_named (
 numbers_in_range options =
     let batch = value_in_range first_batch last_batch default_batch (value_named (codes "--batch") options) (leb-true first_batch default_batch refl) (leb-true default_batch last_batch refl) in
     let checkpoint = value_in_range no_checkpoint last_checkpoint default_checkpoint (value_named (codes "--checkpoint") options) (leb-true no_checkpoint default_checkpoint refl) (leb-true default_checkpoint last_checkpoint refl) in
-    let start = value_in_range first_start last_start default_start (value_named (codes "--start") options) (leb-true first_start default_start refl) (leb-true default_start last_start refl) in
+    let start = value_in_range first_start last_moment default_start (value_named (codes "--start") options) (leb-true first_start default_start refl) (leb-true default_start last_moment refl) in
     (batch.0, batch.1, checkpoint.1, start.1)
 
 pub command_in_range : (words : List Text) → IfSome (command_of words) IsInRange

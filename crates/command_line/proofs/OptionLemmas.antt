@@ -11,7 +11,8 @@ use Rattle.clap.specs.Lexer.{long_of}
 use Rattle.clap.specs.Takes.{flag_word_passes, long_passes, other_passes, settle_passes, step_passes, turn_passes, use_passes, word_passes}
 use Rattle.clap.specs.Walk.{Held, Step, Walk, after_flag, after_step, arg_by_id, arg_by_long, at_row, default_rows, has_row, idle, long_met, long_or_other, more_values, next, option, option_word, reading_by, settled, settled_rows, subcommand_or_other, trailing, used_by_id, walked, with_default, with_values, without, word_met}
 use Rattle.clap.specs.declared.parser.matches.ValueSource.TheVariants.{CommandLine}
-use Rattle.command_line.specs.Options.{Pair, first_batch, first_start, is_digit, is_named, is_number, is_number_option, is_option, is_path, last_batch, last_checkpoint, last_start, no_checkpoint, number_of, within}
+use Rattle.agent_base.specs.Seconds.{last_moment}
+use Rattle.command_line.specs.Options.{Pair, first_batch, first_start, is_digit, is_named, is_number, is_number_option, is_option, is_path, last_batch, last_checkpoint, no_checkpoint, number_of, within}
 use Rattle.command_line.specs.Program.{option_rule}
 use Rattle.command_line.proofs.NumberLemmas.{digit_bounds, digits}
 use Rattle.command_line.proofs.ClapLemmas.{IsPlain, at_value, leaf, met_plain, none_met, one, plain_passes, replay_rules, starts_plain, twin_rules, value_row}
@@ -209,10 +210,10 @@ module _ (rules : List Rule) where
     where
       at : (batch checkpoint : Bool) → (is_named (codes "--batch") pair && is_some (number_of first_batch last_batch pair.1)) ≡ batch
           → (is_named (codes "--checkpoint") pair && is_some (number_of no_checkpoint last_checkpoint pair.1)) ≡ checkpoint
-          → (batch || (checkpoint || (is_named (codes "--start") pair && is_some (number_of first_start last_start pair.1)))) ≡ true → IsGiven rules pair
+          → (batch || (checkpoint || (is_named (codes "--start") pair && is_some (number_of first_start last_moment pair.1)))) ≡ true → IsGiven rules pair
       at true checkpoint is other any = numeric_given pair (codes "--batch") first_batch last_batch numbers.batch is
       at false true other is any = numeric_given pair (codes "--checkpoint") no_checkpoint last_checkpoint numbers.checkpoint is
-      at false false other another is = numeric_given pair (codes "--start") first_start last_start numbers.start is
+      at false false other another is = numeric_given pair (codes "--start") first_start last_moment numbers.start is
 
 pub option_given : (pair : Pair) → is_option pair ≡ true → IsGiven replay_rules pair
 option_given pair = at (is_named (codes "--store") pair && is_path pair.1) refl

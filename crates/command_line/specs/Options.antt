@@ -9,6 +9,7 @@ use Rattle.std.specs.Prelude.{find, is_none, is_some, if◌then◌else◌}
 use Rattle.std.specs.List.{list_all, list_any}
 use Rattle.std.specs.Str.{byte}
 use Rattle.std.specs.Str.Parse.{digits_value}
+use Rattle.agent_base.specs.Seconds.{last_moment}
 
 -- ---- words
 
@@ -95,10 +96,6 @@ default_checkpoint = 1000
 abbrev pub first_start : ℕ
 first_start = 0
 
--- the last moment at which a clock may begin, 9999-12-31 23:59:59 UTC
-abbrev pub last_start : ℕ
-last_start = 253402300799
-
 -- the moment at which a clock begins where no option says so, 2026-01-01 00:00:00 UTC
 abbrev pub default_start : ℕ
 default_start = 1767225600
@@ -109,7 +106,7 @@ is_number_option pair =
     (is_named (codes "--batch") pair && is_some (number_of first_batch last_batch pair.1))
     || ((is_named (codes "--checkpoint") pair
     && is_some (number_of no_checkpoint last_checkpoint pair.1))
-    || (is_named (codes "--start") pair && is_some (number_of first_start last_start pair.1)))
+    || (is_named (codes "--start") pair && is_some (number_of first_start last_moment pair.1)))
 
 -- the pair is an option of a run, and its value is one that it may have
 abbrev pub is_option : Pair → Bool
@@ -139,4 +136,4 @@ checkpoint_of value =
 
 -- the beginning of the clock that a value says
 abbrev pub start_of : Option (List ℕ) → ℕ
-start_of value = unwrap_or (option_and_then (number_of first_start last_start) value) default_start
+start_of value = unwrap_or (option_and_then (number_of first_start last_moment) value) default_start

@@ -3,8 +3,9 @@
 -- Our own choice: all of it. Options follow the other words.
 use Rattle.std.specs.Prelude.{ℕ, ◌≤◌, ◌&&◌, List, [], ◌∷◌, codes, bytes_eq}
 use Rattle.std.specs.Prelude.{Option, Some, None, option_map, if◌then◌else◌}
+use Rattle.agent_base.specs.Seconds.{last_moment}
 use Rattle.command_line.specs.Options.{Pair, batch_of, checkpoint_of, first_batch, is_path}
-use Rattle.command_line.specs.Options.{last_batch, last_checkpoint, last_start, number_of}
+use Rattle.command_line.specs.Options.{last_batch, last_checkpoint, number_of}
 use Rattle.command_line.specs.Options.{options_of, start_of, storeless_of, value_named}
 
 -- a command: the usage line, a run of a script, what two scripts give a site, the rows of a store,
@@ -33,7 +34,7 @@ last_seed = 4294967295
 abbrev pub AreInRange : (batch checkpoint start : ℕ) → Type 0
 AreInRange batch checkpoint start =
     (first_batch ≤ batch) × (batch ≤ last_batch) × (checkpoint ≤ last_checkpoint)
-    × (start ≤ last_start)
+    × (start ≤ last_moment)
 
 -- the numbers of a command are in their ranges
 abbrev pub IsInRange : PlainCommand → Type 0

@@ -1,10 +1,12 @@
 //! The options behind the other words: names and values by turns.
 ghost use Rattle.std.specs.Prelude.{◌≡◌, ◌&&◌, codes, is_some, map, not, option_map, string_bytes};
+ghost use Rattle.agent_base.specs.Seconds.{last_moment};
 ghost use Rattle.command_line.specs.Options as spec;
 ghost use Rattle.command_line.specs.Walk as walk;
 
 use crate::numbers::number;
 use crate::paths::is_path;
+use agent_base::LAST_MOMENT;
 
 /// The fewest lines of a batch.
 const FIRST_BATCH: u64 = 1;
@@ -26,9 +28,6 @@ const DEFAULT_CHECKPOINT: u32 = 1_000;
 
 /// The first moment at which a clock may begin: 1970-01-01 00:00:00 UTC.
 const FIRST_START: u64 = 0;
-
-/// The last moment at which a clock may begin: 9999-12-31 23:59:59 UTC, in seconds since 1970.
-const LAST_START: u64 = 253_402_300_799;
 
 /// The moment at which a clock begins where no option says so: 2026-01-01 00:00:00 UTC.
 const DEFAULT_START: u64 = 1_767_225_600;
@@ -156,7 +155,7 @@ fn checkpoint(text: &str) -> Option<u32>
 }
 
 fn start(text: &str) -> Option<u64>
-    ensures { result ≡ spec.number_of spec.first_start spec.last_start text.now }
+    ensures { result ≡ spec.number_of spec.first_start last_moment text.now }
 {
-    number(text, FIRST_START, LAST_START)
+    number(text, FIRST_START, LAST_MOMENT)
 }

@@ -14,7 +14,7 @@ use Rattle.suffix_list.specs.Suffix.{Rule}
 use Rattle.script_actions.specs.Action.{PlainAction}
 use Rattle.reply_lines.specs.Reply.{PlainReply}
 use Rattle.agent_model.specs.Isolation.{printed}
-use Rattle.agent_model.specs.Rest.{last_moment}
+use Rattle.agent_base.specs.Seconds.{last_moment}
 use Rattle.agent_model.specs.TheMachine.{machine}
 use Rattle.durable_model.specs.Keeping.{AgentDurable, keeping}
 use Rattle.durable_model.specs.Laws.{LinesAreValid, LinesKeep}

@@ -17,7 +17,7 @@ use Rattle.suffix_list.specs.Suffix.{Rule}
 use Rattle.row_changes.specs.Laws.{IsWritable}
 use Rattle.agent_model.specs.Lines.{Rest, no_places}
 use Rattle.agent_model.specs.TheMachine.{machine}
-use Rattle.agent_model.specs.Rest.{last_moment}
+use Rattle.agent_base.specs.Seconds.{last_moment}
 use Rattle.durable_model.specs.Histories.{reopened_world}
 use Rattle.durable_model.specs.Keeping.{AgentDurable, durable_of, keeping}
 use Rattle.durable_model.specs.Laws.{OpensKept}

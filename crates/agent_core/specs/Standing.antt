@@ -11,7 +11,7 @@ use Rattle.suffix_list.specs.ListText.{RuleList}
 use Rattle.suffix_list.specs.Suffix.{Rule}
 use Rattle.reply_lines.specs.Plain.{reply_of}
 use Rattle.agent_model.specs.Isolation.{printed}
-use Rattle.agent_model.specs.Rest.{last_moment}
+use Rattle.agent_base.specs.Seconds.{last_moment}
 use Rattle.durable_model.specs.Keeping.{AgentDurable, durable_of}
 use Rattle.durable_model.specs.Saved.{Saved}
 use Rattle.row_store.specs.Kept.{kept_of}

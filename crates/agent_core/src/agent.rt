@@ -10,7 +10,7 @@ ghost use Rattle.journal.specs.Opening.{IsLimitRefusal, IsOver, IsRefusal, openi
 ghost use Rattle.journal.specs.declared.open_fault.OpenFault.{OpenFault};
 ghost use Rattle.script_actions.specs.Plain.{action_of};
 ghost use Rattle.agent_model.specs.Lines.{Rest, no_places};
-ghost use Rattle.agent_model.specs.Rest.{last_moment};
+ghost use Rattle.agent_base.specs.Seconds.{last_moment};
 ghost use Rattle.agent_model.specs.TheMachine.{machine};
 ghost use Rattle.durable_model.specs.Keeping.{durable_of, keeping};
 ghost use Rattle.durable_model.specs.Saved.{IsValid, Saved, nothing_saved};
@@ -37,12 +37,12 @@ use crate::running::run_line;
 use agent_base::NoMemory;
 use agent_memory::Memory;
 use disk_model::Disk;
-use durable_model::durable_states;
+use durable_model::lines_keep_durable_states;
 use journal::{DeviceFault, OpenFault};
 use open_store::Store;
-use row_store::{Parts, Rows, written};
+use row_store::{Parts, Rows, bodies_mean_states};
 use script_actions::Action;
-use spelled_model::spelled_lines;
+use spelled_model::lines_have_spellings;
 use std::alloc::Global;
 use std::marker::Model;
 use suffix_list::SuffixList;
@@ -154,8 +154,8 @@ fn begin<'l, D: Disk + Drop>(
         × (result.journal.digest ≡ list.now.digest) × (result.batch ≡ options.batch)
         × (result.checkpoint ≡ options.checkpoint) }
 {
-    durable_states();
-    spelled_lines();
+    lines_keep_durable_states();
+    lines_have_spellings();
     let changes = opened.journal.changes();
     Agent {
         alloc,
@@ -369,8 +369,8 @@ impl<'l, D: Disk + Drop> Agent<'l, D> {
         ensures disk { self.new.disk ≡ self.old.disk }
         ensures rules { KeepsOptions self.old self.new }
     {
-        durable_states();
-        spelled_lines();
+        lines_keep_durable_states();
+        lines_have_spellings();
         let changes = opened.journal.changes();
         let kept = changes.wrapping_sub(self.opened);
         self.memory = resume(self.alloc, self.list, self.now, opened.parts);
@@ -388,8 +388,8 @@ impl<'l, D: Disk + Drop> Agent<'l, D> {
             self.new (D.view self.new.disk) result }
         ensures power { PowerAfter result self.old.power self.new.power }
     {
-        durable_states();
-        spelled_lines();
+        lines_keep_durable_states();
+        lines_have_spellings();
         match run_line(&mut self.memory, &mut self.batch, &mut self.store, action) {
             Err(NoMemory) => Outcome::NoMemory,
             Ok(()) => {
@@ -440,8 +440,8 @@ impl<'l, D: Disk + Drop> Agent<'l, D> {
         ensures power { PowerAfter result self.old.power self.new.power }
         ensures ends { result ≡ Outcome.Held → ⊥ }
     {
-        durable_states();
-        written();
+        lines_keep_durable_states();
+        bodies_mean_states();
         let changes = self.batch.changes();
         match self.store.commit::<Rows>(self.batch.bytes(), changes) {
             Err(DeviceFault) => {

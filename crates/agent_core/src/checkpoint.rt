@@ -17,7 +17,7 @@ use crate::outcome::Outcome;
 use agent_base::NoMemory;
 use disk_model::Disk;
 use journal::DeviceFault;
-use row_store::{Rows, written};
+use row_store::{Rows, bodies_mean_states};
 
 impl<'l, D: Disk + Drop> Agent<'l, D> {
     // Makes the checkpoint that is due, if one is due, of an agent that is up and holds nothing.
@@ -108,7 +108,7 @@ impl<'l, D: Disk + Drop> Agent<'l, D> {
         ensures power { PowerAfter result self.old.power self.new.power }
         ensures tidy { IsTidy result self.new }
     {
-        written();
+        bodies_mean_states();
         match self.store.checkpoint::<Rows>(body) {
             Err(DeviceFault) => {
                 self.power = Power::Down;

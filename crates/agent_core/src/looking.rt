@@ -1,13 +1,8 @@
 //! What an agent tells of what it has in memory, which stays as it is. No call of the disk is made.
 //! Where a restart was refused, memory is not what the store stands for, and nothing is told.
 ghost use Rattle.std.specs.Prelude.{◌≡◌, ◌↔◌, ◌+◌, ◌%◌, ◌^◌, true, IfOk, IsErr, length, map};
-ghost use Rattle.unwinding.specs.FiniteCells.{get_cell};
-ghost use Rattle.origin_site.specs.Plain.{plain_site};
 ghost use Rattle.row_changes.specs.Plain.{plain_change};
-ghost use Rattle.script_actions.specs.Plain.{action_of};
-ghost use Rattle.agent_model.specs.CookieCells.{domain_order};
 ghost use Rattle.row_store.specs.Listing.{listed};
-ghost use Rattle.site_entries.specs.Seen.{IsGivenAt};
 ghost use Rattle.agent_memory.specs.AgentState.{world_of};
 ghost use Rattle.agent_core.specs.AgentView.{since_opening};
 ghost use Rattle.agent_core.specs.Seen.{AgentSeen, IsSeen};
@@ -15,12 +10,9 @@ ghost use Rattle.agent_core.specs.Standing.{kept_in};
 
 use crate::agent::{Agent, Power};
 use agent_base::NoMemory;
-use cookie_jar::Jar;
+use agent_memory::Memory;
 use disk_model::Disk;
-use origin_site::Site;
 use row_changes::Change;
-use script_actions::Action;
-use site_entries::SeenLine;
 
 impl<'l, D: Disk + Drop> Agent<'l, D> {
     /// How many durable changes were made since the last opening, those of the lines that wait
@@ -52,40 +44,16 @@ impl<'l, D: Disk + Drop> Agent<'l, D> {
         )
     }
 
-    /// What a line would give a site, from what the agent has in memory, which stays as it is. No
-    /// call of the disk is made.
-    ///
-    /// `touched` says whether events of other sites have left the cookies of the site's domain
-    /// different.
-    pub fn seen(&self, action: &Action, site: &Site, touched: bool) -> Result<SeenLine, NoMemory>
-        ensures given { let memory = self.entry.now.memory in
-            let line = action_of action.now in
-            IfOk result
-            (IsGivenAt memory.rules (plain_site site.now) touched (world_of memory) line) }
-        // Where the agent is up, it is given so in the world that the agent stands for.
+    /// What the agent has in memory: what the next line runs over.
+    pub fn memory(&self) -> Result<&Memory<'l>, NoMemory>
+        ensures memory { IfOk result (λ memory. memory.now ≡ self.entry.now.memory) }
+        // Where the agent is up, it stands for the world that the agent stands for.
         ensures up { (a : AgentSeen) → IsSeen self.entry.now (D.view self.entry.now.disk) a
-            → a.up ≡ true → let rules = self.entry.now.memory.rules in
-            let line = action_of action.now in
-            IfOk result (IsGivenAt rules (plain_site site.now) touched a.world line) }
-        ensures spoilt { self.entry.now.power ≡ Power.Spoilt → IsErr result }
+            → a.up ≡ true → IfOk result (λ memory. world_of memory.now ≡ a.world) }
+        ensures spoilt { IsErr result ↔ self.entry.now.power ≡ Power.Spoilt }
     {
         self.has_memory()?;
-        self.memory.seen(action, site, touched)
-    }
-
-    /// A copy of the unpartitioned cookies that a domain has in memory, which may be none.
-    pub fn domain_cookies(&self, domain: &str) -> Result<Jar, NoMemory>
-        ensures cookies { let cells = (world_of self.entry.now.memory).cells in
-            let all = get_cell domain_order cells domain.now in
-            IfOk result (λ jar. jar.cookies ≡ all) }
-        // Where the agent is up, they are those of the world that it stands for.
-        ensures up { (a : AgentSeen) → IsSeen self.entry.now (D.view self.entry.now.disk) a
-            → a.up ≡ true → let all = get_cell domain_order a.world.cells domain.now in
-            IfOk result (λ jar. jar.cookies ≡ all) }
-        ensures spoilt { self.entry.now.power ≡ Power.Spoilt → IsErr result }
-    {
-        self.has_memory()?;
-        self.memory.domain_cookies(domain)
+        Ok(&self.memory)
     }
 
     // Refuses where a restart was refused: want of memory was its cause, or is told for it.

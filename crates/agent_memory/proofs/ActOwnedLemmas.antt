@@ -23,7 +23,7 @@ use Rattle.agent_model.specs.Partition.{Holdings, SessionAreas, tab_named, with_
 use Rattle.agent_model.specs.CookieUse.{CookieUse}
 use Rattle.agent_model.specs.CookieUses.{fetch_use, frame_use, nav_use}
 use Rattle.agent_model.specs.Cookies.{read_cookies, request, set_cookie}
-use Rattle.agent_model.specs.Documents.{by_document, with_document}
+use Rattle.agent_model.specs.Documents.{by_document, in_secure, with_document}
 use Rattle.agent_model.specs.Effects.{Effect, SharedCells, answers, ok}
 use Rattle.agent_model.specs.Frames.{on_frames, frames_added, frames_navigated, frames_removed, frames_clicked}
 use Rattle.agent_model.specs.AreaActions.{pairs_of, change_event, set_item, remove_item, clear_area, get_item, get_name, get_length}
@@ -149,7 +149,7 @@ module _ (cells : SharedCells) (held : Holdings) (tab : ℕ) where
     act_leaves Persisted = with_key_leaves cells held tab at apart open_tab get_mode (λ document own k. refl)
     act_leaves Estimate = with_key_leaves cells held tab at apart open_tab get_usage (λ document own k. refl)
     act_leaves (Persist answer) =
-        with_key_leaves cells held tab at apart open_tab (persist open_tab answer)
+        with_key_leaves cells held tab at apart open_tab (in_secure open_tab (persist answer))
         (λ document own. persist_leaves cells held tab open_tab answer (keyed_by at document own))
 
 -- an action in an open tab makes no session area of a tab that is not open

@@ -16,7 +16,7 @@ use Rattle.live_state.specs.Tabs.{PlainTab, tab_at}
 use Rattle.agent_model.specs.Effects.{Effect}
 use Rattle.agent_model.specs.Documents as keyed
 use Rattle.agent_model.specs.Documents.{by_document, by_key, with_key}
-use Rattle.line_events.proofs.CellLemmas.{document_there}
+use Rattle.frame_tree.proofs.ShapeLemmas.{document_there}
 use Rattle.agent_memory.specs.Documents.{IsFound, document_at, key_wanted}
 use Rattle.agent_memory.specs.declared.holdings.Found.TheVariants.{Keyed}
 

@@ -8,7 +8,6 @@ use Rattle.std.specs.FinMap.{get}
 use Rattle.unwinding.specs.FiniteCells.{Full, set_cell}
 use Rattle.agent_base.specs.declared.refusals.Label.{Label}
 use Rattle.storage_key.specs.Key.{PlainKey}
-use Rattle.frame_tree.specs.Calls.{is_https_chain}
 use Rattle.frame_tree.specs.Document.{PlainDocument}
 use Rattle.frame_tree.specs.Tree.{document_of}
 use Rattle.storage_events.specs.declared.event.AreaKind.{AreaKind}
@@ -22,10 +21,11 @@ use Rattle.script_actions.specs.declared.words.Prompt.{Prompt}
 use Rattle.reply_lines.specs.Reply.{Plain}
 use Rattle.agent_model.specs.Partition.{SessionKey, session_order, Holdings, with_area}
 use Rattle.agent_model.specs.Effects.{Done, Effect, SharedCells, answers}
-use Rattle.agent_model.specs.Documents.{Keyed, by_document, by_key, with_key}
+use Rattle.agent_model.specs.Documents.{Keyed, by_document, by_key, in_secure, with_key}
 use Rattle.agent_model.specs.AreaActions.{pairs_of, change_event, write, set_by, remove_by}
 use Rattle.agent_model.specs.Buckets.{is_persistent, is_grant, persist_by, persist}
 use Rattle.agent_model.proofs.KeptLemmas as kept
+use Rattle.agent_model.proofs.SecureLemmas.{secure_by}
 use Rattle.agent_model.proofs.HoldingsLemmas.{session_order_total, session_order_same}
 use Rattle.agent_memory.proofs.OwnedLemmas.{SameAt}
 
@@ -111,15 +111,13 @@ module _ (cells : SharedCells) (held : Holdings) (tab : ℕ) where
         by_found None = λ own. refl
         by_found (Some document) = by_own document (key_of_document label.frame open_tab.frames document)
 
-  pub persist_leaves : (open_tab : PlainTab) (answer : Prompt) (asker : Keyed) → Leaves (persist open_tab answer asker cells held)
-  persist_leaves open_tab answer asker = at (is_https_chain asker.at.frame open_tab.frames)
+  pub persist_leaves : (open_tab : PlainTab) (answer : Prompt) (asker : Keyed)
+      → Leaves (in_secure open_tab (persist answer) asker cells held)
+  persist_leaves open_tab answer asker =
+      secure_by (λ does. Leaves (does cells held)) open_tab (persist answer) asker (λ own. refl)
+      (by (is_persistent asker.key held) (is_grant answer))
     where
       by : (before granted : Bool) → Leaves (persist_by before granted asker cells held)
       by true granted = λ own. refl
       by false true = λ own. refl
       by false false = λ own. refl
-
-      at : (b : Bool) → Leaves (cond b (persist_by (is_persistent asker.key held) (is_grant answer)
-          asker cells held) (answers (Plain (codes "insecure")) cells held))
-      at true = by (is_persistent asker.key held) (is_grant answer)
-      at false = λ own. refl

@@ -31,5 +31,3 @@ pub mod StandingLemmas
 pub mod RunsLemmas
 pub mod OpenRunsLemmas
 pub mod BodyLemmas
--- What a line would give a site.
-pub mod SeenLemmas

@@ -28,7 +28,7 @@ use Rattle.agent_memory.specs.Actions.{Answered}
 use Rattle.agent_memory.specs.Lines.{copied_under, with_copies}
 use Rattle.agent_memory.specs.Requests.{IsPerformed, KeepsCookies}
 use Rattle.agent_memory.specs.Writes.{AreRows}
-use Rattle.line_events.proofs.CellLemmas.{document_there}
+use Rattle.frame_tree.proofs.ShapeLemmas.{document_there}
 use Rattle.agent_memory.proofs.RequestLemmas.{there_is}
 use Rattle.agent_memory.proofs.WritesLemmas.{cut_back, front_same, writes_none}
 

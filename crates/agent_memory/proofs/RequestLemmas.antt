@@ -33,7 +33,7 @@ use Rattle.agent_memory.specs.Actions.{Acts, IsDone, Stays}
 use Rattle.agent_memory.specs.HoldingsView.{HoldingsView, cells_of, held_of}
 use Rattle.agent_memory.specs.Requests.{IsPrepared, KeepsCookies}
 use Rattle.agent_memory.proofs.DoneLemmas.{done_after, done_by, no_change, stays_done, stays_same}
-use Rattle.line_events.proofs.CellLemmas.{document_there}
+use Rattle.frame_tree.proofs.ShapeLemmas.{document_there}
 use Rattle.agent_memory.proofs.FoundLemmas.{frames_are, frames_found}
 
 -- ---- a document

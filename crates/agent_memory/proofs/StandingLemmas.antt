@@ -21,7 +21,7 @@ use Rattle.origin_site.specs.Address.{PlainAddress}
 use Rattle.script_actions.specs.declared.words.Method.{Method}
 use Rattle.agent_model.specs.SiteEvent.{SiteEvent, Acts, Closes}
 use Rattle.agent_model.specs.Lines.{AgentWorld, Places, Starter, going, main_event, occurs, opener_of, opening, site_at}
-use Rattle.agent_model.specs.Rest.{last_moment}
+use Rattle.agent_base.specs.Seconds.{last_moment}
 use Rattle.agent_model.specs.TheMachine.{machine}
 use Rattle.one_store.specs.WholeWorld.{IsPlaced, IsPlacedAt, whole_world}
 use Rattle.one_store.specs.Store.{Step, Store, acted, closed, gone, refuses, site_reply, store_step}

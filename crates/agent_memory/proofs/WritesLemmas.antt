@@ -23,6 +23,7 @@ use Rattle.storage_events.specs.declared.event.AreaKind.{AreaKind}
 use Rattle.storage_events.specs.declared.event.AreaKind.TheVariants.{Local, Session}
 use Rattle.script_actions.specs.Action.{PlainAction, Tick, Open, Close, Go, Evict, Act, DocumentAction}
 use Rattle.script_actions.specs.Action.{Frame, Nav, Drop, Click, Fetch, Set, Get, Del, Clear, Len, Key, Events, Cookie, SetCookie, Has, Request, Persisted, Estimate, Persist}
+use Rattle.script_actions.specs.ActionFacts.{facts_of}
 use Rattle.reply_lines.specs.Reply.{PlainBody, Plain}
 use Rattle.row_changes.specs.Change.{PlainChange, AreaClear}
 use Rattle.row_changes.specs.Appended.{Appends, HasTexts, IsAppended, IsFront}
@@ -36,7 +37,7 @@ use Rattle.agent_model.specs.StorageAccess.{tell_access}
 use Rattle.agent_model.specs.TheMachine.{machine}
 use Rattle.one_store.specs.Store.{change_of}
 use Rattle.agent_memory.specs.AgentState.{AgentState, world_of}
-use Rattle.agent_memory.specs.ActionKinds.{by_keyed, is_reading, key_action, reads}
+use Rattle.agent_memory.specs.ActionKinds.{by_keyed, is_reading, key_action}
 use Rattle.agent_memory.specs.Writes.{LineWrites}
 use Rattle.agent_memory.specs.Written.{AreWritten, HasRoom, AgentChange}
 
@@ -149,7 +150,7 @@ abbrev pub HasNone : (PlainSite → PlainTab → Keyed → Effect) → Type 0
 HasNone does = (site : PlainSite) (tab : PlainTab) (reader : Keyed) (cells : SharedCells) (held : Holdings)
     → (does site tab reader cells held).changes ≡ []
 
-reads_none : (rules : List Rule) (now : ℕ) (action : DocumentAction) → reads action ≡ true
+reads_none : (rules : List Rule) (now : ℕ) (action : DocumentAction) → (facts_of action).reads ≡ true
     → IfSome (key_action rules now action) HasNone
 reads_none rules now (Frame parent url sandbox deny head) is = tt
 reads_none rules now (Nav url by_self method head) is = tt
@@ -178,7 +179,7 @@ reading_none rules now (Open tab url opener noopener method head) is = tt
 reading_none rules now (Close tab) is = tt
 reading_none rules now (Go tab url by_page method head) is = tt
 reading_none rules now (Evict site) is = tt
-reading_none rules now (Act at action) is = reads_none rules now action (or_none (reads action) ∙ is)
+reading_none rules now (Act at action) is = reads_none rules now action (or_none (facts_of action).reads ∙ is)
   where
     or_none : (b : Bool) → b ≡ (b || false)
     or_none true = refl

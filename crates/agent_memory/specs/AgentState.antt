@@ -13,7 +13,7 @@ use Rattle.web_cookies.specs.Stored.{Entries as CookieEntries, partitioned_in, s
 use Rattle.agent_model.specs.Partition.{Tabs, Holdings, no_holdings, tab_named}
 use Rattle.agent_model.specs.Effects.{SharedCells}
 use Rattle.agent_model.specs.Lines.{Places, AgentWorld, no_places, placed}
-use Rattle.agent_model.specs.Rest.{last_moment}
+use Rattle.agent_base.specs.Seconds.{last_moment}
 use Rattle.agent_model.specs.Sessions.{has_session}
 use Rattle.one_store.specs.WholeWorld.{IsPlaced, whole_world}
 

@@ -1,7 +1,7 @@
 //! The clock.
 ghost use Rattle.std.specs.Prelude.{◌≡◌, ◌≤◌, pos};
 ghost use Rattle.agent_model.specs.Rest as spec;
-ghost use Rattle.agent_model.specs.Rest.{last_moment};
+ghost use Rattle.agent_base.specs.Seconds.{last_moment};
 
 /// The last second of the clock: 9999-12-31 23:59:59 UTC, in seconds since 1970.
 const LAST_MOMENT: u64 = 253_402_300_799;

@@ -1,19 +1,18 @@
 //! What is held for all sites, and how a line finds tabs and documents there. What lines do with it
 //! stands in the modules below, one for each group of actions.
-ghost use Rattle.std.specs.Prelude.{◌≡◌, ℕ, [], IfOk, List, OnErr, Some, is_some, option_map, true};
-ghost use Rattle.suffix_list.specs.Suffix.{Rule};
+ghost use Rattle.std.specs.Prelude.{◌≡◌, [], IfOk, OnErr, Some, is_some, option_map, true};
 ghost use Rattle.origin_site.specs.Plain.{plain_site};
+ghost use Rattle.frame_tree.specs.Calls.{is_https_chain};
 ghost use Rattle.frame_tree.specs.Document.{PlainDocument};
 ghost use Rattle.live_state.specs.Queues.{has_document};
-ghost use Rattle.live_state.specs.Tabs.{is_open, tab_at};
+ghost use Rattle.live_state.specs.Tabs.{PlainTab, is_open, tab_at};
 ghost use Rattle.script_actions.specs.Plain.{action_of};
 ghost use Rattle.agent_model.specs.Effects.{no_shared_cells};
 ghost use Rattle.agent_model.specs.Lines.{site_at};
 ghost use Rattle.agent_model.specs.Partition.{no_holdings};
-ghost use Rattle.line_events.specs.Events.{HasAreas};
-ghost use Rattle.agent_memory.specs.AgentState.{places_in, world_of};
+ghost use Rattle.agent_memory.specs.AgentState.{places_in};
 ghost use Rattle.agent_memory.specs.Documents.{IsFound, document_at, key_wanted};
-ghost use Rattle.agent_memory.specs.HoldingsView.{cells_of, held_of, state_of};
+ghost use Rattle.agent_memory.specs.HoldingsView.{cells_of, held_of};
 ghost use Rattle.agent_memory.specs.Lines.{is_there};
 
 mod access;
@@ -31,7 +30,6 @@ use agent_base::{Label, NoMemory};
 use frame_tree::Tab;
 use live_state::Live;
 use origin_site::Site;
-use script_actions::Action;
 use std::alloc::Global;
 use std::marker::Model;
 use storage_key::StorageKey;
@@ -111,18 +109,6 @@ impl Holdings {
         }
     }
 
-    /// Whether a site has session areas of the tab that a line closes.
-    pub fn has_areas(&self, action: &Action, site: &Site) -> bool
-        ensures areas { (rules : List Rule) (now : ℕ)
-            → let here = world_of (state_of rules now self.now) in
-            HasAreas (action_of action.now) (plain_site site.now) here result }
-    {
-        match action {
-            Action::Close { tab } => self.storage.has_session(*tab, site),
-            _ => false,
-        }
-    }
-
     /// The site that a tab is at, where it is open.
     pub fn site(&self, alloc: Global, tab: u16) -> Result<Option<Site>, NoMemory>
         ensures site { let place = site_at tab (places_in self.now.live.tabs) in
@@ -162,6 +148,16 @@ impl Holdings {
         ensures there { result ≡ has_document self.now.live.tabs at }
     {
         self.tab(at.tab).document(at.frame).is_some()
+    }
+
+    /// Whether each document from the top to this one is https: what is for secure contexts alone
+    /// asks it behind its key, and before all else.
+    pub fn is_secure(&self, at: Label) -> bool
+        requires { is_open at.tab self.now.live.tabs ≡ true }
+        ensures secure { (tab : PlainTab) → tab_at at.tab self.now.live.tabs ≡ Some tab
+            → result ≡ is_https_chain at.frame tab.frames }
+    {
+        self.tab(at.tab).https_chain(at.frame)
     }
 }
 

@@ -2,25 +2,22 @@
 ghost use Rattle.std.specs.Prelude.{◌≡◌, ◌≤◌, [], IfOk, IsOk, None, Ok, OnOk, OnErr, Some, map};
 ghost use Rattle.std.specs.FinMap as finite;
 ghost use Rattle.unwinding.specs.Durable.{line_changes};
-ghost use Rattle.unwinding.specs.FiniteCells.{get_cell};
 ghost use Rattle.unwinding.specs.World.{line_reply, world_step};
 ghost use Rattle.origin_site.specs.Plain.{plain_address, plain_site};
 ghost use Rattle.script_actions.specs.Plain.{action_of, head_field_of};
 ghost use Rattle.reply_lines.specs.Plain.{reply_of};
 ghost use Rattle.script_actions.specs.Action as plain;
-ghost use Rattle.agent_model.specs.CookieCells.{domain_order};
+ghost use Rattle.script_actions.specs.Labels.{label_of};
 ghost use Rattle.agent_model.specs.Isolation.{printed};
 ghost use Rattle.agent_model.specs.Lines.{main_event};
 ghost use Rattle.agent_model.specs.Partition as model;
-ghost use Rattle.agent_model.specs.Rest.{last_moment};
+ghost use Rattle.agent_base.specs.Seconds.{last_moment};
 ghost use Rattle.agent_model.specs.TheMachine.{machine, beginning};
 ghost use Rattle.agent_memory.specs.AgentState.{world_of};
 ghost use Rattle.agent_memory.specs.Lines.{Runs};
 ghost use Rattle.agent_memory.specs.Writes.{LineWrites};
 ghost use Rattle.agent_memory.specs.Written.{AreWritten};
 ghost use Rattle.web_storage.specs.Stored.{held_with};
-ghost use Rattle.site_entries.specs.Seen.{IsGivenAt};
-ghost use Rattle.line_events.specs.Events.{label_of};
 
 use crate::body::Body;
 use crate::clock::clock_after;
@@ -28,13 +25,10 @@ use crate::holdings::Holdings;
 use crate::replies::{answer, refused, replied, ticked};
 use access_grants::Grants;
 use agent_base::{Label, NoMemory};
-use cookie_jar::Jar;
-use line_events::label_of;
 use live_state::Live;
 use origin_site::{Address, Site};
 use reply_lines::{Reply, ReplyBody};
 use script_actions::{Action, HeadField, Method};
-use site_entries::{Present, SeenLine, domain_cookies, seen};
 use std::alloc::Global;
 use std::marker::Model;
 use suffix_list::SuffixList;
@@ -152,35 +146,6 @@ impl<'l> Memory<'l> {
         &self.held.grants
     }
 
-    /// What a line would give a site. The agent stays as it is.
-    ///
-    /// `touched` says whether events of other sites have left the cookies of the site's domain
-    /// different.
-    pub fn seen(&self, action: &Action, site: &Site, touched: bool) -> Result<SeenLine, NoMemory>
-        ensures given { let here = world_of self.entry.now in
-            let line = action_of action.now in
-            IfOk result
-            (IsGivenAt self.entry.now.rules (plain_site site.now) touched here line) }
-    {
-        let present = Present {
-            list: self.list(),
-            now: self.now(),
-            live: self.live(),
-            cookies: self.cookies(),
-        };
-        let areas = self.held.has_areas(action, site);
-        seen(self.alloc, &present, action, site, touched, areas)
-    }
-
-    /// A copy of the unpartitioned cookies of a domain, which may be none.
-    pub fn domain_cookies(&self, domain: &str) -> Result<Jar, NoMemory>
-        ensures cookies { let cells = (world_of self.entry.now).cells in
-            let all = get_cell domain_order cells domain.now in
-            IfOk result (λ jar. jar.cookies ≡ all) }
-    {
-        domain_cookies(self.alloc, self.cookies(), domain)
-    }
-
     /// Runs one line, gives its reply, and writes its durable change behind `body`.
     ///
     /// Want of memory leaves the agent and the body as they were, and never comes where the line
@@ -220,7 +185,7 @@ impl<'l> Memory<'l> {
             body.old.bytes body.new.bytes result }
         ensures limit { body.new.limit ≡ body.old.limit }
     {
-        if let Some(at) = label_of(action) {
+        if let Some(at) = action.label() {
             return self.act(at, action, body);
         }
         match action {

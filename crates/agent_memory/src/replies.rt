@@ -3,7 +3,7 @@ ghost use Rattle.std.specs.Prelude.{◌≡◌, ◌≤◌, Some, None, codes, pos
 ghost use Rattle.origin_site.specs.Plain.{plain_site};
 ghost use Rattle.reply_lines.specs.Plain.{body_of, reply_of};
 ghost use Rattle.reply_lines.specs.Reply as reply_text;
-ghost use Rattle.agent_model.specs.Rest.{last_moment};
+ghost use Rattle.agent_base.specs.Seconds.{last_moment};
 
 use origin_site::Site;
 use reply_lines::{Reply, ReplyBody};

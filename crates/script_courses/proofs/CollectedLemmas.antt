@@ -20,7 +20,7 @@ use Rattle.agent_model.specs.Lines.{AgentWorld}
 use Rattle.agent_model.specs.TheMachine.{machine}
 use Rattle.durable_model.specs.Histories.{AgentOpening, AgentReply, history_script}
 use Rattle.durable_model.specs.Keeping.{keeping}
-use Rattle.local_items.specs.Items.{AgentEntry, AgentItem}
+use Rattle.local_scripts.specs.Items.{AgentEntry, AgentItem}
 use Rattle.script_courses.specs.Collected.{Collected, both, closing, line_tally, tally_of, touched_by, with_commit, with_line, with_restart}
 use Rattle.script_courses.specs.Courses.{closed_touched, collected_on, committed_on, lines_tally, world_on}
 use Rattle.script_courses.specs.Laws.{BeginsWithNothing, EndsWithScript, GrowsByCommit, GrowsByLine, GrowsByRestart, HoldsMore, WaitsAsHeld}

@@ -20,7 +20,7 @@ use Rattle.agent_model.specs.SiteEvent.{Answer}
 use Rattle.agent_model.specs.TheMachine.{machine}
 use Rattle.durable_model.specs.Histories.{AgentOpening, AgentReply}
 use Rattle.durable_model.specs.Keeping.{keeping}
-use Rattle.local_items.specs.Items.{AgentEntry, AgentItem}
+use Rattle.local_scripts.specs.Items.{AgentEntry, AgentItem}
 use Rattle.script_courses.specs.Collected.{Collected}
 use Rattle.script_courses.specs.Courses.{closed_touched, collected_on, lines_tally}
 use Rattle.script_courses.specs.Twins.{acknowledged_in}

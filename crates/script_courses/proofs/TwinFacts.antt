@@ -15,7 +15,7 @@ use Rattle.agent_model.specs.TheMachine.{machine}
 use Rattle.agent_model.proofs.StandardFacts.{a, b, site}
 use Rattle.durable_model.specs.Histories.{history_replies, history_script}
 use Rattle.durable_model.specs.Keeping.{keeping}
-use Rattle.local_items.specs.Items.{AgentItem}
+use Rattle.local_scripts.specs.Items.{AgentItem}
 use Rattle.script_courses.specs.GoodHistories.{good_history}
 use Rattle.script_courses.specs.Twins.{Equal, IsTwin, LocalDiffer, TwinSetting, script_in}
 

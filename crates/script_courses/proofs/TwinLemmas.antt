@@ -25,8 +25,8 @@ use Rattle.durable_model.specs.Keeping.{AgentDurable, keeping}
 use Rattle.durable_model.specs.Saved.{nothing_saved}
 use Rattle.durable_model.proofs.NothingLemmas.{nothing_valid}
 use Rattle.printed_model.specs.Histories.{HasSameLines, begins_at, down_reply, printed_replies, restart_reply}
-use Rattle.local_items.specs.Difference.{DifferAt}
-use Rattle.local_items.specs.Items.{AgentEntry, AgentItem}
+use Rattle.local_scripts.specs.Difference.{DifferAt}
+use Rattle.local_scripts.specs.Items.{AgentEntry, AgentItem}
 use Rattle.script_courses.specs.GoodHistories.{good_history}
 use Rattle.script_courses.specs.Twins.{EntriesDiffer, Equal, HasOneAnswer, AnswersByItems, LocalDiffer, PrintsTheSame, TellsOfLines, TwinSetting}
 use Rattle.script_courses.specs.Twins.{acknowledged_in, count_of_site, end_of, entries_of, replies_in, script_in}

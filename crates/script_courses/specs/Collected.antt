@@ -17,7 +17,7 @@ use Rattle.agent_model.specs.CookieCells.{Domain}
 use Rattle.agent_model.specs.Lines.{AgentWorld}
 use Rattle.agent_model.specs.TheMachine.{machine}
 use Rattle.durable_model.specs.Histories.{AgentReply}
-use Rattle.local_items.specs.Items.{AgentItem}
+use Rattle.local_scripts.specs.Items.{AgentItem}
 
 -- how many replies of a site there are, and how many durable changes
 pub record Tally : Type 0 where

@@ -14,8 +14,8 @@ use Rattle.script_actions.specs.Action.{PlainAction, PlainStep}
 use Rattle.agent_model.specs.Isolation.{lines_of_site}
 use Rattle.durable_model.specs.Histories.{AgentOpening, AgentReply, SiteHistory, history_script}
 use Rattle.printed_model.specs.Histories.{begins_at, printed_replies}
-use Rattle.local_items.specs.Difference.{DifferAt}
-use Rattle.local_items.specs.Items.{AgentItem}
+use Rattle.local_scripts.specs.Difference.{DifferAt}
+use Rattle.local_scripts.specs.Items.{AgentItem}
 use Rattle.script_courses.specs.GoodHistories.{good_history}
 
 -- the answer: the local scripts are equal, and so many lines of the site are printed of each; or

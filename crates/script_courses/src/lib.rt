@@ -13,7 +13,7 @@ ghost use Rattle.script_courses.specs.Laws.{WaitsAsHeld};
 ghost use Rattle.script_courses.specs.Twins.{AnswersByItems, HasOneAnswer, PrintsTheSame};
 ghost use Rattle.script_courses.specs.Twins.{TellsOfLines};
 
-use printed_model::printed_histories;
+use printed_model::printed_histories_are_isolated;
 
 /// The history of given lines over a new store on a disk without cuts: there is one, and no other.
 pub fn good_histories()
@@ -44,5 +44,5 @@ pub fn twins()
     ensures same { PrintsTheSame }
     ensures count { TellsOfLines }
 {
-    printed_histories();
+    printed_histories_are_isolated();
 }

@@ -4,8 +4,8 @@ use Rattle.std.specs.Prelude.{◌==◌}
 use Rattle.std.proofs.lemmas.Bool.{and_parts, eqb-true, true≢false}
 use Rattle.std.proofs.lemmas.List.{map-append, take-append-drop, take_more}
 use Rattle.unwinding.specs.LocalScript.{Happens, Restarts}
-use Rattle.local_items.specs.Items.{AgentItem, item_of}
-use Rattle.local_items.specs.declared.item.Item.{Item}
+use Rattle.local_scripts.specs.Items.{AgentItem, item_of}
+use Rattle.local_scripts.specs.declared.item.Item.{Item}
 use Rattle.script_courses.specs.Twins.{acknowledged_in}
 
 pub acknowledged_append : (xs ys : List AgentItem) → acknowledged_in (xs ++ ys) ≡ acknowledged_in xs + acknowledged_in ys

@@ -18,8 +18,8 @@ use Rattle.reply_lines.specs.declared.reply.Reply.{Reply}
 use Rattle.agent_model.specs.TheMachine.{machine}
 use Rattle.durable_model.specs.Keeping.{durable_of, keeping}
 use Rattle.durable_model.specs.Saved.{Saved, nothing_saved}
-use Rattle.local_items.specs.Items.{item_of}
-use Rattle.local_items.specs.declared.item.Item.TheVariants as item
+use Rattle.local_scripts.specs.Items.{item_of}
+use Rattle.local_scripts.specs.declared.item.Item.TheVariants as item
 use Rattle.printed_model.specs.Histories.{begins_at}
 use Rattle.script_courses.specs.Collected.{closing, nothing_collected, with_commit, with_restart}
 use Rattle.script_courses.specs.Twins.{Equal, IsTwin, LocalDiffer, Twin, TwinSetting}

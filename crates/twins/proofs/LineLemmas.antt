@@ -16,11 +16,11 @@ use Rattle.agent_model.specs.CookieCells.{Cookies, Domain, domain_order}
 use Rattle.agent_model.proofs.CookieCellsLemmas.{equal_cookies-Decides}
 use Rattle.agent_model.specs.Lines.{AgentWorld}
 use Rattle.agent_model.specs.TheMachine.{machine}
-use Rattle.local_items.specs.Items.{entry_of, item_of}
+use Rattle.local_scripts.specs.Items.{entry_of, item_of}
 use Rattle.script_courses.specs.Collected.{touched_by}
-use Rattle.site_entries.specs.Laws.{are_same}
-use Rattle.site_entries.specs.Seen.{IsGivenIn}
-use Rattle.site_entries.proofs.LawLemmas.{changes, touches}
+use Rattle.local_scripts.specs.Laws.{are_same}
+use Rattle.local_scripts.specs.Seen.{IsGivenIn}
+use Rattle.local_scripts.proofs.LawLemmas.{changes, touches}
 use Rattle.agent_core.specs.Means.{after_commit, after_line}
 use Rattle.agent_core.specs.Seen.{AgentSeen}
 use Rattle.twins.specs.Collectors.{TakesIn}

@@ -18,8 +18,8 @@ use Rattle.agent_model.specs.Isolation.{printed}
 use Rattle.agent_model.specs.TheMachine.{machine}
 use Rattle.durable_model.specs.Histories.{AgentReply}
 use Rattle.durable_model.specs.Keeping.{AgentDurable, keeping}
-use Rattle.local_items.specs.Items.{item_of}
-use Rattle.local_items.specs.declared.item.Item.TheVariants as item
+use Rattle.local_scripts.specs.Items.{item_of}
+use Rattle.local_scripts.specs.declared.item.Item.TheVariants as item
 use Rattle.printed_model.specs.Histories.{begins_at}
 use Rattle.script_courses.specs.Collected.{Collected, closing, with_commit, with_line, with_restart}
 use Rattle.script_courses.specs.Courses.{OnScript}

@@ -17,7 +17,7 @@ use Rattle.printed_model.specs.Histories.{begins_at}
 use Rattle.script_courses.specs.Collected.{Collected, with_line}
 use Rattle.script_courses.specs.Courses.{OnScript}
 use Rattle.script_courses.specs.Twins.{TwinSetting}
-use Rattle.site_entries.specs.Seen.{IsGivenAt}
+use Rattle.local_scripts.specs.Seen.{IsGivenAt}
 use Rattle.agent_core.specs.AgentView.{AgentView, may_of}
 use Rattle.agent_core.specs.Seen.{AgentSeen, IsSeen}
 use Rattle.store_runs.specs.Calls.{IsQuiet}

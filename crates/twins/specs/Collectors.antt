@@ -2,7 +2,7 @@
 -- Source: none; these are the words of the promise.
 use Rattle.std.specs.Prelude.{◌≡◌, ℕ, ◌+◌, ◌<◌, ◌^◌, Bool, List, ◌++◌, map}
 use Rattle.unwinding.specs.LocalScript.{happenings}
-use Rattle.local_items.specs.Items.{AgentEntry, item_of}
+use Rattle.local_scripts.specs.Items.{AgentEntry, item_of}
 use Rattle.script_courses.specs.Collected.{Collected}
 use Rattle.twins.specs.declared.collector.Collector.{Collector}
 

@@ -2,9 +2,9 @@
 -- Source: none; these are the words of the promise.
 use Rattle.std.specs.Prelude.{◌≡◌, ◌≢◌, ◌⊎◌, ◌<◌, ◌^◌, List, ◌++◌, ◌∷◌, [], length, map}
 use Rattle.script_actions.specs.Action.{PlainStep}
-use Rattle.local_items.specs.Difference.{DifferAt}
-use Rattle.local_items.specs.Items.{AgentItem, item_of}
-use Rattle.local_items.specs.declared.item.Item.TheVariants as item
+use Rattle.local_scripts.specs.Difference.{DifferAt}
+use Rattle.local_scripts.specs.Items.{AgentItem, item_of}
+use Rattle.local_scripts.specs.declared.item.Item.TheVariants as item
 use Rattle.script_courses.specs.Twins.{Equal, HasItems, LocalDiffer, Twin, TwinSetting}
 use Rattle.script_courses.specs.Twins.{acknowledged_in}
 use Rattle.twins.specs.declared.scripts.LocalScript.{LocalScript}

@@ -6,7 +6,7 @@ ghost use Rattle.twins.specs.Scripts.{Compares, items_of};
 
 use crate::counts::acknowledged;
 use crate::scripts::LocalScript;
-use local_items::first_difference;
+use local_scripts::first_difference;
 
 /// The answer to two scripts.
 #[derive(Clone, Copy, Debug, PartialEq, Eq)]

@@ -5,19 +5,20 @@ ghost use Rattle.origin_site.specs.Plain.{plain_site};
 ghost use Rattle.script_actions.specs.Action.{PlainAction};
 ghost use Rattle.script_actions.specs.Plain.{action_of};
 ghost use Rattle.agent_model.specs.Lines.{AgentWorld};
-ghost use Rattle.site_entries.specs.Laws.{are_same};
+ghost use Rattle.local_scripts.specs.Laws.{are_same};
 ghost use Rattle.agent_core.specs.Seen.{AgentSeen, IsSeen};
 ghost use Rattle.twins.specs.Collecting.{HasRun, IsBefore, IsCopied, TakesLine};
 
 use crate::collector::Collector;
+use crate::present::{domain_cookies, seen_line};
 use agent_base::NoMemory;
 use agent_core::Agent;
 use cookie_jar::Jar;
 use disk_model::MemDisk;
-use local_items::same_cookies;
+use local_scripts::{SeenLine, same_cookies};
 use origin_site::Site;
 use script_actions::Action;
-use site_entries::SeenLine;
+use std::alloc::Global;
 
 /// What is told of a line before it runs.
 #[derive(Debug, Drop)]
@@ -33,6 +34,7 @@ pub struct Before {
 /// What is told of a line that did not run yet. `changed` says whether events of other sites have
 /// left the cookies of the site's domain different.
 pub fn look(
+    alloc: Global,
     agent: &Agent<'_, MemDisk>,
     site: &Site,
     action: &Action,
@@ -43,8 +45,9 @@ pub fn look(
         → IfOk result (IsBefore v.memory.rules (plain_site site.now) changed a
         (action_of action.now)) }
 {
-    let line = agent.seen(action, site, changed)?;
-    let cookies = kept_cookies(agent, site, line.asks)?;
+    let memory = agent.memory()?;
+    let line = seen_line(alloc, memory, action, site, changed)?;
+    let cookies = kept_cookies(alloc, agent, site, line.asks)?;
     Ok(Before {
         line,
         cookies,
@@ -54,6 +57,7 @@ pub fn look(
 
 // The cookies of the site's domain, where a line asks for them.
 fn kept_cookies(
+    alloc: Global,
     agent: &Agent<'_, MemDisk>,
     site: &Site,
     asks: bool,
@@ -65,11 +69,13 @@ fn kept_cookies(
     if !asks {
         return Ok(None);
     }
-    Ok(Some(agent.domain_cookies(site.host.as_str())?))
+    let memory = agent.memory()?;
+    Ok(Some(domain_cookies(alloc, memory, site.host.as_str())?))
 }
 
 /// What is collected of a line that just ran.
 pub fn take_in(
+    alloc: Global,
     agent: &Agent<'_, MemDisk>,
     site: &Site,
     before: Before,
@@ -81,7 +87,7 @@ pub fn take_in(
         → OnOk result (TakesLine v.memory.rules (plain_site site.now) a.world line
         found.old found.new) }
 {
-    let changed = is_changed(agent, site, found.changed, &before.cookies)?;
+    let changed = is_changed(alloc, agent, site, found.changed, &before.cookies)?;
     let made = if before.line.of_site {
         agent.changes().saturating_sub(before.changes)
     } else {
@@ -93,6 +99,7 @@ pub fn take_in(
 // Whether events of other sites have left the cookies of the site's domain different: they had
 // before, or the line asked for these cookies, and they are not what they were.
 fn is_changed(
+    alloc: Global,
     agent: &Agent<'_, MemDisk>,
     site: &Site,
     changed: bool,
@@ -107,6 +114,7 @@ fn is_changed(
     let Some(before) = kept else {
         return Ok(changed);
     };
-    let after = agent.domain_cookies(site.host.as_str())?;
+    let memory = agent.memory()?;
+    let after = domain_cookies(alloc, memory, site.host.as_str())?;
     Ok(changed || !same_cookies(before, &after))
 }

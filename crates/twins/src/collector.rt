@@ -1,13 +1,13 @@
 //! What is collected of a run, for the local script of a site.
 ghost use Rattle.std.specs.Prelude.{◌≡◌, ◌<◌, ◌+◌, ◌^◌, ◌++◌, ◌∷◌, [], ℕ, OnOk, map};
 ghost use Rattle.unwinding.specs.LocalScript.{happenings};
-ghost use Rattle.local_items.specs.Items.{entry_of, item_of};
+ghost use Rattle.local_scripts.specs.Items.{entry_of, item_of};
 ghost use Rattle.script_courses.specs.Collected.{closing, nothing_collected};
 ghost use Rattle.script_courses.specs.Collected.{with_commit, with_restart};
 ghost use Rattle.twins.specs.Collectors.{TakesIn, collected_of};
 
 use agent_base::NoMemory;
-use local_items::{Entry, Item, Restart};
+use local_scripts::{Entry, Item, Restart};
 use std::alloc::Global;
 
 /// What is collected of a run so far. How many replies of the site wait for their batch is not

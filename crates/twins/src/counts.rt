@@ -3,10 +3,10 @@ ghost use Rattle.std.specs.Prelude.{◌≡◌, ◌<◌, ◌^◌, filter, length,
 ghost use Rattle.origin_site.specs.Plain.{plain_site};
 ghost use Rattle.reply_lines.specs.Plain.{reply_of};
 ghost use Rattle.storage_key.specs.Context.{is_of};
-ghost use Rattle.local_items.specs.Items.{item_of};
+ghost use Rattle.local_scripts.specs.Items.{item_of};
 ghost use Rattle.script_courses.specs.Twins.{acknowledged_in};
 
-use local_items::Item;
+use local_scripts::Item;
 use origin_site::{Site, same_site};
 use reply_lines::Reply;
 

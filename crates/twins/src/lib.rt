@@ -9,6 +9,7 @@ mod before;
 mod collector;
 mod counts;
 mod lines;
+mod present;
 mod scripts;
 mod two_scripts;
 

@@ -5,7 +5,7 @@ ghost use Rattle.unwinding.specs.Admissible.{Acts, Reopens};
 ghost use Rattle.origin_site.specs.Plain.{plain_site};
 ghost use Rattle.origin_site.specs.Site.{PlainSite};
 ghost use Rattle.script_actions.specs.Plain.{action_of, step_of};
-ghost use Rattle.agent_model.specs.Rest.{last_moment};
+ghost use Rattle.agent_base.specs.Seconds.{last_moment};
 ghost use Rattle.script_courses.specs.Collected.{nothing_collected};
 ghost use Rattle.agent_core.specs.AgentView.{longest_batch};
 ghost use Rattle.store_runs.specs.Steps.{steps_of};
@@ -43,7 +43,7 @@ pub fn collect(
     let mut agent = open(alloc, list, options)?;
     let mut found = Collector::new(alloc);
     for line in lines {
-        step(&mut agent, site, &line.step, &mut found)?;
+        step(alloc, &mut agent, site, &line.step, &mut found)?;
     }
     close(&mut agent, site, found)
 }
@@ -71,6 +71,7 @@ fn open<'l>(
 
 // Runs one line, and collects what it gives the site.
 fn step(
+    alloc: Global,
     agent: &mut Agent<'_, MemDisk>,
     site: &Site,
     step: &Step,
@@ -81,13 +82,14 @@ fn step(
         agent.old found.old agent.new found.new) }
 {
     match step {
-        Step::Act(action) => act(agent, site, action, found),
+        Step::Act(action) => act(alloc, agent, site, action, found),
         Step::Restart => reopen(agent, found),
     }
 }
 
 // Runs a line that acts.
 fn act(
+    alloc: Global,
     agent: &mut Agent<'_, MemDisk>,
     site: &Site,
     action: &Action,
@@ -97,11 +99,11 @@ fn act(
     ensures leads { OnOk result (Leads (plain_site site.now) (Acts (action_of action.now))
         agent.old found.old agent.new found.new) }
 {
-    let before = look(agent, site, action, found.changed)?;
+    let before = look(alloc, agent, site, action, found.changed)?;
     match agent.line(action) {
-        Outcome::Held => take_in(agent, site, before, found),
+        Outcome::Held => take_in(alloc, agent, site, before, found),
         Outcome::Replies(given) => {
-            take_in(agent, site, before, found)?;
+            take_in(alloc, agent, site, before, found)?;
             found.commit(replies_of(site, &given));
             Ok(())
         }

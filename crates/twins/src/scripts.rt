@@ -1,6 +1,6 @@
 //! A local script, as it was collected.
 
-use local_items::{Item, Restart};
+use local_scripts::{Item, Restart};
 
 /// A local script: its entries, and its end, which closes the last epoch.
 #[derive(Debug, Drop)]

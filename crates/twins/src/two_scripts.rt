@@ -1,7 +1,7 @@
 //! Two scripts, run and compared.
 ghost use Rattle.std.specs.Prelude.{◌≤◌, ◌<◌, ◌+◌, ◌^◌, IfOk, length};
 ghost use Rattle.origin_site.specs.Plain.{plain_site};
-ghost use Rattle.agent_model.specs.Rest.{last_moment};
+ghost use Rattle.agent_base.specs.Seconds.{last_moment};
 ghost use Rattle.script_courses.specs.Twins.{IsTwin};
 ghost use Rattle.agent_core.specs.AgentView.{longest_batch};
 ghost use Rattle.store_runs.specs.Steps.{steps_of};

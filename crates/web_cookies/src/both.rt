@@ -6,7 +6,7 @@ ghost use Rattle.script_actions.specs.Plain.{head_field_of};
 ghost use Rattle.setcookie_parse.specs.SetCookie.{Kept};
 ghost use Rattle.setcookie_parse.specs.Plain.{plain_text};
 ghost use Rattle.agent_model.specs.CookieStore as spec;
-ghost use Rattle.agent_model.specs.Rest.{last_moment};
+ghost use Rattle.agent_base.specs.Seconds.{last_moment};
 ghost use Rattle.case_tables.specs.Rows.{same_in_any_case};
 ghost use Rattle.web_cookies.specs.Words.{AreStored, IsStored, IsWordOf, IsWordOfDrop, jar_left, rows_by, word_by};
 ghost use Rattle.cookie_jar.specs.Key.{plain_key};

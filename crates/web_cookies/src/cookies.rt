@@ -10,7 +10,7 @@ ghost use Rattle.agent_model.specs.CookieCells.{no_cookies};
 ghost use Rattle.agent_model.specs.PartitionedCells.{no_partitioned_cells};
 ghost use Rattle.agent_model.specs.Cookies.{read_cookies_by, request, set_cookie_by};
 ghost use Rattle.agent_model.specs.Effects.{Effect};
-ghost use Rattle.agent_model.specs.Rest.{last_moment};
+ghost use Rattle.agent_base.specs.Seconds.{last_moment};
 ghost use Rattle.web_cookies.specs.Stored.{IsDoneBy, shared_in, partitioned_in};
 ghost use Rattle.web_cookies.specs.Uses.{plain_use};
 ghost use Rattle.web_cookies.specs.Cells.{cookies_at, jar_at, kind_of};

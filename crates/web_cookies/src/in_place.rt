@@ -7,7 +7,7 @@ ghost use Rattle.script_actions.specs.Plain.{head_field_of};
 ghost use Rattle.setcookie_parse.specs.Plain.{plain_text};
 ghost use Rattle.setcookie_parse.specs.SetCookie.{Kept};
 ghost use Rattle.agent_model.specs.CookieStore as spec;
-ghost use Rattle.agent_model.specs.Rest.{last_moment};
+ghost use Rattle.agent_base.specs.Seconds.{last_moment};
 ghost use Rattle.web_cookies.specs.Cells.{cookies_at, kind_of};
 ghost use Rattle.web_cookies.specs.CellsOfUse.{AreKeysOf, found};
 ghost use Rattle.web_cookies.specs.InPlace.{AreInPlace, IsInPlace, IsReplaced};

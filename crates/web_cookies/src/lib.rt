@@ -9,6 +9,7 @@ mod both;
 mod change;
 mod cookie_use;
 mod cookies;
+mod granted;
 mod in_place;
 mod keys;
 mod listing;
@@ -20,4 +21,5 @@ mod words;
 
 pub use cookie_use::CookieUse;
 pub use cookies::Cookies;
+pub use granted::{is_granted_at, is_granted_nav};
 pub use prepared::Prepared;

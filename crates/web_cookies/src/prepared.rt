@@ -8,7 +8,7 @@ ghost use Rattle.script_actions.specs.Action as script;
 ghost use Rattle.agent_model.specs.CookieUse as model;
 ghost use Rattle.agent_model.specs.CookieStore.{cookie_texts, store_text, store_texts};
 ghost use Rattle.agent_model.specs.Cookies.{request, set_cookie_by};
-ghost use Rattle.agent_model.specs.Rest.{last_moment};
+ghost use Rattle.agent_base.specs.Seconds.{last_moment};
 ghost use Rattle.web_cookies.specs.Stored.{Entries};
 ghost use Rattle.web_cookies.specs.Cells.{kind_of};
 ghost use Rattle.web_cookies.specs.Keys.{own_of, partition_of};

@@ -3,7 +3,7 @@ ghost use Rattle.std.specs.Prelude.{◌≡◌, ◌≤◌, ◌&&◌, IfOk, Some, 
 ghost use Rattle.cookie_jar.specs.Sending.{joined};
 ghost use Rattle.partition_limits.specs.declared.tally.CellKind.TheVariants as kind;
 ghost use Rattle.agent_model.specs.CookieStore as spec;
-ghost use Rattle.agent_model.specs.Rest.{last_moment};
+ghost use Rattle.agent_base.specs.Seconds.{last_moment};
 ghost use Rattle.web_cookies.specs.CellsOfUse.{both_of};
 ghost use Rattle.web_cookies.specs.Uses.{plain_use};
 

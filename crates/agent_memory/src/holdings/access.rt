@@ -10,7 +10,7 @@ ghost use Rattle.frame_tree.specs.Tree.{document_of};
 ghost use Rattle.live_state.specs.FramesInPlace.{ChangesTab, frames_at, requested};
 ghost use Rattle.live_state.specs.Queues.{has_document};
 ghost use Rattle.live_state.specs.Tabs.{is_open};
-ghost use Rattle.agent_model.specs.Rest.{last_moment};
+ghost use Rattle.agent_base.specs.Seconds.{last_moment};
 ghost use Rattle.agent_model.specs.StorageAccess.{access_facts, answer_of, decision_word};
 ghost use Rattle.agent_model.specs.StorageAccess.{embedded_site, refusal_word, request_access};
 ghost use Rattle.agent_model.specs.StorageAccess.{tell_access};
@@ -25,8 +25,7 @@ use crate::holdings::{Holdings, open_tab};
 use crate::replies::answer;
 use access_grants::{Answer, Decision, Facts, GrantRow, Grants, Outcome, Permission, Refusal};
 use agent_base::{Label, NoMemory};
-use frame_tree::{Document, Tab};
-use line_events::target_of;
+use frame_tree::{Document, Tab, site_of_address};
 use live_state::Live;
 use origin_site::Site;
 use reply_lines::ReplyBody;
@@ -53,7 +52,7 @@ impl Holdings {
         let Some(document) = tab.document(at.frame) else {
             return Ok(answer("no-frame"));
         };
-        let site = target_of(alloc, list, &document.address)?;
+        let site = site_of_address(alloc, &document.address, list)?;
         let facts = facts_of(tab, at.frame, now, document, &site);
         Ok(ReplyBody::Truth {
             value: facts.has_access(),
@@ -86,7 +85,7 @@ impl Holdings {
             return Ok(answer("no-frame"));
         };
         let top = tab.top_site();
-        let site = target_of(alloc, list, &document.address)?;
+        let site = site_of_address(alloc, &document.address, list)?;
         let facts = facts_of(tab, at.frame, now, document, &site);
         let said = answer_of(prompt);
         let outcome = self.grants.request(top, &site, &facts, said, signed(now));

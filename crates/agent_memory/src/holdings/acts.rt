@@ -4,10 +4,10 @@ ghost use Rattle.storage_key.specs.Plain.{plain_key};
 ghost use Rattle.live_state.specs.Queues.{has_document};
 ghost use Rattle.live_state.specs.Tabs.{is_open};
 ghost use Rattle.script_actions.specs.Plain.{action_of};
-ghost use Rattle.agent_model.specs.Rest.{last_moment};
+ghost use Rattle.agent_base.specs.Seconds.{last_moment};
 ghost use Rattle.agent_model.specs.Documents.{with_key};
 ghost use Rattle.agent_model.specs.SiteStep.{act_in};
-ghost use Rattle.line_events.specs.Events.{label_of};
+ghost use Rattle.script_actions.specs.Labels.{label_of};
 ghost use Rattle.agent_memory.specs.ActionKinds.{by_keyed, document_action, is_keyed, is_reading};
 ghost use Rattle.agent_memory.specs.Actions.{ActsAt, ActsIn};
 ghost use Rattle.agent_memory.specs.Writes.{WritesAt, WritesIn};
@@ -101,7 +101,7 @@ impl Holdings {
     ) -> Result<ReplyBody, NoMemory>
         requires now { now ≤ last_moment }
         requires open { is_open at.tab self.old.live.tabs ≡ true }
-        requires keyed { is_keyed list.now.rules now (action_of action.now) ≡ true }
+        requires keyed { is_keyed (action_of action.now) ≡ true }
         ensures acts { IfSome (by_keyed list.now.rules now (action_of action.now)) (λ does.
             ActsIn at.tab (λ site tab. with_key at tab (does site tab)) self.old self.new result) }
         ensures changes { IfSome (by_keyed list.now.rules now (action_of action.now)) (λ does.
@@ -166,7 +166,7 @@ impl Holdings {
     ) -> Result<ReplyBody, NoMemory>
         requires now { now ≤ last_moment }
         requires there { has_document self.old.live.tabs at ≡ true }
-        requires keyed { is_keyed list.now.rules now (action_of action.now) ≡ true }
+        requires keyed { is_keyed (action_of action.now) ≡ true }
         requires writes { is_reading (action_of action.now) ≡ false }
         ensures acts { IfSome (by_keyed list.now.rules now (action_of action.now)) (λ does.
             ActsAt at (plain_key key.now) does self.old self.new result) }

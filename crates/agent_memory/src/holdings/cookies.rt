@@ -5,13 +5,13 @@ ghost use Rattle.storage_key.specs.Plain.{plain_key};
 ghost use Rattle.live_state.specs.Queues.{has_document};
 ghost use Rattle.live_state.specs.Tabs.{is_open};
 ghost use Rattle.script_actions.specs.Plain.{head_field_of};
-ghost use Rattle.agent_model.specs.Rest.{last_moment};
+ghost use Rattle.agent_base.specs.Seconds.{last_moment};
 ghost use Rattle.agent_model.specs.Cookies.{fetch, read_cookies, set_cookie};
 ghost use Rattle.agent_memory.specs.Actions.{ActsAt, ActsIn};
 ghost use Rattle.agent_memory.specs.Writes.{WritesAt, WritesIn};
 
 use crate::body::Body;
-use crate::holdings::requests::{is_granted_at, prepare_below, script_use, write_rows};
+use crate::holdings::requests::{prepare_below, script_use, write_rows};
 use crate::holdings::{Holdings, open_tab};
 use crate::replies::answer;
 use agent_base::{Label, NoMemory};
@@ -21,6 +21,7 @@ use script_actions::{HeadField, Method};
 use std::alloc::Global;
 use storage_key::StorageKey;
 use suffix_list::SuffixList;
+use web_cookies::is_granted_at;
 
 impl Holdings {
     /// A document requests an address. Its cookies are sent, and then those of the response stored.

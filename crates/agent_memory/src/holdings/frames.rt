@@ -11,7 +11,7 @@ ghost use Rattle.live_state.specs.Tabs.{is_open};
 ghost use Rattle.script_actions.specs.Plain.{head_field_of};
 ghost use Rattle.reply_lines.specs.Plain.{body_of};
 ghost use Rattle.reply_lines.specs.Reply.{PlainBody};
-ghost use Rattle.agent_model.specs.Rest.{last_moment};
+ghost use Rattle.agent_base.specs.Seconds.{last_moment};
 ghost use Rattle.agent_model.specs.Frames.{add_frame, click, frames_added, frames_clicked};
 ghost use Rattle.agent_model.specs.Frames.{frames_removed, navigate_frame, remove_frame};
 ghost use Rattle.agent_model.specs.Frames.{where_below};
@@ -27,14 +27,13 @@ use crate::holdings::{Holdings, open_tab};
 use crate::replies::answer;
 use agent_base::{Label, NoMemory};
 use frame_tree::{Sandbox, TreeFault};
-use line_events::is_granted_nav;
 use live_state::Live;
 use origin_site::Address;
 use reply_lines::ReplyBody;
 use script_actions::{HeadField, Method};
 use std::alloc::Global;
 use suffix_list::SuffixList;
-use web_cookies::{Cookies, Prepared};
+use web_cookies::{Cookies, Prepared, is_granted_nav};
 
 impl Holdings {
     /// Adds a frame to a tab. It loads its address: a request below its parent.

@@ -6,7 +6,7 @@ ghost use Rattle.origin_site.specs.Site.{site_of_address};
 ghost use Rattle.script_actions.specs.Plain.{head_field_of};
 ghost use Rattle.reply_lines.specs.Plain.{body_of};
 ghost use Rattle.agent_model.specs.Lines.{is_same_site, placed};
-ghost use Rattle.agent_model.specs.Rest.{last_moment};
+ghost use Rattle.agent_base.specs.Seconds.{last_moment};
 ghost use Rattle.agent_model.specs.Sessions.{arrive, close, has_session, show};
 ghost use Rattle.agent_memory.specs.AgentState.{places_in};
 ghost use Rattle.agent_memory.specs.HoldingsView.{cells_of, held_of};
@@ -19,8 +19,7 @@ use crate::body::Body;
 use crate::holdings::Holdings;
 use crate::holdings::requests::{prepare_top, write_rows};
 use agent_base::NoMemory;
-use frame_tree::Tab;
-use line_events::target_of;
+use frame_tree::{Tab, site_of_address};
 use origin_site::{Address, Site};
 use reply_lines::ReplyBody;
 use script_actions::{HeadField, Method};
@@ -71,7 +70,7 @@ impl Holdings {
             Appends (does (cells_of self.old) copied).changes body.old.bytes body.new.bytes result }
         ensures limit { body.new.limit ≡ body.old.limit }
     {
-        let site = target_of(alloc, list, url)?;
+        let site = site_of_address(alloc, url, list)?;
         let live = &self.live;
         let cookies = &mut self.cookies;
         let prepared = prepare_top(

@@ -5,10 +5,9 @@ ghost use Rattle.origin_site.specs.Plain.{plain_site};
 ghost use Rattle.storage_key.specs.Plain.{plain_key};
 ghost use Rattle.row_changes.specs.Change.{AreaClear};
 ghost use Rattle.row_changes.specs.Plain.{plain_change};
-ghost use Rattle.frame_tree.specs.Calls.{is_https_chain};
 ghost use Rattle.frame_tree.specs.Document.{PlainDocument};
 ghost use Rattle.local_area.specs.Area.{area_weight};
-ghost use Rattle.live_state.specs.Tabs.{PlainTab, is_open, tab_at};
+ghost use Rattle.live_state.specs.Tabs.{is_open};
 ghost use Rattle.reply_lines.specs.Plain.{body_of};
 ghost use Rattle.reply_lines.specs.Reply as reply_text;
 ghost use Rattle.storage_events.specs.declared.event.AreaKind.TheVariants.{Local};
@@ -16,7 +15,7 @@ ghost use Rattle.agent_model.specs.Partition as model;
 ghost use Rattle.agent_model.specs.Partition.{area_of};
 ghost use Rattle.web_storage.specs.Stored.{held_with};
 ghost use Rattle.agent_model.specs.Changes.{clears};
-ghost use Rattle.agent_model.specs.Documents.{Keyed};
+ghost use Rattle.agent_model.specs.Documents.{Keyed, in_secure};
 ghost use Rattle.agent_model.specs.Buckets.{areas_taken, evict, evicted_count, is_grant};
 ghost use Rattle.agent_model.specs.Buckets.{is_persistent, persist};
 ghost use Rattle.agent_model.specs.Buckets.{without_evicted};
@@ -71,11 +70,12 @@ impl Holdings {
         ensures acts { (document : PlainDocument)
             → let own = plain_key key.now in
             let asker : Keyed = record { at = at; document = document; key = own } in
-            ActsIn at.tab (λ site tab. persist tab prompt asker) self.old self.new result }
+            ActsIn at.tab (λ site tab. in_secure tab (persist prompt) asker)
+            self.old self.new result }
         ensures changes { (document : PlainDocument)
             → let own = plain_key key.now in
             let asker : Keyed = record { at = at; document = document; key = own } in
-            WritesIn at.tab (λ site tab. persist tab prompt asker)
+            WritesIn at.tab (λ site tab. in_secure tab (persist prompt) asker)
             self.old body.old.bytes body.new.bytes result }
         ensures limit { body.new.limit ≡ body.old.limit }
     {
@@ -108,15 +108,6 @@ impl Holdings {
     {
         write_evicted(alloc, &self.storage, site, body)?;
         self.storage.evict(site)
-    }
-
-    // Whether each document from the top to this one is https.
-    fn is_secure(&self, at: Label) -> bool
-        requires { is_open at.tab self.now.live.tabs ≡ true }
-        ensures secure { (tab : PlainTab) → tab_at at.tab self.now.live.tabs ≡ Some tab
-            → result ≡ is_https_chain at.frame tab.frames }
-    {
-        self.tab(at.tab).https_chain(at.frame)
     }
 }
 

@@ -10,7 +10,7 @@ ghost use Rattle.script_actions.specs.Plain.{head_field_of};
 ghost use Rattle.agent_model.specs.CookieUses as spec;
 ghost use Rattle.agent_model.specs.Documents.{Keyed};
 ghost use Rattle.agent_model.specs.Lines as lines;
-ghost use Rattle.agent_model.specs.Rest.{last_moment};
+ghost use Rattle.agent_base.specs.Seconds.{last_moment};
 ghost use Rattle.web_cookies.specs.Uses.{plain_use};
 ghost use Rattle.agent_memory.specs.Lines.{is_there};
 ghost use Rattle.agent_memory.specs.Requests.{IsPrepared, starter_in};
@@ -20,9 +20,7 @@ ghost use Rattle.agent_memory.specs.Writes.{AreRows};
 use crate::body::Body;
 use crate::holdings::open_tab;
 use agent_base::{Label, NoMemory};
-use frame_tree::Tab;
-pub use line_events::is_granted_at;
-use line_events::{context_above, target_of};
+use frame_tree::{Tab, site_of_address};
 use live_state::Live;
 use origin_site::{Address, Site, domain_of, same_site};
 use script_actions::{HeadField, Method};
@@ -126,7 +124,7 @@ fn is_first(
     if is_at(top, list, url) {
         return Ok(tab.first_party(frame, top));
     }
-    let target = target_of(alloc, list, url)?;
+    let target = site_of_address(alloc, url, list)?;
     Ok(tab.first_party(frame, &target))
 }
 
@@ -161,8 +159,8 @@ pub fn prepare_nav(
         let fields = map head_field_of head.now in
         IsPrepared list.now.rules now how fields cookies.old cookies.new result }
 {
-    let target = target_of(alloc, list, url)?;
-    let context = context_above(tab, frame, &target)?;
+    let target = site_of_address(alloc, url, list)?;
+    let context = tab.context_above(frame, &target)?;
     let same_site = if by_self {
         tab.first_party(frame, &target)
     } else {

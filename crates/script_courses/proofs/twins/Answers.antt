@@ -5,7 +5,7 @@ pub returns-clause-one : goal.returns-clause-one
 returns-clause-one c = has_one_answer
 
 pub returns-clause-same : goal.returns-clause-same
-returns-clause-same c = prints_the_same c.printed_histories.ensures.same
+returns-clause-same c = prints_the_same c.printed_histories_are_isolated.ensures.same
 
 pub returns-clause-count : goal.returns-clause-count
 returns-clause-count c = tells_of_lines

@@ -9,7 +9,7 @@ returns-clause-seen g c =
     resumed_seen c.args.list.now c.resume.result c.new.result c.args.opened.journal
     c.args.options.start c.changes-changes.result
     c.args.options.checkpoint Up c.args.disk (g.D.Disk.view c.args.disk)
-    c.args.opened.parts c.durable_states.ensures.opens c.spelled_lines.ensures.opens
+    c.args.opened.parts c.lines_keep_durable_states.ensures.opens c.lines_have_spellings.ensures.opens
     c.resume.ensures.state c.requires.start
     (omega (arith, c.changes-changes.ensures, c.changes-changes.type_inv))
     c.changes-changes.ensures c.requires.opened c.new.ensures.body c.new.ensures.changes

@@ -1,5 +1,5 @@
 use Rattle.std.proofs.Common.{map, [], ◌∷◌, sym, ap, ◌∙◌, arith}
-use Rattle.local_items.specs.Items.{item_of}
+use Rattle.local_scripts.specs.Items.{item_of}
 use Rattle.script_courses.specs.Twins.{acknowledged_in}
 use Rattle.twins.specs.Scripts.{end_in, entries_in}
 use Rattle.twins.proofs.CountLemmas.{acknowledged_append, same_end}

@@ -2,7 +2,7 @@
 use Rattle.std.proofs.Common.{◌≡◌, ◌++◌, map}
 use Rattle.std.specs.Vec.Iter.{into_iter_items}
 use Rattle.unwinding.specs.LocalScript.{happenings}
-use Rattle.local_items.specs.Items.{entry_of, item_of}
+use Rattle.local_scripts.specs.Items.{entry_of, item_of}
 use Rattle.twins.proofs.collector.push_all.Given as goal
 
 abbrev pub invariant-loop-entry : goal.invariant-loop-entry

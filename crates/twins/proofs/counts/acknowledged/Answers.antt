@@ -1,5 +1,5 @@
 use Rattle.std.proofs.Common.{◌+◌, sym, ap, ◌∙◌, arith, [], ◌∷◌}
-use Rattle.local_items.specs.Items.{item_of}
+use Rattle.local_scripts.specs.Items.{item_of}
 use Rattle.script_courses.specs.Twins.{acknowledged_in}
 use Rattle.twins.proofs.CountLemmas.{acknowledged_few, acknowledged_more}
 use Rattle.twins.proofs.counts.acknowledged.Goals as goal

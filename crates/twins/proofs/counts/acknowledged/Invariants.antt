@@ -1,6 +1,6 @@
 -- The replies of the items so far are counted.
 use Rattle.std.proofs.Common.{◌≡◌, map, take}
-use Rattle.local_items.specs.Items.{item_of}
+use Rattle.local_scripts.specs.Items.{item_of}
 use Rattle.script_courses.specs.Twins.{acknowledged_in}
 use Rattle.twins.proofs.counts.acknowledged.Given as goal
 

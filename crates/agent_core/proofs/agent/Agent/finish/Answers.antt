@@ -26,7 +26,7 @@ returns-in-Err-clause-finishes g c = rw (← c.self.view_is) (λ ran up.
     c.self.inside.store.journal c.commit.new.self.journal c.self.inside.opened c.self.inside.checkpoint
     c.self.inside.power c.self.inside.store.disk c.commit.new.self.disk
     (g.D.Disk.view c.self.inside.store.disk) (g.D.Disk.view c.commit.new.self.disk) ran
-    c.written.ensures.bodies up
+    c.bodies_mean_states.ensures.bodies up
     (leaves_same c.self.inside.store.journal (g.D.Disk.view c.self.inside.store.disk)
     (g.D.Disk.view c.commit.new.self.disk) c.self.inside.batch.body c.bytes.result.now
     c.self.inside.batch.changes c.changes-changes.result c.bytes.ensures.bytes
@@ -37,7 +37,7 @@ returns-in-Err-clause-finishes g c = rw (← c.self.view_is) (λ ran up.
 
 pub returns-in-Err-clause-any_moment : goal.returns-in-Err-clause-any_moment
 returns-in-Err-clause-any_moment g c = rw (← c.self.view_is) (λ ran held tells.
-    finish_moments _ _ _ ran c.written.ensures.bodies held
+    finish_moments _ _ _ ran c.bodies_mean_states.ensures.bodies held
     (leaves_same _ _ _ _ _ _ _ c.bytes.ensures.bytes c.changes-changes.ensures.changes
     c.in-Err.ensures.any_moment) tells)
 
@@ -63,8 +63,8 @@ returns-in-Ok-clause-finishes g c = rw (← c.self.view_is, c.now-self-inside.en
     c.self.inside.store.journal c.commit.new.self.journal c.self.inside.opened c.self.inside.checkpoint
     c.self.inside.power c.self.inside.store.disk c.commit.new.self.disk
     (g.D.Disk.view c.self.inside.store.disk) (g.D.Disk.view c.commit.new.self.disk) ran
-    c.written.ensures.bodies up c.give.new.self c.give.result c.durable_states.ensures.valid
-    c.written.ensures.storable c.written.ensures.spelled
+    c.bodies_mean_states.ensures.bodies up c.give.new.self c.give.result c.lines_keep_durable_states.ensures.valid
+    c.bodies_mean_states.ensures.storable c.bodies_mean_states.ensures.spelled
     (power_is _ _ c.self.view_is c.requires.up)
     c.give.ensures.body c.give.ensures.changes c.give.ensures.held
     (omega (arith, c.give.ensures.size, c.self.invariant.least))
@@ -77,7 +77,7 @@ returns-in-Ok-clause-finishes g c = rw (← c.self.view_is, c.now-self-inside.en
 
 pub returns-in-Ok-clause-any_moment : goal.returns-in-Ok-clause-any_moment
 returns-in-Ok-clause-any_moment g c = rw (← c.self.view_is) (λ ran held tells.
-    finish_moments _ _ _ ran c.written.ensures.bodies held
+    finish_moments _ _ _ ran c.bodies_mean_states.ensures.bodies held
     (leaves_same _ _ _ _ _ _ _ c.bytes.ensures.bytes c.changes-changes.ensures.changes
     c.in-Ok.ensures.any_moment) tells)
 

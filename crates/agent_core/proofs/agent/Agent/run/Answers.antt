@@ -51,9 +51,9 @@ returns-then-is_full g c =
             c.self.inside.opened c.self.inside.checkpoint c.self.inside.power c.self.inside.store.disk c.run_line.new.store.disk
             (g.D.Disk.view c.self.inside.store.disk) (g.D.Disk.view c.run_line.new.store.disk)
             (action_of c.args.action.now) c.in-Ok.ensures.ran c.in-Ok.ensures.roomier a seen
-            c.durable_states.ensures.follows c.durable_states.ensures.valid_lines
-            c.spelled_lines.ensures.spelled (action_read c.args.action.now)
-            c.spelled_lines.ensures.stays (power_is _ _ c.self.view_is c.requires.up) fits
+            c.lines_keep_durable_states.ensures.follows c.lines_keep_durable_states.ensures.valid_lines
+            c.lines_have_spellings.ensures.spelled (action_read c.args.action.now)
+            c.lines_have_spellings.ensures.stays (power_is _ _ c.self.view_is c.requires.up) fits
             (c.is_full.ensures.0 c.if-is_full.true) c.finish.new.self
             (g.D.Disk.view c.finish.new.self.disk) _ c.finish.result done.finishes;
         any_moment = λ a seen.
@@ -62,8 +62,8 @@ returns-then-is_full g c =
             c.self.inside.opened c.self.inside.checkpoint c.self.inside.power c.self.inside.store.disk c.run_line.new.store.disk
             (g.D.Disk.view c.self.inside.store.disk) (g.D.Disk.view c.run_line.new.store.disk)
             (action_of c.args.action.now) c.in-Ok.ensures.ran c.in-Ok.ensures.roomier a seen
-            c.durable_states.ensures.follows c.durable_states.ensures.valid_lines
-            c.spelled_lines.ensures.spelled (action_read c.args.action.now)
+            c.lines_keep_durable_states.ensures.follows c.lines_keep_durable_states.ensures.valid_lines
+            c.lines_have_spellings.ensures.spelled (action_read c.args.action.now)
             (g.D.Disk.view c.finish.new.self.disk) (g.met.D.Disk.lawful c.self.inside.store.disk)
             done.any_moment;
         rules = (
@@ -106,9 +106,9 @@ returns-else-is_full g c =
           line_held _ c.run_line.new.memory c.self.inside.batch c.run_line.new.batch _
           c.run_line.new.store.journal _ _ _ _ _ c.run_line.new.store.disk _
           (g.D.Disk.view c.run_line.new.store.disk) (action_of c.args.action.now) ran
-          c.in-Ok.ensures.roomier a seen c.durable_states.ensures.follows
-          c.durable_states.ensures.valid_lines c.spelled_lines.ensures.spelled
-          (action_read c.args.action.now) c.spelled_lines.ensures.stays
+          c.in-Ok.ensures.roomier a seen c.lines_keep_durable_states.ensures.follows
+          c.lines_keep_durable_states.ensures.valid_lines c.lines_have_spellings.ensures.spelled
+          (action_read c.args.action.now) c.lines_have_spellings.ensures.stays
           (power_is _ _ c.self.view_is c.requires.up) fits
           (not_full c.is_full.result c.run_line.new.batch.size _ c.is_full.ensures
           c.if-is_full.false));

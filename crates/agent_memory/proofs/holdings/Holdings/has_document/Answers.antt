@@ -4,7 +4,7 @@ use Rattle.frame_tree.specs.Plain.{plain_document}
 use Rattle.frame_tree.specs.Tree.{PlainFrame, has_frame}
 use Rattle.live_state.specs.Tabs.{tab_at}
 use Rattle.live_state.proofs.ListLemmas.{is_some-map}
-use Rattle.line_events.proofs.CellLemmas.{document_there}
+use Rattle.frame_tree.proofs.ShapeLemmas.{document_there}
 use Rattle.agent_memory.proofs.FoundLemmas.{frames_found}
 use Rattle.agent_memory.proofs.holdings.Holdings.has_document.Goals as goal
 

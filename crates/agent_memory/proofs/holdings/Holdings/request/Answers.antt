@@ -22,7 +22,7 @@ use Rattle.agent_memory.specs.HoldingsView.{HoldingsView, cells_of, held_of}
 use Rattle.row_changes.specs.Appended.{IsAppended}
 use Rattle.agent_memory.proofs.AccessLemmas.{asked_changes, asked_done, asks, change_is, rows_are}
 use Rattle.agent_memory.proofs.DoneLemmas.{no_change, stays_same}
-use Rattle.line_events.proofs.CellLemmas.{document_there}
+use Rattle.frame_tree.proofs.ShapeLemmas.{document_there}
 use Rattle.agent_memory.proofs.FoundLemmas.{frames_are, frames_found}
 use Rattle.agent_memory.proofs.FrameLemmas.{tree_requested}
 use Rattle.agent_memory.proofs.InPlaceLemmas.{trees_in_place}

@@ -3,7 +3,7 @@ use Rattle.std.proofs.lemmas.Bool.{true≢false}
 use Rattle.std.specs.Prelude.{is_some}
 use Rattle.frame_tree.specs.Tree.{has_frame}
 use Rattle.live_state.specs.Tabs.{tab_at}
-use Rattle.line_events.proofs.CellLemmas.{document_there}
+use Rattle.frame_tree.proofs.ShapeLemmas.{document_there}
 use Rattle.agent_memory.proofs.FoundLemmas.{frames_found}
 use Rattle.agent_memory.proofs.holdings.Holdings.url.Goals as goal
 

@@ -8,7 +8,8 @@ use Rattle.frame_tree.specs.Keys.{is_first_at}
 use Rattle.frame_tree.specs.Plain.{plain_document}
 use Rattle.frame_tree.specs.Tree.{has_frame}
 use Rattle.agent_model.specs.StorageAccess.{embedded_site}
-use Rattle.line_events.proofs.CellLemmas.{document_there, first_is}
+use Rattle.frame_tree.proofs.AboveLemmas.{first_is}
+use Rattle.frame_tree.proofs.ShapeLemmas.{document_there}
 use Rattle.agent_memory.proofs.holdings.access.facts_of.Goals as goal
 
 -- what a test says of what may not be there, it says of its plain value

@@ -7,7 +7,7 @@ use Rattle.frame_tree.specs.Keys.{sites}
 use Rattle.frame_tree.specs.Tree.{chain_of}
 use Rattle.origin_site.specs.Site.{site_of_address}
 use Rattle.agent_model.specs.CookieUses.{is_safe, request_use}
-use Rattle.line_events.proofs.CellLemmas.{first_is}
+use Rattle.frame_tree.proofs.AboveLemmas.{first_is}
 use Rattle.agent_memory.proofs.RequestLemmas.{prepared_as}
 use Rattle.agent_memory.proofs.holdings.requests.prepare_below.Goals as goal
 

@@ -7,7 +7,7 @@ use Rattle.storage_key.specs.Plain.{plain_context}
 use Rattle.frame_tree.specs.Keys.{is_first_at, sites}
 use Rattle.origin_site.specs.Site.{site_of_address}
 use Rattle.agent_model.specs.CookieUses.{chain_above, is_safe, request_use, starter_of}
-use Rattle.line_events.proofs.CellLemmas.{first_is}
+use Rattle.frame_tree.proofs.AboveLemmas.{first_is}
 use Rattle.agent_memory.proofs.RequestLemmas.{prepared_as}
 use Rattle.agent_memory.proofs.holdings.requests.prepare_nav.Goals as goal
 use Rattle.agent_memory.proofs.holdings.requests.prepare_nav.Goals.{then-by_self, else-by_self}

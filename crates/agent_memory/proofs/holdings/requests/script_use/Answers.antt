@@ -2,7 +2,7 @@
 use Rattle.std.proofs.Common.{ap, sym, ◌∙◌}
 use Rattle.std.proofs.lemmas.Bool.{true≢false}
 use Rattle.std.specs.Prelude.{is_some}
-use Rattle.line_events.proofs.CellLemmas.{document_there}
+use Rattle.frame_tree.proofs.ShapeLemmas.{document_there}
 use Rattle.agent_memory.proofs.holdings.requests.script_use.Goals as goal
 
 pub unreachable-requires : goal.unreachable-requires

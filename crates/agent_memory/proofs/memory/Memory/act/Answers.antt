@@ -11,7 +11,7 @@ use Rattle.live_state.specs.Tabs.{PlainTab, tab_at}
 use Rattle.frame_tree.specs.Tree.{top_site}
 use Rattle.agent_model.specs.SiteStep.{act_in}
 use Rattle.agent_model.specs.TheMachine.{machine}
-use Rattle.line_events.proofs.EventLemmas.{IsActOf, act_of}
+use Rattle.script_actions.proofs.LabelLemmas.{IsActOf, act_of}
 use Rattle.agent_memory.specs.AgentState.{places_in}
 use Rattle.agent_memory.specs.HoldingsView.{cells_of, held_of}
 use Rattle.agent_memory.specs.ActionKinds.{document_action}

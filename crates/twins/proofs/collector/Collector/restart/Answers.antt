@@ -1,7 +1,7 @@
 use Rattle.std.proofs.Common.{map, [], ◌∷◌, ◌++◌, ap, ◌∙◌}
 use Rattle.std.proofs.lemmas.List.{map-append}
-use Rattle.local_items.specs.Items.{item_of}
-use Rattle.local_items.specs.declared.item.Item.TheVariants as item
+use Rattle.local_scripts.specs.Items.{item_of}
+use Rattle.local_scripts.specs.declared.item.Item.TheVariants as item
 use Rattle.script_courses.specs.Collected.{no_tally}
 use Rattle.twins.proofs.collector.Collector.restart.Goals as goal
 

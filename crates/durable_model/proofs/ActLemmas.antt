@@ -18,7 +18,7 @@ use Rattle.reply_lines.specs.Reply.{Plain, Truth}
 use Rattle.agent_model.specs.CookieCells.{Domain}
 use Rattle.agent_model.specs.Partition.{Holdings, with_tab}
 use Rattle.agent_model.specs.Effects.{Done, SharedCells, Effect, answers, ok}
-use Rattle.agent_model.specs.Documents.{Keyed, by_document, by_key, with_document, with_key}
+use Rattle.agent_model.specs.Documents.{Keyed, by_document, by_key, in_secure, with_document, with_key}
 use Rattle.agent_model.specs.AreaActions.{clear_area, get_item, get_length, get_name, remove_item, set_item}
 use Rattle.agent_model.specs.Buckets.{get_mode, get_usage, persist}
 use Rattle.agent_model.specs.CookieUse.{consulted_by}
@@ -29,6 +29,7 @@ use Rattle.agent_model.specs.Frames.{frames_added, frames_clicked, frames_naviga
 use Rattle.agent_model.specs.Queues.{take_events, take_queue, with_taken}
 use Rattle.agent_model.specs.StorageAccess.{access_facts, answer_of, embedded_site, outcome_of}
 use Rattle.agent_model.specs.SiteStep.{act_in}
+use Rattle.agent_model.proofs.SecureLemmas.{secure_by}
 use Rattle.durable_model.proofs.FollowsLemmas.{DoneFollows, IsOnce, rows_of, stays}
 use Rattle.durable_model.proofs.AreaLemmas.{clear_follows, remove_item_follows, set_item_follows}
 use Rattle.durable_model.proofs.BucketLemmas.{persist_follows}
@@ -149,4 +150,6 @@ module _ (rules : List Rule) (now : ℕ) (site : PlainSite) (at : Label) (tab : 
     act_follows script.Events = events_follow
     act_follows Persisted = told_follows get_mode (λ own. refl)
     act_follows Estimate = told_follows get_usage (λ own. refl)
-    act_follows (Persist answer) = key_follows (persist tab answer) (λ own under. persist_follows site [] cells held once tab answer own under)
+    act_follows (Persist answer) =
+        key_follows (in_secure tab (persist answer))
+        (λ own under. secure_by (λ does. Fits [] (does cells held)) tab (persist answer) own (stays site [] cells held (Plain (codes "insecure")) once) (persist_follows site [] cells held once answer own under))

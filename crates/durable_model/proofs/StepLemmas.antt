@@ -22,7 +22,7 @@ use Rattle.agent_model.specs.SiteEvent.{SiteEvent, Acts, Arrives, Leaves, Copies
 use Rattle.agent_model.specs.Consults.{event_names, names_at}
 use Rattle.agent_model.specs.SiteStep.{act, close_at, site_step}
 use Rattle.agent_model.specs.Frames.{frames_added, frames_clicked, frames_navigated, frames_removed}
-use Rattle.agent_model.specs.Groups.{is_request}
+use Rattle.script_actions.specs.ActionFacts.{facts_of}
 use Rattle.agent_model.proofs.EachTabLemmas.{IsOfFrames, Keeps, OfEachTab, act_each, each_changed}
 use Rattle.agent_model.proofs.TopKeptLemmas.{KeepsTop, added_top, clicked_top, navigated_top, opened_top, removed_top, requested_top}
 use Rattle.agent_model.proofs.Isolated.{step_site}
@@ -116,7 +116,7 @@ module _ (rules : List Rule) (cells : SharedCells) (p : Partition) (tabs : OfEac
       by_act at action None is = tabs
       by_act at action (Some tab) is =
           act_each (λ n. IsTabOf p.site) (by_frames p.site) cells p.held tabs at tab is rules e.moment p.site action
-          (keeps_tabs p.site rules e.moment at tab (is_request action) (subst (IsTabOf p.site) is (tabs at.tab)))
+          (keeps_tabs p.site rules e.moment at tab ((facts_of action).requests) (subst (IsTabOf p.site) is (tabs at.tab)))
 
       by_close : (number : ℕ) (tab : Option PlainTab) → Stay (close_at number tab cells p).partition.held
       by_close number None = gone number

@@ -1,8 +1,8 @@
 //! What is durable of the world, and what row changes and restarts make of it.
 //!
 //! This crate is definitions: `specs/` says what outlives a restart, what a row change makes of it,
-//! and what a run over a store replies. Its functions have no body. By [`histories`] the replies to
-//! a site are those of its own machine, over restarts and lost changes too.
+//! and what a run over a store replies. Its functions have no body. By [`histories_are_isolated`]
+//! the replies to a site are those of its own machine, over restarts and lost changes too.
 #![tactic(auto)]
 
 ghost use Rattle.durable_model.specs.Histories.{HasIsolatedHistories};
@@ -11,7 +11,7 @@ ghost use Rattle.durable_model.specs.Laws.{LinesAreValid, LinesKeep, OpensKept, 
 
 /// Row changes and restarts of one durable state are those of each site's part, and the durable
 /// state follows the world.
-pub fn durable_states()
+pub fn lines_keep_durable_states()
     ensures facts { HasFacts }
     ensures projects { ChangesProject }
     ensures valid { ChangesKeepValid }
@@ -22,7 +22,7 @@ pub fn durable_states()
 
 /// Over every history of lines, restarts and lost changes, the printed lines of a site are those of
 /// its own machine, given its local script alone.
-pub fn histories()
+pub fn histories_are_isolated()
     ensures lines { HasIsolatedHistories }
     ensures restarts { RestartsProject }
 {}

@@ -13,6 +13,7 @@ use Rattle.agent_model.specs.Cookies.{read_cookies, request, set_cookie}
 use Rattle.agent_model.specs.Frames.{frames_added, frames_navigated, frames_removed, frames_clicked}
 use Rattle.agent_model.specs.AreaActions.{set_item, remove_item, clear_area, get_item, get_name, get_length}
 use Rattle.agent_model.specs.Buckets.{get_mode, get_usage, persist}
+use Rattle.agent_model.specs.Documents.{in_secure}
 use Rattle.agent_model.specs.SiteStep.{act_in}
 use Rattle.one_store.specs.HeldAt.{held_at, done_at, IsKeyed}
 use Rattle.one_store.proofs.AreaLemmas.{set_item_seen, remove_item_seen, clear_area_seen, get_item_seen, get_name_seen, get_length_seen}
@@ -56,7 +57,7 @@ module _ (rules : List Rule) (now : ℕ) (site : PlainSite) (here : ℕ → Bool
   act_seen Events = take_events_seen site here cells held at tab is
   act_seen Persisted = with_key_seen site here cells held keyed at tab is found get_mode (λ reader under. get_mode_seen site here held reader under cells)
   act_seen Estimate = with_key_seen site here cells held keyed at tab is found get_usage (λ reader under. get_usage_seen site here held reader under cells)
-  act_seen (Persist answer) = with_key_seen site here cells held keyed at tab is found (persist tab answer) (λ asker under. persist_seen site here held asker under cells tab answer)
+  act_seen (Persist answer) = with_key_seen site here cells held keyed at tab is found (in_secure tab (persist answer)) (λ asker under. persist_seen site here held asker under cells tab answer)
 
   -- ---- at another site
 
@@ -94,4 +95,4 @@ module _ (rules : List Rule) (now : ℕ) (site : PlainSite) (here : ℕ → Bool
     act_unseen Persisted = with_key_unseen site here cells held keyed at tab is found get_mode other there apart (λ reader under. refl)
     act_unseen Estimate = with_key_unseen site here cells held keyed at tab is found get_usage other there apart (λ reader under. refl)
     act_unseen (Persist answer) =
-        with_key_unseen site here cells held keyed at tab is found (persist tab answer) other there apart (λ asker under. persist_unseen other there held asker under cells tab answer)
+        with_key_unseen site here cells held keyed at tab is found (in_secure tab (persist answer)) other there apart (λ asker under. persist_unseen other there held asker under cells tab answer)

@@ -1,25 +1,25 @@
 -- Modes of buckets and evictions, at one site and in all.
 use Rattle.std.proofs.Common.{◌≡◌, ℕ, Bool, true, false, cond, not, ◌&&◌, [], ◌∷◌, Some, None, refl, sym, ap, ◌∙◌}
-use Rattle.std.specs.Prelude.{◌-◌, ◌^◌, min, is_some, codes}
+use Rattle.std.specs.Prelude.{◌-◌, ◌^◌, min, is_some}
 use Rattle.std.specs.FinMap as finite
 use Rattle.origin_site.specs.Site.{PlainSite, same_plain_site}
 use Rattle.storage_key.specs.Key.{PlainKey, key_order}
 use Rattle.storage_key.proofs.OrderLemmas.{key_order_total, key_order_same}
-use Rattle.frame_tree.specs.Calls.{is_https_chain}
 use Rattle.local_area.specs.Area.{area_weight}
 use Rattle.storage_events.specs.declared.event.AreaKind.TheVariants.{Local}
 use Rattle.script_actions.specs.declared.words.Prompt.{Prompt}
-use Rattle.reply_lines.specs.Reply.{Plain, Truth, Estimate, Cleared}
+use Rattle.reply_lines.specs.Reply.{Truth, Estimate, Cleared}
 use Rattle.live_state.specs.Tabs.{PlainTab}
 use Rattle.agent_model.specs.Partition.{Holdings, is_under}
 use Rattle.row_changes.specs.Change.{SetMode}
 use Rattle.agent_model.specs.Effects.{SharedCells, answers, changes_to}
 use Rattle.agent_model.specs.Changes.{clears}
-use Rattle.agent_model.specs.Documents.{Keyed}
+use Rattle.agent_model.specs.Documents.{Keyed, in_secure}
 use Rattle.agent_model.specs.Buckets.{is_persistent, get_mode, get_usage, is_grant, made_persistent, persist_by, persist, is_evicted, areas_left, areas_taken, evict}
 use Rattle.unwinding.proofs.FiniteCellsLemmas.{get_kept}
 use Rattle.one_store.specs.HeldAt.{held_at, done_at}
 use Rattle.agent_model.proofs.KeptLemmas as kept
+use Rattle.agent_model.proofs.SecureLemmas.{secure_by}
 use Rattle.one_store.proofs.HeldLemmas.{under_one}
 use Rattle.one_store.proofs.AreaLemmas.{read_seen}
 
@@ -53,19 +53,11 @@ module _ (site : PlainSite) (here : ℕ → Bool) (held : Holdings) where
     persist_by_seen false true = ap (changes_to (SetMode asker.key ∷ []) (Truth true) cells) made_persistent_seen
     persist_by_seen false false = refl
 
-    pub persist_seen : (tab : PlainTab) (answer : Prompt) → persist tab answer asker cells (held_at site here held) ≡ done_at site here (persist tab answer asker cells held)
-    persist_seen tab answer = at (is_https_chain asker.at.frame tab.frames)
-      where
-        asked : persist_by (is_persistent asker.key (held_at site here held)) (is_grant answer) asker cells (held_at site here held)
-            ≡ done_at site here (persist_by (is_persistent asker.key held) (is_grant answer) asker cells held)
-        asked =
-            ap (λ b. persist_by b (is_grant answer) asker cells (held_at site here held)) (mode_seen asker.key under)
-            ∙ persist_by_seen (is_persistent asker.key held) (is_grant answer)
-
-        at : (b : Bool) → cond b (persist_by (is_persistent asker.key (held_at site here held)) (is_grant answer) asker cells (held_at site here held)) (answers (Plain (codes "insecure")) cells (held_at site here held))
-            ≡ done_at site here (cond b (persist_by (is_persistent asker.key held) (is_grant answer) asker cells held) (answers (Plain (codes "insecure")) cells held))
-        at true = asked
-        at false = refl
+    pub persist_seen : (tab : PlainTab) (answer : Prompt) → in_secure tab (persist answer) asker cells (held_at site here held) ≡ done_at site here (in_secure tab (persist answer) asker cells held)
+    persist_seen tab answer =
+        secure_by (λ does. does cells (held_at site here held) ≡ done_at site here (does cells held)) tab (persist answer) asker refl
+        (ap (λ b. persist_by b (is_grant answer) asker cells (held_at site here held)) (mode_seen asker.key under)
+        ∙ persist_by_seen (is_persistent asker.key held) (is_grant answer))
 
   -- ---- at another site
 
@@ -77,12 +69,10 @@ module _ (site : PlainSite) (here : ℕ → Bool) (held : Holdings) where
         (kept.change_unseen key_order key_order_total key_order_same held.persistent (is_under site) asker.key (Some tt) apart)
     persist_by_unseen false false = refl
 
-    pub persist_unseen : (tab : PlainTab) (answer : Prompt) → held_at site here (persist tab answer asker cells held).held ≡ held_at site here held
-    persist_unseen tab answer = at (is_https_chain asker.at.frame tab.frames)
-      where
-        at : (b : Bool) → held_at site here (cond b (persist_by (is_persistent asker.key held) (is_grant answer) asker cells held) (answers (Plain (codes "insecure")) cells held)).held ≡ held_at site here held
-        at true = persist_by_unseen (is_persistent asker.key held) (is_grant answer)
-        at false = refl
+    pub persist_unseen : (tab : PlainTab) (answer : Prompt) → held_at site here (in_secure tab (persist answer) asker cells held).held ≡ held_at site here held
+    persist_unseen tab answer =
+        secure_by (λ does. held_at site here (does cells held).held ≡ held_at site here held) tab (persist answer) asker refl
+        (persist_by_unseen (is_persistent asker.key held) (is_grant answer))
 
 -- ---- eviction
 

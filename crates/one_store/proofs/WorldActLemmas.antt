@@ -19,7 +19,7 @@ use Rattle.script_actions.specs.Action.{Close, Go, Act, DocumentAction, HeadFiel
 use Rattle.agent_model.specs.Partition.{Holdings, Partition, tab_named}
 use Rattle.agent_model.specs.Effects.{SharedCells, Done}
 use Rattle.agent_model.specs.SiteEvent.{Acts, Closes, TimedEvent, replied}
-use Rattle.script_actions.specs.ActionNames.{document_action_name}
+use Rattle.script_actions.specs.ActionFacts.{facts_of}
 use Rattle.agent_model.specs.SiteStep.{act_in, act, site_step}
 use Rattle.agent_model.specs.Lines.{AgentWorld, Places, site_at, occurs, going, main_event}
 use Rattle.agent_model.specs.SideEvents.{leaves, closes, side_event}
@@ -94,13 +94,13 @@ module _ (rules : List Rule) (now : ℕ) (places : Places) (cells : SharedCells)
 
     -- the site's own action does the same
     step : site_step rules own (restrict_cells domain_order (consulted (machine rules) site own event) cells) event
-        ≡ outcome_of (partition_at places done.held site) apart_done.cells apart_done.changes (record { name = document_action_name action; body = apart_done.body })
+        ≡ outcome_of (partition_at places done.held site) apart_done.cells apart_done.changes (record { name = (facts_of action).name; body = apart_done.body })
     unfolding site_step
     step =
         ap (λ test. act rules now at action (tab_named at.tab own.held) (restrict_cells domain_order test cells) own) asked
         ∙ ap (λ (t : Option PlainTab). act rules now at action t seen own) there
-        ∙ ap (replied own (document_action_name action)) (act_seen rules now site (here site) seen held (keyed_at places held placed_all site) at tab at_its_site found action)
-        ∙ ap (λ h. outcome_of (partition_at places h site) apart_done.cells apart_done.changes (record { name = document_action_name action; body = apart_done.body })) (sym (ap (λ (d : Done). d.held) local))
+        ∙ ap (replied own (facts_of action).name) (act_seen rules now site (here site) seen held (keyed_at places held placed_all site) at tab at_its_site found action)
+        ∙ ap (λ h. outcome_of (partition_at places h site) apart_done.cells apart_done.changes (record { name = (facts_of action).name; body = apart_done.body })) (sym (ap (λ (d : Done). d.held) local))
 
     -- a line acts in its tab
     pub act_makes : LineMakes rules (whole_world now places cells held) (Act at action) (whole_world now places done.cells done.held) (told_at site (Act at action) done.body) (change_of site done.changes)
@@ -109,7 +109,7 @@ module _ (rules : List Rule) (now : ℕ) (places : Places) (cells : SharedCells)
         subst (λ (d : Done). LineMakes rules w (Act at action) (whole_world now places d.cells done.held) (told_at site (Act at action) d.body) (change_of site d.changes)) (sym local)
         (subst (λ test. LineMakes rules w (Act at action) (whole_world now places (merge_cells domain_order test apart_done.cells cells) done.held) (told_at site (Act at action) apart_done.body) (change_of site apart_done.changes)) asked
         (line_consults rules w (Act at action) (partition_at places done.held) (record { now = now; places = places }) refl site event
-        apart_done.changes (record { name = document_action_name action; body = apart_done.body })
+        apart_done.changes (record { name = (facts_of action).name; body = apart_done.body })
         (ap (option_map (occurs w (Acts at action))) place)
         (λ other apart. ap (λ h. record { site = other; held = h }) (unseen other apart)) apart_done.cells step))
       where

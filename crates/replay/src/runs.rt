@@ -25,7 +25,7 @@ use agent_base::{NoMemory, Sink, Source, write_all};
 use agent_core::Options;
 use command_line::{Command, read_words};
 use hosts::Host;
-use printed_model::printed_histories;
+use printed_model::printed_histories_are_isolated;
 use std::alloc::Global;
 
 /// Runs the command that the words are. For a run of a script it reads the list that the words
@@ -110,7 +110,7 @@ pub fn run<H: Host, I: Source, O: Sink, E: Sink>(
         (from_to (E.faults err.old) (E.faults err.new)) }
 {
     let status = command(alloc, words, host, script, out);
-    printed_histories();
+    printed_histories_are_isolated();
     tell(err, &status);
     status
 }

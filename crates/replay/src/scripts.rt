@@ -2,7 +2,7 @@
 ghost use Rattle.std.specs.Prelude.{◌≡◌, ◌≤◌, ◌<◌, ◌+◌, ◌^◌, IfErr, IfOk, None, OnErr, OnOk, Some};
 ghost use Rattle.std.specs.Prelude.{length, option_map, true, false};
 ghost use Rattle.agent_core.specs.AgentView.{longest_batch};
-ghost use Rattle.agent_model.specs.Rest.{last_moment};
+ghost use Rattle.agent_base.specs.Seconds.{last_moment};
 ghost use Rattle.command_line.specs.Words.{Replay};
 ghost use Rattle.disk_model.specs.Schedule.{AreFrom};
 ghost use Rattle.replay.specs.BeforeAfter.{from_to};

@@ -20,6 +20,6 @@ mod writing;
 
 pub use body::{Piece, Reader};
 pub use change::{Change, ChangeRef};
-pub use laws::written;
+pub use laws::changes_read_back;
 pub use reading::read_change;
 pub use writing::{append_change, append_changes, append_row, write_changes, write_rows};

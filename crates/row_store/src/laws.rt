@@ -4,7 +4,7 @@ ghost use Rattle.row_store.specs.Laws.{SnapshotsAreSpelled, SnapshotsMean, Writt
 
 /// A body of durable changes that are valid one after another means the state that they lead to,
 /// and the snapshot of a state means this state. What outlives a restart is told of each cell.
-pub fn written()
+pub fn bodies_mean_states()
     ensures bodies { WrittenBodiesMean }
     ensures storable { EditsKeepStorable }
     ensures snapshots { SnapshotsMean }

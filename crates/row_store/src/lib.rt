@@ -22,7 +22,7 @@ mod texted_cell;
 mod which;
 
 pub use body::{snapshot, snapshot_rows};
-pub use laws::written;
+pub use laws::bodies_mean_states;
 pub use parts::Parts;
 pub use row_fault::RowFault;
 pub use rows::Rows;

@@ -9,10 +9,10 @@ ghost use Rattle.row_store.specs.Stored.{saved_of};
 
 use crate::parts::Parts;
 use agent_base::NoMemory;
-use durable_model::durable_states;
+use durable_model::lines_keep_durable_states;
 use journal::ReplayFault;
-use row_changes::{Piece, Reader, written};
-use spelled_model::spelled_lines;
+use row_changes::{Piece, Reader, changes_read_back};
+use spelled_model::lines_have_spellings;
 use std::alloc::Global;
 use suffix_list::SuffixList;
 
@@ -29,7 +29,7 @@ pub fn read_body(
     ensures fault { let pieces = pieces_of list.now.rules snapshot body.now in
         (at : ℕ) → IsErrOf result (Bad at) → after_pieces (saved_of parts.old) 0 pieces ≡ Err at }
 {
-    written();
+    changes_read_back();
     let mut reader = Reader::new(list, snapshot, body);
     let mut count = 0;
     loop {
@@ -47,8 +47,8 @@ fn take(parts: &mut Parts, alloc: Global, piece: Piece) -> Result<u64, ReplayFau
     ensures fault { (at : ℕ) → IsErrOf result (Bad at)
         → IsFaultAt (plain_piece piece) parts.old at }
 {
-    durable_states();
-    spelled_lines();
+    lines_keep_durable_states();
+    lines_have_spellings();
     match piece {
         Piece::Begins => Ok(1),
         Piece::Row { at, change } => match parts.edit(alloc, change) {

@@ -17,10 +17,10 @@ use crate::parts::Parts;
 use crate::reading::read_body;
 use crate::spelling::has_spelling;
 use agent_base::NoMemory;
-use durable_model::durable_states;
+use durable_model::lines_keep_durable_states;
 use journal::{Replay, ReplayFault};
 use row_changes::Change;
-use spelled_model::spelled_lines;
+use spelled_model::lines_have_spellings;
 use std::alloc::Global;
 use std::marker::Model;
 use suffix_list::SuffixList;
@@ -133,8 +133,8 @@ impl<'l> Rows<'l> {
             → PutsNewName (plain_change change) (saved_of self.old.parts) }
         ensures rules { self.new.rules ≡ self.old.rules }
     {
-        durable_states();
-        spelled_lines();
+        lines_keep_durable_states();
+        lines_have_spellings();
         match self.parts.edit(self.alloc, change) {
             Ok(true) => Ok(()),
             Ok(false) => Err(RowFault::Invalid),

@@ -6,7 +6,7 @@ ghost use Rattle.row_changes.specs.Spelling.{change_bytes};
 
 use crate::same::same_change;
 use agent_base::NoMemory;
-use row_changes::{Change, append_row, read_change, written};
+use row_changes::{Change, append_row, changes_read_back, read_change};
 use std::alloc::Global;
 use suffix_list::SuffixList;
 
@@ -28,7 +28,7 @@ fn says(alloc: Global, bytes: &[u8], list: &SuffixList, change: &Change) -> Resu
     ensures spelled { IfOk result
         (λ is. IsTrue is ↔ IsSpelled list.now.rules (plain_change change.now)) }
 {
-    written();
+    changes_read_back();
     match read_change(alloc, bytes, list)? {
         Some((said, _)) => Ok(same_change(&said, change)),
         None => Ok(false),

@@ -19,7 +19,7 @@ use agent_core::Options;
 use disk_model::{Disk, MemDisk};
 use generated_day::generated_day;
 use itoa::Buffer;
-use printed_model::printed_histories;
+use printed_model::printed_histories_are_isolated;
 use script_actions::Line;
 use sha2::{Digest, Sha256};
 use std::alloc::Global;
@@ -76,7 +76,7 @@ fn run(alloc: Global, lines: &[Line], printed: &mut TextSink) -> Result<u64, NoM
 {
     let list = empty_list(alloc)?;
     let finished = run_anew(alloc, &list, lines, printed);
-    printed_histories();
+    printed_histories_are_isolated();
     match finished.ending {
         Ending::Done => Ok(length(finished.disk)),
         Ending::Write | Ending::Memory => Err(NoMemory),

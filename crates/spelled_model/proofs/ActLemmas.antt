@@ -1,6 +1,6 @@
 -- What actions of documents do in a tab whose documents were read.
 use Rattle.std.proofs.Common.{◌≡◌, ◌≤◌, ℕ, Bool, true, false, cond, List, Option, Some, None, refl, sym, subst}
-use Rattle.std.specs.Prelude.{codes}
+use Rattle.std.specs.Prelude.{IfSome, codes}
 use Rattle.agent_base.specs.declared.refusals.Label.{Label}
 use Rattle.suffix_list.specs.Suffix.{Rule}
 use Rattle.origin_site.specs.Site.{PlainSite}
@@ -12,22 +12,24 @@ use Rattle.frame_tree.specs.Tree.{IsTree, document_of, has_frame, top_site}
 use Rattle.live_state.specs.Tabs.{PlainTab, queue_of}
 use Rattle.script_actions.specs.Action as script
 use Rattle.script_actions.specs.Action.{DocumentAction, Frame, Nav, Drop, Click, Fetch, SetCookie, Set, Get, Del, Clear, Len, Key, Has, Request, Persisted, Estimate, Persist}
+use Rattle.script_actions.specs.ActionFacts.{facts_of}
 use Rattle.reply_lines.specs.Reply.{Plain, Truth}
 use Rattle.agent_model.specs.Partition.{Holdings}
 use Rattle.agent_model.specs.Effects.{Effect, SharedCells, answers, ok}
-use Rattle.agent_model.specs.Documents.{Keyed, by_document, by_key, with_document, with_key}
+use Rattle.agent_model.specs.Documents.{Keyed, by_document, by_key, in_secure, with_document, with_key}
 use Rattle.agent_model.specs.AreaActions.{clear_area, get_item, get_length, get_name, remove_item, set_item}
 use Rattle.agent_model.specs.Buckets.{get_mode, get_usage, persist}
 use Rattle.agent_model.specs.CookieUses.{fetch_use, frame_use, nav_use, script_use}
 use Rattle.agent_model.specs.Cookies.{read_cookies, request, set_cookie}
 use Rattle.agent_model.specs.Frames.{frames_added, frames_clicked, frames_navigated, frames_removed}
 use Rattle.agent_model.specs.Queues.{take_events, take_queue, with_taken}
-use Rattle.agent_model.specs.Rest.{last_moment}
+use Rattle.agent_base.specs.Seconds.{last_moment}
 use Rattle.agent_model.specs.SiteStep.{act_in}
 use Rattle.agent_model.specs.StorageAccess.{access_facts, answer_of}
-use Rattle.spelled_model.specs.Addresses.{IsReadAct}
+use Rattle.spelled_model.specs.Addresses.{IsReadAddress}
 use Rattle.spelled_model.specs.Frames.{AreReadFrames, IsReadDocument}
 use Rattle.spelled_model.specs.Rows.{IsNamedKey}
+use Rattle.agent_model.proofs.SecureLemmas.{secure_by}
 use Rattle.spelled_model.proofs.AreaLemmas.{clear_read, persist_read, remove_item_read, set_item_read}
 use Rattle.spelled_model.proofs.DoneLemmas.{AreReadShared, IsReadDone, IsReadHeld, answered, frames_done, request_read, set_read, tab_changed}
 use Rattle.spelled_model.proofs.FrameLemmas.{frames_added_read, frames_clicked_read, frames_navigated_read, frames_removed_read}
@@ -71,7 +73,7 @@ module _ (rules : List Rule) (now : ℕ) (short : now ≤ last_moment) (site : P
 
   -- ---- every action
 
-  pub act_read : (action : DocumentAction) → IsReadAct action → IsReadDone rules (act_in rules now site at action tab cells held)
+  pub act_read : (action : DocumentAction) → IfSome (facts_of action).address IsReadAddress → IsReadDone rules (act_in rules now site at action tab cells held)
   act_read (Frame parent url sandbox deny head) is =
       frames_done rules cells held shared read at.tab tab None (λ frames. request rules now (frame_use rules site parent tab.frames url) head) (frames_added rules at parent url sandbox deny tab.frames) (frames_added_read rules tab.frames all at parent url is sandbox deny)
       (λ frames left frames_read left_read.
@@ -102,4 +104,7 @@ module _ (rules : List Rule) (now : ℕ) (short : now ≤ last_moment) (site : P
   act_read script.Events is = events_done
   act_read Persisted is = told_done get_mode (λ own. refl)
   act_read Estimate is = told_done get_usage (λ own. refl)
-  act_read (Persist answer) is = key_done (persist tab answer) (λ own document named. persist_read rules cells held shared read own named tab answer)
+  act_read (Persist answer) is =
+      key_done (in_secure tab (persist answer))
+      (λ own document named.
+      secure_by (λ does. IsReadDone rules (does cells held)) tab (persist answer) own (answered rules cells held (Plain (codes "insecure")) shared read) (persist_read rules cells held shared read own named answer))

@@ -14,7 +14,6 @@ use Rattle.suffix_list.specs.Suffix.{Rule}
 use Rattle.origin_site.specs.Site.{PlainSite}
 use Rattle.storage_key.specs.Key.{PlainKey, key_order}
 use Rattle.storage_key.proofs.OrderLemmas.{key_order_total, key_order_same}
-use Rattle.frame_tree.specs.Calls.{is_https_chain}
 use Rattle.local_area.specs.Area.{Pair, quota, area_get, area_put, area_remove, area_weight}
 use Rattle.local_area.specs.Put as put
 use Rattle.local_area.specs.Put.{PlainPut, put_answer}
@@ -119,8 +118,8 @@ module _ (rules : List Rule) (cells : SharedCells) (held : Holdings) (shared : A
 
     -- ---- buckets
 
-    pub persist_read : (tab : PlainTab) (answer : Prompt) → IsReadDone rules (persist tab answer writer cells held)
-    persist_read tab answer = at (is_https_chain writer.at.frame tab.frames)
+    pub persist_read : (answer : Prompt) → IsReadDone rules (persist answer writer cells held)
+    persist_read answer = by (is_persistent writer.key held) (is_grant answer)
       where
         by : (before granted : Bool) → IsReadDone rules (persist_by before granted writer cells held)
         by true granted = answered rules cells held (Truth true) shared read
@@ -131,10 +130,6 @@ module _ (rules : List Rule) (cells : SharedCells) (held : Holdings) (shared : A
               shared = shared;
             }
         by false false = answered rules cells held (Truth false) shared read
-
-        at : (b : Bool) → IsReadDone rules (cond b (persist_by (is_persistent writer.key held) (is_grant answer) writer cells held) (answers (Plain (codes "insecure")) cells held))
-        at true = by (is_persistent writer.key held) (is_grant answer)
-        at false = answered rules cells held (Plain (codes "insecure")) shared read
 
   -- ---- eviction
 

@@ -21,7 +21,7 @@ use Rattle.agent_model.specs.CookieStore.{BothCells, both_marked, cookie_texts, 
 use Rattle.agent_model.specs.CookieUse.{CookieUse, cookie_domain, key_of, uses_own}
 use Rattle.agent_model.specs.Cookies.{both_found, leaves, request, set_cookie_by}
 use Rattle.agent_model.specs.Frames.{on_frames}
-use Rattle.agent_model.specs.Rest.{last_moment}
+use Rattle.agent_base.specs.Seconds.{last_moment}
 use Rattle.agent_model.proofs.CookieCellsLemmas.{get_set}
 use Rattle.agent_model.proofs.EachTabLemmas.{IsOfFrames, OfEachTab, each_changed}
 use Rattle.agent_model.proofs.KeptLemmas as kept

@@ -24,7 +24,7 @@ use Rattle.row_changes.specs.Spelled.{IsKey, HasSpelledFields, IsSpelled}
 use Rattle.agent_model.specs.CookieCells.{Cookies, domain_order}
 use Rattle.agent_model.specs.PartitionedCells.{PartitionedKey, partitioned_order}
 use Rattle.agent_model.specs.Partition.{is_cell_under, is_under, no_holdings}
-use Rattle.agent_model.specs.Rest.{last_moment}
+use Rattle.agent_base.specs.Seconds.{last_moment}
 use Rattle.agent_model.specs.TheMachine.{beginning}
 use Rattle.agent_model.proofs.CookieCellsLemmas.{domain_order_total, domain_order_same, get_none}
 use Rattle.agent_model.proofs.KeptLemmas.{kept_cell, tied}

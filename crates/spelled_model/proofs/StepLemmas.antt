@@ -1,6 +1,7 @@
 -- What an event does at a site whose holdings were read.
 use Rattle.std.proofs.Common.{◌≡◌, ◌≤◌, ℕ, List, [], Option, Some, None, subst}
 use Rattle.std.specs.List.{All}
+use Rattle.std.specs.Prelude.{IfSome}
 use Rattle.std.proofs.lemmas.List.Elements.{All-nil}
 use Rattle.agent_base.specs.declared.refusals.Label.{Label}
 use Rattle.suffix_list.specs.Suffix.{Rule}
@@ -8,16 +9,17 @@ use Rattle.origin_site.specs.Site.{PlainSite, site_of_address}
 use Rattle.frame_tree.specs.Calls.{opened}
 use Rattle.live_state.specs.Tabs.{PlainTab, made_tab}
 use Rattle.script_actions.specs.Action.{DocumentAction}
+use Rattle.script_actions.specs.ActionFacts.{facts_of}
 use Rattle.agent_model.specs.Partition.{Holdings, Partition, tab_named, without_tab}
 use Rattle.agent_model.specs.Effects.{SharedCells}
 use Rattle.agent_model.specs.CookieUses.{top_use}
-use Rattle.agent_model.specs.Rest.{last_moment}
+use Rattle.agent_base.specs.Seconds.{last_moment}
 use Rattle.agent_model.specs.Sessions.{close, copy_sessions, show}
 use Rattle.agent_model.specs.SiteEvent.{SiteEvent, Acts, Arrives, Leaves, Copies, Closes, Evicts, SiteOutcome, TimedEvent}
 use Rattle.agent_model.specs.SiteStep.{act, close_at, site_step}
 use Rattle.agent_model.proofs.EachTabLemmas.{OfEachTab}
 use Rattle.durable_model.specs.Sound.{IsTabOf}
-use Rattle.spelled_model.specs.Addresses.{IsReadAct, IsReadAddress}
+use Rattle.spelled_model.specs.Addresses.{IsReadAddress}
 use Rattle.spelled_model.specs.Frames.{IsReadTab}
 use Rattle.spelled_model.proofs.ActLemmas.{act_read}
 use Rattle.spelled_model.proofs.AreaLemmas.{evict_read}
@@ -28,7 +30,7 @@ use Rattle.spelled_model.proofs.SpellsLemmas.{Spells}
 
 -- an event names read addresses, and a load of a top document is of the site of its address
 abbrev pub IsReadEvent : List Rule → PlainSite → SiteEvent → Type 0
-IsReadEvent rules site (Acts at action) = IsReadAct action
+IsReadEvent rules site (Acts at action) = IfSome (facts_of action).address IsReadAddress
 IsReadEvent rules site (Arrives load tab url method same_site head) = (site_of_address rules url ≡ site) × IsReadAddress url
 IsReadEvent rules site (Leaves tab) = Unit {0}
 IsReadEvent rules site (Copies from to) = Unit {0}
@@ -53,7 +55,7 @@ module _ (rules : List Rule) (cells : SharedCells) (p : Partition) (shared : Are
   closed : (number : ℕ) → IsReadHeld rules (close number p.held)
   closed number = let left = gone number in record { tabs = left.tabs; areas = left.areas; partitioned = left.partitioned }
 
-  by_act : (at : Label) (action : DocumentAction) → IsReadAct action → (tab : Option PlainTab) → IsTabOf p.site tab → IsReadTab rules tab → IsReadOutcome rules (act rules e.moment at action tab cells p)
+  by_act : (at : Label) (action : DocumentAction) → IfSome (facts_of action).address IsReadAddress → (tab : Option PlainTab) → IsTabOf p.site tab → IsReadTab rules tab → IsReadOutcome rules (act rules e.moment at action tab cells p)
   by_act at action is None sound all = quiet p.held read
   by_act at action is (Some tab) sound all =
       let done = act_read rules e.moment short p.site at tab cells p.held shared read all sound.0 sound.1 action is in

@@ -18,7 +18,7 @@ use Rattle.setcookie_parse.specs.CookieDate.{cookie_date, day_of, first_of, full
 use Rattle.setcookie_parse.specs.SetCookie as text_of
 use Rattle.setcookie_parse.specs.SetCookie.{CookieText, Parsed, Kept, Dropped, age_limit, cookie_of, expires_of, expiry_of, is_negative, is_number, max_age, max_age_of, path_in, set_cookie_text}
 use Rattle.row_changes.specs.Spelled.{begins_with_slash}
-use Rattle.agent_model.specs.Rest.{last_moment}
+use Rattle.agent_base.specs.Seconds.{last_moment}
 
 -- a text that is kept
 pub record IsReadText (text : CookieText) : Type 0 where
@@ -102,7 +102,7 @@ expires_late (Some kind.HttpOnly) value z e = absurd (none-some z e)
 expires_late (Some kind.Partitioned) value z e = absurd (none-some z e)
 expires_late (Some kind.SameSite) value z e = absurd (none-some z e)
 
-expiry_fits : (now : ℕ) → now ≤ 253402300799 → (age : Option ℕ) → ((n : ℕ) → age ≡ Some n → n ≤ 34560000) → (date : Option ℤ) → ((z : ℤ) → date ≡ Some z → IsAfterFirst z)
+expiry_fits : (now : ℕ) → now ≤ last_moment → (age : Option ℕ) → ((n : ℕ) → age ≡ Some n → n ≤ 34560000) → (date : Option ℤ) → ((z : ℤ) → date ≡ Some z → IsAfterFirst z)
     → (end : ℤ) → expiry_of (pos now) age date ≡ Some end → FitsSigned w64 end
 expiry_fits now short (Some n) young date late end e =
     let is : pos now +ℤ pos n ≡ end = same_Some _ end e in

@@ -20,7 +20,7 @@ use Rattle.row_changes.specs.Change.{PlainChange}
 use Rattle.agent_model.specs.CookieCells.{Cookies}
 use Rattle.agent_model.specs.CookieStore.{BothCells, StoredText, done_by, dropped_by, store_parsed, store_text, store_texts, stored_in}
 use Rattle.agent_model.specs.CookieUse.{CookieUse, access_of, own_cell, partition_cell, uses_own}
-use Rattle.agent_model.specs.Rest.{last_moment}
+use Rattle.agent_base.specs.Seconds.{last_moment}
 use Rattle.spelled_model.specs.Addresses.{IsReadAddress}
 use Rattle.spelled_model.specs.Rows.{IsReadCell}
 use Rattle.spelled_model.proofs.CellLemmas.{IsTimed, steps_low, stored_read}

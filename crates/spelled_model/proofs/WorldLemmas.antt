@@ -16,7 +16,8 @@ use Rattle.agent_model.specs.Partition.{Partition}
 use Rattle.agent_model.specs.Effects.{SharedCells}
 use Rattle.agent_model.specs.SiteEvent.{Acts, Closes, Copies, Leaves, TimedEvent}
 use Rattle.agent_model.specs.Lines.{AgentWorld, SiteOccurrence, Starter, going, main_event, occurs, opener_of, opening, site_at, timed}
-use Rattle.agent_model.specs.Rest.{last_moment, rest_after}
+use Rattle.agent_base.specs.Seconds.{last_moment}
+use Rattle.agent_model.specs.Rest.{rest_after}
 use Rattle.agent_model.specs.SideEvents.{closes, copies as copied, side_event, where_so}
 use Rattle.agent_model.specs.SiteStep.{site_step}
 use Rattle.agent_model.specs.TheMachine.{machine}

@@ -12,7 +12,7 @@ use Rattle.row_changes.specs.Appended.{HasTexts}
 use Rattle.row_changes.specs.Change.{PlainChange}
 use Rattle.row_changes.specs.Spelled.{IsSpelled}
 use Rattle.agent_model.specs.Lines.{AgentWorld}
-use Rattle.agent_model.specs.Rest.{last_moment}
+use Rattle.agent_base.specs.Seconds.{last_moment}
 use Rattle.agent_model.specs.TheMachine.{machine}
 use Rattle.durable_model.specs.Saved.{Saved, nothing_saved}
 use Rattle.durable_model.specs.RowEdits.{after_change}

@@ -11,7 +11,7 @@ use Rattle.agent_model.specs.CookieCells.{Domain, domain_order}
 use Rattle.agent_model.specs.PartitionedCells.{PartitionedKey, partitioned_order}
 use Rattle.agent_model.specs.Partition.{Areas, tab_named}
 use Rattle.agent_model.specs.Lines.{AgentWorld}
-use Rattle.agent_model.specs.Rest.{last_moment}
+use Rattle.agent_base.specs.Seconds.{last_moment}
 use Rattle.spelled_model.specs.Frames.{IsReadTab}
 use Rattle.spelled_model.specs.Rows.{IsNamedKey, IsReadCell}
 

@@ -9,7 +9,7 @@ ghost use Rattle.spelled_model.specs.Laws.{LinesAreSpelled, LinesStayRead, Opens
 ghost use Rattle.spelled_model.specs.Laws.{NothingIsRead, RowsStayRead};
 
 /// The row changes of each line have a spelling, in every world that a run over a store reaches.
-pub fn spelled_lines()
+pub fn lines_have_spellings()
     ensures spelled { LinesAreSpelled }
     ensures stays { LinesStayRead }
     ensures opens { OpensRead }

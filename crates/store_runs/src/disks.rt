@@ -4,7 +4,7 @@ ghost use Rattle.std.specs.Prelude.{true};
 ghost use Rattle.agent_base.specs.Counts.{Rose};
 ghost use Rattle.agent_base.specs.Streams.{Takes};
 ghost use Rattle.agent_core.specs.AgentView.{longest_batch};
-ghost use Rattle.agent_model.specs.Rest.{last_moment};
+ghost use Rattle.agent_base.specs.Seconds.{last_moment};
 ghost use Rattle.disk_model.specs.Schedule.{AreFrom};
 ghost use Rattle.durable_model.specs.Saved.{nothing_saved};
 ghost use Rattle.journal.specs.Opening.{IsOfFile, IsOver, IsRefusal};

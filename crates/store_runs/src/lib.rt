@@ -3,7 +3,8 @@
 //! [`run_lines`] runs lines over an agent and writes their replies. [`run_on`] does so over the
 //! store on a disk, and hands the disk back; [`run_in_memory`] over a new store on a disk in
 //! memory. What a run writes is what is printed of a history, and by
-//! `printed_model::printed_histories` the lines of each site in it are those of its own machine.
+//! `printed_model::printed_histories_are_isolated` the lines of each site in it are those of its
+//! own machine.
 #![tactic(auto)]
 
 mod disks;

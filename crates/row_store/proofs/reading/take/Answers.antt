@@ -10,6 +10,6 @@ pub returns-in-Ok-true-clause-taken : goal.returns-in-Ok-true-clause-taken
 returns-in-Ok-true-clause-taken c =
     subst (λ piece. IsTaken (plain_piece piece) c.args.parts.now c.edit.new.self 0) (sym c.in-Row.is)
     (done c.in-Row.at (plain_change c.in-Row.change)
-    c.args.parts.now c.edit.new.self c.durable_states.ensures.valid c.spelled_lines.ensures.rows
+    c.args.parts.now c.edit.new.self c.lines_keep_durable_states.ensures.valid c.lines_have_spellings.ensures.rows
     (subst (IsEdited (plain_change c.in-Row.change) c.args.parts.now c.edit.new.self)
     c.in-Ok-true.field-0-test c.in-Ok-true.ensures.edited))

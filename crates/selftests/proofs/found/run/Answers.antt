@@ -12,7 +12,7 @@ returns-in-Done-clause-text c =
     let before = c.args.printed.now.text.items in
     let after = c.run_anew-finished.new.printed.text.items in
     let images = (view_of c.run_anew-finished.result.disk).may_leave in
-    text_anew list c.in_ok-list.ensures steps images c.printed_histories.ensures.unbroken before after c.requires.nothing
+    text_anew list c.in_ok-list.ensures steps images c.printed_histories_are_isolated.ensures.unbroken before after c.requires.nothing
     (subst (λ ending. RanAnew ending list steps (Some before) (Some after) images) c.in-Done.is c.run_anew-finished.ensures.ran)
 
 pub returns-in-Done-clause-store : goal.returns-in-Done-clause-store

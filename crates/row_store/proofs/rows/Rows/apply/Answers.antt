@@ -8,6 +8,6 @@ use Rattle.row_store.proofs.rows.Rows.apply.Goals as goal
 pub invariant_of-self : goal.invariant_of-self
 invariant_of-self c =
     edit_standing c.self.inside.list.now.rules (plain_change c.args.change) c.self.inside.parts c.edit.new.self c.edit.result
-    c.durable_states.ensures.valid c.spelled_lines.ensures.rows
+    c.lines_keep_durable_states.ensures.valid c.lines_have_spellings.ensures.rows
     (subst (λ r. IsSpelled r.rules (plain_change c.args.change)) (sym c.self.view_is) c.requires.spelled)
     c.edit.ensures.edited c.edit.ensures.undone c.self.invariant

@@ -1,6 +1,6 @@
 use Rattle.spelled_model.proofs.SavedLemmas.{nothing_read, opens_read, rows_stay_read}
 use Rattle.spelled_model.proofs.WorldLemmas.{lines_are_spelled, lines_stay_read}
-use Rattle.spelled_model.proofs.spelled_lines.Goals as goal
+use Rattle.spelled_model.proofs.lines_have_spellings.Goals as goal
 
 pub returns : goal.returns
 returns c = record { spelled = lines_are_spelled; stays = lines_stay_read; opens = opens_read; nothing = nothing_read; rows = rows_stay_read }

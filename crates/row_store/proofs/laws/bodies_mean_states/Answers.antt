@@ -3,7 +3,7 @@ use Rattle.row_store.proofs.KeptLemmas.{cookies_kept, valid_kept}
 use Rattle.row_store.proofs.SnapshotLaws.{snapshots_mean}
 use Rattle.row_store.proofs.SpelledLaws.{edits_keep_spelled, snapshots_are_spelled}
 use Rattle.row_store.proofs.StorableLaws.{edits_keep_storable}
-use Rattle.row_store.proofs.laws.written.Goals as goal
+use Rattle.row_store.proofs.laws.bodies_mean_states.Goals as goal
 
 pub returns : goal.returns
 returns c = record {

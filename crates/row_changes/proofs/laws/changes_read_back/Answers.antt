@@ -1,7 +1,7 @@
 use Rattle.row_changes.proofs.ChangeLaws.{change_again, change_takes}
 use Rattle.row_changes.proofs.PieceLaws.{body_again, snapshot_again}
 use Rattle.row_changes.proofs.SpelledLaws.{pieces_spelled}
-use Rattle.row_changes.proofs.laws.written.Goals as goal
+use Rattle.row_changes.proofs.laws.changes_read_back.Goals as goal
 
 pub returns-clause-reads_back : goal.returns-clause-reads_back
 returns-clause-reads_back c = change_again

@@ -1,7 +1,7 @@
 //! Lists, lines, cuts, outputs and runs of the tests.
 ghost use Rattle.std.specs.Prelude.{◌≤◌, IfOk};
 ghost use Rattle.agent_core.specs.AgentView.{longest_batch};
-ghost use Rattle.agent_model.specs.Rest.{last_moment};
+ghost use Rattle.agent_base.specs.Seconds.{last_moment};
 ghost use Rattle.disk_model.specs.Schedule.{AreFrom};
 
 use agent_base::{MemSink, MemSource, NoMemory};

@@ -126,7 +126,7 @@ class File:
             return 'from-cache-or-worker'
         if entry.is_preflight:
             return 'preflight'
-        if entry.is_blank:
+        if entry.is_blank or (entry.is_unsent and self.maker == 'WebInspector'):
             return 'headers-unknown'
         if self.is_bare and entry.site == 'none' and entry.mode not in ('', 'navigate'):
             return 'background'

@@ -13,7 +13,7 @@ class Entry:
 
     __slots__ = ('at', 'number', 'url', 'method', 'page', 'kind', 'dest', 'mode', 'site', 'access', 'referrer',
                  'initiator', 'is_parsed', 'is_html', 'takes_html', 'allows', 'is_preflight', 'is_cached', 'is_served',
-                 'is_by_worker', 'is_blank', 'is_ahead', 'redirect', 'cookies', 'set_cookies', 'answered', 'partition', 'agent',
+                 'is_by_worker', 'is_blank', 'is_unsent', 'is_ahead', 'redirect', 'cookies', 'set_cookies', 'answered', 'partition', 'agent',
                  'has_cookies')
 
 
@@ -44,6 +44,8 @@ def read_entry(value, number):
     wait = max(0, shapes.number(value.get('time')) - max(0, shapes.number(shapes.member(value, 'timings', 'receive'))))
     entry.answered = at + wait / 1000
     status = shapes.number(shapes.member(response, 'status'))
+    # Developer tools show a request's headers before they know what was sent: then these do not stand among them.
+    entry.is_unsent = bool(asked.values) and not entry.agent and not entry.site and entry.cookies is None
     entry.is_blank = not status and not answered.values and not entry.site and entry.cookies is None
     return entry
 

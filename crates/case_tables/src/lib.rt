@@ -8,6 +8,3 @@ mod cases;
 mod fields;
 
 pub use cases::Cases;
-
-#[cfg(test)]
-mod tests;

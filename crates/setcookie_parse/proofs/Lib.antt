@@ -6,7 +6,6 @@ pub mod DigitsLemmas
 pub mod FoundLemmas
 pub mod KindLemmas
 pub mod MonthsLemmas
-pub mod PlainLemmas
 pub mod SeenLemmas
 pub mod SliceLemmas
 pub mod SplitsLemmas

@@ -108,6 +108,3 @@ fn seconds_to(day: Date) -> i64
 {
     day.duration_since(date(1970, 1, 1)).as_secs()
 }
-
-#[cfg(test)]
-mod tests;

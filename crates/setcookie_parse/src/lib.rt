@@ -10,8 +10,6 @@ mod cut;
 mod date;
 mod digits;
 mod parts;
-#[cfg(test)]
-mod plain;
 mod seen;
 mod text;
 mod token;
@@ -20,6 +18,3 @@ mod trim;
 pub use cookie::{CookieText, DropCause, Parsed, SameSite};
 pub use date::cookie_date;
 pub use text::parse;
-
-#[cfg(test)]
-mod tests;

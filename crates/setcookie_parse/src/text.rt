@@ -63,6 +63,3 @@ fn attributes<'a>(rest: Option<&'a str>) -> AttributesSoFar<'a>
         None => NOTHING,
     }
 }
-
-#[cfg(test)]
-mod tests;

@@ -8,5 +8,4 @@ pub mod PassLemmas
 pub mod NoteLemmas
 pub mod RuleLemmas
 pub mod LineLemmas
-pub mod ReferenceLemmas
 mod StandardFacts

@@ -10,12 +10,8 @@ mod labels;
 mod list;
 mod marks;
 mod reader;
-#[cfg(test)]
-mod reference;
 mod rule;
 mod rules;
-#[cfg(test)]
-mod tests;
 
 pub use fault::ListFault;
 pub use list::SuffixList;

@@ -1,4 +1,4 @@
-use crate::{Cases, read_fields};
+use case_tables::{Cases, read_fields};
 
 const LEVELS: [(&str, u8); 4] = [("low", 1), ("high", 2), ("low", 3), ("Höhe", 4)];
 

@@ -1,9 +1,8 @@
 //! Values from the Public Suffix List's own test file (`tests/tests.txt`, CC0), and first faults.
-use super::*;
-use crate::reference::registrable_slowly;
 use agent_base::MemSource;
 use std::alloc::Global;
 use std::test::Fail;
+use suffix_list::{ListFault, SuffixList};
 
 // The rules on which the hosts below depend, in another order than the list's.
 const RULES: &str = "// rules of the Public Suffix List
@@ -65,8 +64,6 @@ fn registrable_domains_of_the_lists_own_tests(rt: HostRuntime) -> Result<(), Fai
         let found = list.registrable(host);
         assert_eq!(rt; found.unwrap_or(""), domain, "{host}");
         assert_eq!(rt; list.is_suffix(host), domain == "", "{host}");
-        let slow = registrable_slowly(list.rules.listed.as_slice(), host);
-        assert_eq!(rt; slow.unwrap_or(""), domain, "{host} by all rules");
     }
     Ok(())
 }

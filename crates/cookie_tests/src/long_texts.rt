@@ -1,5 +1,5 @@
 //! Texts at the limits and long ones, which take time linear in their length.
-use crate::{DropCause, Parsed, parse};
+use setcookie_parse::{DropCause, Parsed, parse};
 use std::alloc::{AllocError, Global};
 use std::test::Fail;
 

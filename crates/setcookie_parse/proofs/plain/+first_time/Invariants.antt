@@ -1,5 +1,0 @@
-use Rattle.std.proofs.Common.{length}
-use Rattle.setcookie_parse.proofs.plain.+first_time.Given as goal
-
-abbrev pub decreases-first_time : goal.decreases-first_time
-decreases-first_time l = length l.tokens.now

@@ -1,4 +1,6 @@
 //! A stream of std of which a signal interrupts the first calls.
+ghost use Rattle.std.specs.Prelude.{◌≡◌};
+
 use std::io;
 use std::io::{ErrorKind, Read, Write};
 

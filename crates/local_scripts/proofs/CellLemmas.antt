@@ -1,6 +1,6 @@
 -- Which cookies an action of a document consults.
-use Rattle.std.proofs.Common.{◌≡◌, ◌==◌, ℕ, Bool, true, false, cond, not, ◌&&◌, ◌||◌, List, [], map, take, length, ◌-◌, Option, Some, None, refl, sym, ap, ◌∙◌}
-use Rattle.std.specs.Prelude.{Result, Ok, Err, is_none, is_some, option_map, option_and_then, find, if◌then◌else◌}
+use Rattle.std.proofs.Common.{◌≡◌, ◌==◌, ℕ, Bool, true, false, cond, not, ◌&&◌, ◌||◌, List, [], map, take, Option, Some, None, refl, sym, ap, ◌∙◌}
+use Rattle.std.specs.Prelude.{Result, Ok, Err, is_none, is_some, option_map, option_and_then, if◌then◌else◌}
 use Rattle.std.specs.Borrow.{Bor}
 use Rattle.suffix_list.specs.Suffix.{Rule}
 use Rattle.agent_base.specs.declared.refusals.Label.{Label}
@@ -10,7 +10,7 @@ use Rattle.storage_key.specs.Context.{is_first_party}
 use Rattle.storage_key.specs.Key.{PlainKey}
 use Rattle.frame_tree.specs.declared.tab.TreeFault.{TreeFault}
 use Rattle.frame_tree.specs.declared.tab.TreeFault.TheVariants.{NoFrame, FrameExists}
-use Rattle.frame_tree.specs.Calls.{added_below, navigated_from, sites_of}
+use Rattle.frame_tree.specs.Calls.{added_below, navigated_from}
 use Rattle.frame_tree.specs.Document.{PlainDocument}
 use Rattle.frame_tree.specs.Keys.{is_first_at, key_of_document, key_of_frame, sites}
 use Rattle.frame_tree.specs.Sandbox.{sandbox_of}

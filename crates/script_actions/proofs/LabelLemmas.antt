@@ -1,5 +1,5 @@
 -- A line that names a document is an action of it.
-use Rattle.std.proofs.Common.{◌≡◌, Some, refl}
+use Rattle.std.proofs.Common.{◌≡◌, Some}
 use Rattle.agent_base.specs.declared.refusals.Label.{Label}
 use Rattle.script_actions.specs.Action.{Act, Close, DocumentAction, Evict, Go, Open, PlainAction, Tick}
 use Rattle.script_actions.specs.Labels.{label_of}

@@ -7,7 +7,7 @@ use Rattle.std.proofs.lemmas.Cmp.{eq_by_cmp_equiv}
 use Rattle.std.specs.Cmp.{nat_cmp_total}
 use Rattle.std.specs.Ordering.{nat_cmp, eq_by_cmp}
 use Rattle.std.specs.FinMap.{nat_cmp-IsAntisymmetric}
-use Rattle.std.specs.Prelude.{IfOk, find, pos, unwrap_or}
+use Rattle.std.specs.Prelude.{IfOk, filter, find, pos, unwrap_or}
 use Rattle.agent_base.specs.declared.refusals.Label.{Label}
 use Rattle.suffix_list.specs.Suffix.{Rule}
 use Rattle.origin_site.specs.Address.{PlainAddress}
@@ -15,11 +15,12 @@ use Rattle.frame_tree.specs.declared.tab.TreeFault.TheVariants.{NoFrame, FrameEx
 use Rattle.frame_tree.specs.Calls as tree
 use Rattle.frame_tree.specs.Document.{PlainDocument, loaded_below}
 use Rattle.frame_tree.specs.Sandbox.{sandbox_of}
-use Rattle.frame_tree.specs.Tree.{PlainFrame, document_of, has_frame, with_next}
+use Rattle.frame_tree.specs.Tree.{PlainFrame, document_of, has_frame, is_on_chain, with_next}
 use Rattle.live_state.specs.FramesInPlace.{requested}
 use Rattle.live_state.specs.Tabs.{PlainFrameQueue, PlainTab, empty_queue, is_fresh, made_tab, queue_after, queue_of, queues_before, stays}
 use Rattle.agent_model.specs.Partition.{Holdings, tab_named}
-use Rattle.agent_model.specs.Frames.{frames_added, frames_clicked}
+use Rattle.agent_model.specs.Frames.{frames_added, frames_clicked, frames_navigated, frames_removed}
+use Rattle.agent_model.specs.CookieUses.{is_granted_nav}
 use Rattle.agent_model.specs.Sessions.{arrival}
 use Rattle.agent_model.specs.TabChanges.{TabChange, Framed, Gone, goes_by, tab_becomes}
 use Rattle.agent_model.proofs.KeptLemmas as kept
@@ -179,13 +180,13 @@ more_keeps e (f ∷ fs) n there = by (f.frame == n) (more_keeps e fs n) there
     by true later is = refl
     by false later is = later is
 
+same_frames : (next : PlainFrame → PlainFrame) → ((f : PlainFrame) → (next f).frame ≡ f.frame) → (frames : List PlainFrame) (n : ℕ)
+    → has_frame n (map next frames) ≡ has_frame n frames
+same_frames next same [] n = refl
+same_frames next same (f ∷ fs) n = ap (λ k. k == n || has_frame n (map next fs)) (same f) ∙ ap (λ b. f.frame == n || b) (same_frames next same fs n)
+
 same_keeps : (next : PlainFrame → PlainFrame) → ((f : PlainFrame) → (next f).frame ≡ f.frame) → (frames : List PlainFrame) → Keeps frames (map next frames)
-same_keeps next same [] n there = there
-same_keeps next same (f ∷ fs) n there = ap (λ k. k == n || has_frame n (map next fs)) (same f) ∙ by (f.frame == n) (same_keeps next same fs n) there
-  where
-    by : (b : Bool) → (has_frame n fs ≡ true → has_frame n (map next fs) ≡ true) → b || has_frame n fs ≡ true → b || has_frame n (map next fs) ≡ true
-    by true later is = refl
-    by false later is = later is
+same_keeps next same frames n there = same_frames next same frames n ∙ there
 
 pub added_keeps : (rules : List Rule) (at : Label) (parent : ℕ) (url : PlainAddress) (sandbox : Option (List ℕ)) (deny : Bool) (frames : List PlainFrame)
     → IfOk (frames_added rules at parent url sandbox deny frames) (Keeps frames)
@@ -226,3 +227,66 @@ requested_keeps gives consumes frame frames = by gives consumes
     by false true = consumed frames
     by true false = flagged
     by true true = λ n there. consumed (tree.with_document frame tree.flagged frames) n (flagged n there)
+
+-- ---- a frame that is removed or navigated: each frame below it goes
+
+-- of frames that are kept by their numbers, one that is not kept is not there
+kept_alone : (keeps : ℕ → Bool) (n : ℕ) → keeps n ≡ false → (frames : List PlainFrame) → has_frame n (filter (λ f. keeps f.frame) frames) ≡ false
+kept_alone keeps n out [] = refl
+kept_alone keeps n out (f ∷ fs) = by (keeps f.frame) refl (f.frame == n) refl (kept_alone keeps n out fs)
+  where
+    more : List PlainFrame
+    more = filter (λ g. keeps g.frame) fs
+
+    by : (k : Bool) → keeps f.frame ≡ k → (b : Bool) → (f.frame == n) ≡ b → has_frame n more ≡ false → has_frame n (cond k (f ∷ more) more) ≡ false
+    by false is b same later = later
+    by true is true same later = absurd (true≢false (sym is ∙ ap keeps (eqb-true f.frame n same) ∙ out))
+    by true is false same later = ap (λ b. b || has_frame n more) same ∙ later
+
+-- a frame that is removed goes with each frame below it
+pub removed_below : (at : Label) (below : ℕ) (frames : List PlainFrame) (before : Option PlainTab) → is_on_chain at.frame below frames ≡ true
+    → IfOk (frames_removed at frames) (λ after. goes_by at.tab (Framed after None before) (own at.tab below) ≡ true)
+removed_below at below frames before is_below = by (at.frame == 0) (has_frame at.frame frames)
+  where
+    goes : goes_by at.tab (Framed (tree.without at.frame frames) None before) (own at.tab below) ≡ true
+    goes = framed_goes at.tab below (tree.without at.frame frames) before
+        ∙ ap not (kept_alone (λ n. not (is_on_chain at.frame n frames)) below (ap not is_below) frames)
+
+    by : (top there : Bool) → IfOk (cond top (Err NoFrame) (cond there (Ok (tree.without at.frame frames)) (Err NoFrame)))
+        (λ after. goes_by at.tab (Framed after None before) (own at.tab below) ≡ true)
+    by true there = tt
+    by false true = goes
+    by false false = tt
+
+-- and so does each frame below one that is navigated
+pub navigated_below : (rules : List Rule) (at : Label) (url : PlainAddress) (by_self : Bool) (below : ℕ) (frames : List PlainFrame) (before : Option PlainTab)
+    → is_on_chain at.frame below frames ≡ true → (below == at.frame) ≡ false
+    → IfOk (frames_navigated rules at url by_self frames) (λ after. goes_by at.tab (Framed after (Some at.frame) before) (own at.tab below) ≡ true)
+navigated_below rules at url by_self below frames before is_below other = by (at.frame == 0) (document_of at.frame frames)
+  where
+    Goes : List PlainFrame → Type 0
+    Goes after = goes_by at.tab (Framed after (Some at.frame) before) (own at.tab below) ≡ true
+
+    left : List PlainFrame
+    left = tree.without_below at.frame frames
+
+    gone : has_frame below left ≡ false
+    gone = kept_alone (λ n. n == at.frame || not (is_on_chain at.frame n frames)) below
+        (ap (λ b. b || not (is_on_chain at.frame below frames)) other ∙ ap not is_below) frames
+
+    none : (after : List PlainFrame) → has_frame below after ≡ false → Goes after
+    none after absent = ap (λ b. b && not (not (below == at.frame) && has_frame below after)) (eqb-same at.tab)
+        ∙ ap (λ b. not (not (below == at.frame) && b)) absent ∙ never (below == at.frame)
+      where
+        never : (b : Bool) → not (not b && false) ≡ true
+        never true = refl
+        never false = refl
+
+    loaded : (next : PlainDocument → PlainDocument) → Goes (tree.with_document at.frame next left)
+    loaded next = none (tree.with_document at.frame next left) (same_frames _ (λ f. next_same next (f.frame == at.frame) f) left below ∙ gone)
+
+    by : (top : Bool) (document : Option PlainDocument)
+        → IfOk (cond top (Err NoFrame) (tree.navigated_from document rules at.frame url (is_granted_nav by_self at.frame frames url) frames)) Goes
+    by true document = tt
+    by false None = tt
+    by false (Some document) = loaded _

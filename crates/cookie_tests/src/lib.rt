@@ -4,8 +4,6 @@
 #![tactic(auto)]
 
 #[cfg(test)]
-mod dates;
-#[cfg(test)]
 mod jars;
 #[cfg(test)]
 mod limits;
@@ -17,5 +15,3 @@ mod long_texts;
 mod sites;
 #[cfg(test)]
 mod tables;
-#[cfg(test)]
-mod texts;

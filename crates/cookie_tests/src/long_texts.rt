@@ -20,10 +20,11 @@ fn lengths_of(text: &str) -> Result<(usize, usize), DropCause> {
     }
 }
 
-const LONG: [(&str, &str, u32, Result<(usize, usize), DropCause>); 7] = [
+const LONG: [(&str, &str, u32, Result<(usize, usize), DropCause>); 8] = [
     ("n=", "a", 4095, Ok((4095, 0))),
     ("n=", "a", 4096, Err(DropCause::TooLong)),
     ("n=1;", "\x01", 1, Err(DropCause::Control)),
+    ("n=B", "\0Z", 1, Err(DropCause::Control)),
     ("n=1;path=/", "a", 1023, Ok((1, 1024))),
     ("n=1;path=/", "a", 1024, Ok((1, 0))),
     ("", ";", 1_000_000, Err(DropCause::Empty)),

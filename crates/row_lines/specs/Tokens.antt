@@ -1,4 +1,4 @@
--- What a private function writes: the tokens of members, behind those that were written.
+-- What a function writes: the tokens of members, behind those that were written.
 -- Source: none.
 use Rattle.std.specs.Prelude.{◌≡◌, ℤ, List, ◌∷◌, ◌++◌, codes, OnOk, Result}
 use Rattle.json.specs.Token.{Token, begin_object, key}

@@ -140,8 +140,9 @@ fn put_top(alloc: Global, writer: &mut Writer, cell: &CellKey) -> Result<(), NoM
     }
 }
 
-fn same_site_text(same_site: SameSite) -> &'static str
-    ensures { result.now ≡ spec.same_site_text same_site }
+/// The name of a SameSite attribute.
+pub fn same_site_text(same_site: SameSite) -> &'static str
+    ensures name { result.now ≡ spec.same_site_text same_site }
 {
     match same_site {
         SameSite::Default => "default",

@@ -8,4 +8,4 @@ returns c =
     let f0 = rw t0 at c.in_ok-put_marks.ensures in
     let s2 = joined f0 c.put_later.ensures in
     let s1 = joined c.in_ok-put_bit.ensures s2 in
-    joined c.in_ok-begin.ensures s1
+    joined c.in_ok-begin.ensures.puts s1

@@ -1,0 +1,6 @@
+use Rattle.item_lines.proofs.MemberLemmas.{named}
+use Rattle.item_lines.proofs.addresses.put_address.Goals as goal
+
+pub returns : goal.returns
+returns c =
+    named c.in_ok-key.ensures c.put_parts.ensures

@@ -1,0 +1,6 @@
+use Rattle.item_lines.proofs.MemberLemmas.{begun, after, after_plain, only}
+use Rattle.item_lines.proofs.lines.put_cookie_text.Goals as goal
+
+pub returns : goal.returns
+returns c =
+    begun c.in_ok-begin.ensures.puts (after_plain c.in_ok-put_text.ensures.puts (after c.in_ok-put_number.ensures (after c.in_ok-put_number-2.ensures (after_plain c.in_ok-put_text-2.ensures.puts (only c.end.ensures.puts tt)))))

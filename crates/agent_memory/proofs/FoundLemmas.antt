@@ -40,6 +40,11 @@ frames_are found frames tab is there = sym (ap frames_by there) ∙ frames_found
 
 -- ---- documents
 
+-- a document is there where the frames that were found of its tab have its frame
+pub has_found : (at : Label) (tabs : List PlainTab) (frames : List PlainFrame)
+    → Some frames ≡ option_map (λ t. t.frames) (tab_at at.tab tabs) → has_document tabs at ≡ has_frame at.frame frames
+has_found at tabs frames shown = ap (has_frame at.frame) (frames_found (tab_at at.tab tabs) frames shown)
+
 -- a key that was found is that of a document that is there
 pub found_key : (frame : ℕ) (frames : List PlainFrame) (own : Bor StorageKey) → IsFound (key_wanted frame frames) (Keyed own)
     → (document : PlainDocument) × (document_of frame frames ≡ Some document)
@@ -62,7 +67,7 @@ pub keyed_there : (at : Label) (tabs : List PlainTab) (frames : List PlainFrame)
     → Some frames ≡ option_map (λ t. t.frames) (tab_at at.tab tabs)
     → IsFound (key_wanted at.frame frames) (Keyed own) → has_document tabs at ≡ true
 keyed_there at tabs frames own shown is =
-    ap (has_frame at.frame) (frames_found (tab_at at.tab tabs) frames shown)
+    has_found at tabs frames shown
     ∙ sym (document_there at.frame frames) ∙ ap is_some (found_key at.frame frames own is).1
 
 -- and it is the one that an action is done with

@@ -34,7 +34,7 @@ use Rattle.agent_memory.specs.HoldingsView.{HoldingsView, cells_of, held_of}
 use Rattle.agent_memory.specs.Requests.{IsPrepared, KeepsCookies}
 use Rattle.agent_memory.proofs.DoneLemmas.{done_after, done_by, no_change, stays_done, stays_same}
 use Rattle.frame_tree.proofs.ShapeLemmas.{document_there}
-use Rattle.agent_memory.proofs.FoundLemmas.{frames_are, frames_found}
+use Rattle.agent_memory.proofs.FoundLemmas.{frames_are, frames_found, has_found}
 
 -- ---- a document
 
@@ -127,6 +127,12 @@ pub navigated_by : (rules : List Rule) (at : Label) (url : PlainAddress) (by_sel
 navigated_by rules at url by_self tabs frames granted shown is =
     ap (λ keep_flag. where_below at.frame (navigated rules at.frame url keep_flag (frames_at at.tab tabs)))
     (is ∙ ap (λ frames. is_granted_nav by_self at.frame frames url) (sym (frames_found (tab_at at.tab tabs) frames shown)))
+
+-- a frame is below the top by the frames that were found of its tab
+pub below_found : (at : Label) (tabs : List PlainTab) (frames : List PlainFrame)
+    → Some frames ≡ option_map (λ t. t.frames) (tab_at at.tab tabs)
+    → is_below tabs at ≡ (not (at.frame == 0) && has_frame at.frame frames)
+below_found at tabs frames shown = ap (λ b. not (at.frame == 0) && b) (has_found at tabs frames shown)
 
 -- a frame that is below the top is there
 pub below_there : (tabs : List PlainTab) (at : Label) → is_below tabs at ≡ true → has_document tabs at ≡ true

@@ -4,6 +4,7 @@ ghost use Rattle.std.specs.Prelude.{◌≡◌, [], IfOk, OnErr, Some, is_some, o
 ghost use Rattle.origin_site.specs.Plain.{plain_site};
 ghost use Rattle.frame_tree.specs.Calls.{is_https_chain};
 ghost use Rattle.frame_tree.specs.Document.{PlainDocument};
+ghost use Rattle.frame_tree.specs.Tree.{has_frame};
 ghost use Rattle.live_state.specs.Queues.{has_document};
 ghost use Rattle.live_state.specs.Tabs.{PlainTab, is_open, tab_at};
 ghost use Rattle.script_actions.specs.Plain.{action_of};
@@ -33,7 +34,7 @@ use origin_site::Site;
 use std::alloc::Global;
 use std::marker::Model;
 use storage_key::StorageKey;
-use web_cookies::Cookies;
+use web_cookies::{Cookies, LineInput};
 use web_storage::Storage;
 
 /// What is held for all sites: the open tabs, the storage, the cookies and the permissions of
@@ -110,14 +111,14 @@ impl Holdings {
     }
 
     /// The site that a tab is at, where it is open.
-    pub fn site(&self, alloc: Global, tab: u16) -> Result<Option<Site>, NoMemory>
+    pub fn site(&self, input: &LineInput<'_>, tab: u16) -> Result<Option<Site>, NoMemory>
         ensures site { let place = site_at tab (places_in self.now.live.tabs) in
             IfOk result (λ site. option_map plain_site site ≡ place) }
         ensures memory { let place = site_at tab (places_in self.now.live.tabs) in
             OnErr result (is_some place ≡ true) }
     {
         match self.live.tab(tab) {
-            Some(found) => Ok(Some(found.top_site().copy(alloc)?)),
+            Some(found) => Ok(Some(found.top_site().copy(input.alloc)?)),
             None => Ok(None),
         }
     }
@@ -147,7 +148,7 @@ impl Holdings {
         requires { is_open at.tab self.now.live.tabs ≡ true }
         ensures there { result ≡ has_document self.now.live.tabs at }
     {
-        self.tab(at.tab).document(at.frame).is_some()
+        has_frame(self.tab(at.tab), at.frame)
     }
 
     /// Whether each document from the top to this one is https: what is for secure contexts alone
@@ -170,6 +171,13 @@ pub fn open_tab(live: &Live, tab: u16) -> &Tab
         Some(found) => found,
         None => unreachable!(),
     }
+}
+
+/// Whether a frame of a tab is there.
+pub fn has_frame(tab: &Tab, frame: u8) -> bool
+    ensures there { result ≡ has_frame frame tab.now }
+{
+    tab.document(frame).is_some()
 }
 
 /// What a line finds that names a document and wants its storage key.

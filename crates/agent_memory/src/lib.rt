@@ -6,7 +6,6 @@
 #![tactic(auto)]
 
 mod body;
-mod clock;
 mod holdings;
 mod memory;
 mod replies;

@@ -20,11 +20,10 @@ ghost use Rattle.agent_memory.specs.Written.{AreWritten};
 ghost use Rattle.web_storage.specs.Stored.{held_with};
 
 use crate::body::Body;
-use crate::clock::clock_after;
 use crate::holdings::Holdings;
 use crate::replies::{answer, refused, replied, ticked};
 use access_grants::Grants;
-use agent_base::{Label, NoMemory};
+use agent_base::{Label, NoMemory, Seconds};
 use live_state::Live;
 use origin_site::{Address, Site};
 use reply_lines::{Reply, ReplyBody};
@@ -32,16 +31,15 @@ use script_actions::{Action, HeadField, Method};
 use std::alloc::Global;
 use std::marker::Model;
 use suffix_list::SuffixList;
-use web_cookies::Cookies;
+use web_cookies::{Cookies, LineInput};
 use web_storage::Storage;
 
 /// The storage of a browser in memory: the tabs that are open, and the storage, the cookies and the
 /// permissions of all sites under a suffix list.
 #[derive(Debug, Drop)]
 pub struct Memory<'l> {
-    alloc: Global,
-    list: &'l SuffixList,
-    now: u64,
+    // What every line is given; a line `tick` moves its clock.
+    input: LineInput<'l>,
     held: Holdings,
 }
 
@@ -51,9 +49,9 @@ impl<'l> Model for Memory<'l> {
 
     ghost Value = { AgentState };
 
-    ghost view = { λ a. state_of a.list.now.rules a.now a.held };
+    ghost view = { λ a. state_of a.input.list.now.rules a.input.clock a.held };
 
-    ghost invariant = { λ a. IsStanding (state_of a.list.now.rules a.now a.held) };
+    ghost invariant = { λ a. IsStanding (state_of a.input.list.now.rules a.input.clock a.held) };
 }
 
 impl<'l> Memory<'l> {
@@ -65,10 +63,9 @@ impl<'l> Memory<'l> {
         ensures beginning { world_of result ≡ beginning start }
         ensures rules { result.rules ≡ list.now.rules }
     {
+        let clock = Seconds::new(start);
         Memory {
-            alloc,
-            list,
-            now: start,
+            input: LineInput { alloc, list, clock },
             held: Holdings::new(alloc),
         }
     }
@@ -95,10 +92,9 @@ impl<'l> Memory<'l> {
           grants = grants.rows;
         } }
     {
+        let clock = Seconds::new(now);
         Memory {
-            alloc,
-            list,
-            now,
+            input: LineInput { alloc, list, clock },
             held: Holdings::resume(alloc, storage, cookies, grants),
         }
     }
@@ -108,14 +104,14 @@ impl<'l> Memory<'l> {
         ensures now { result ≡ self.entry.now.now }
         ensures in_time { result ≤ last_moment }
     {
-        self.now
+        self.input.clock.number()
     }
 
     /// The suffix list that says of which site an address is.
     pub fn list(&self) -> &'l SuffixList
         ensures rules { result.now.rules ≡ self.entry.now.rules }
     {
-        self.list
+        self.input.list
     }
 
     /// The open tabs, with their frames and the events that wait.
@@ -224,8 +220,8 @@ impl<'l> Memory<'l> {
         ensures changes { let here = world_of self.old in
             line_changes (machine self.old.rules) here (plain.Tick s) ≡ [] }
     {
-        let now = clock_after(self.now, s);
-        self.now = now;
+        let now = self.input.clock.after(s);
+        self.input.clock = now;
         ticked(now)
     }
 
@@ -254,9 +250,9 @@ impl<'l> Memory<'l> {
             return Ok(refused("open", "tab-exists"));
         }
         let copied = if noopener { None } else { opener };
-        let (site, load) = self.held.arrive(
-            self.alloc, self.list, self.now, tab, url, copied, opener, method, head, body,
-        )?;
+        let (site, load) = self
+            .held
+            .arrive(&self.input, tab, url, copied, opener, method, head, body)?;
         Ok(replied("open", site, load))
     }
 
@@ -281,9 +277,9 @@ impl<'l> Memory<'l> {
             return Ok(refused("go", "no-tab"));
         }
         let starter = if by_page { Some(tab) } else { None };
-        let (site, load) = self.held.arrive(
-            self.alloc, self.list, self.now, tab, url, None, starter, method, head, body,
-        )?;
+        let (site, load) = self
+            .held
+            .arrive(&self.input, tab, url, None, starter, method, head, body)?;
         Ok(replied("go", site, load))
     }
 
@@ -292,7 +288,7 @@ impl<'l> Memory<'l> {
         ensures changes { let here = world_of self.old in
             line_changes (machine self.old.rules) here (plain.Close tab) ≡ [] }
     {
-        let Some(site) = self.held.site(self.alloc, tab)? else {
+        let Some(site) = self.held.site(&self.input, tab)? else {
             return Ok(refused("close", "no-tab"));
         };
         self.held.close(tab);
@@ -305,8 +301,8 @@ impl<'l> Memory<'l> {
             body.old.bytes body.new.bytes result }
         ensures limit { body.new.limit ≡ body.old.limit }
     {
-        let named = site.copy(self.alloc)?;
-        let cleared = self.held.evict(self.alloc, site, body)?;
+        let named = site.copy(self.input.alloc)?;
+        let cleared = self.held.evict(self.input.alloc, site, body)?;
         Ok(replied("evict", named, ReplyBody::Cleared { cleared }))
     }
 
@@ -319,12 +315,10 @@ impl<'l> Memory<'l> {
         ensures limit { body.new.limit ≡ body.old.limit }
     {
         let name = action.name();
-        let Some(site) = self.held.site(self.alloc, at.tab)? else {
+        let Some(site) = self.held.site(&self.input, at.tab)? else {
             return Ok(refused(name, "no-tab"));
         };
-        let told = self
-            .held
-            .act(self.alloc, self.list, self.now, at, action, body)?;
+        let told = self.held.act(&self.input, at, action, body)?;
         Ok(replied(name, site, told))
     }
 }

@@ -3,21 +3,20 @@ ghost use Rattle.std.specs.Prelude.{◌≡◌, ◌≤◌, Some, None, codes, pos
 ghost use Rattle.origin_site.specs.Plain.{plain_site};
 ghost use Rattle.reply_lines.specs.Plain.{body_of, reply_of};
 ghost use Rattle.reply_lines.specs.Reply as reply_text;
-ghost use Rattle.agent_base.specs.Seconds.{last_moment};
 
+use agent_base::Seconds;
 use origin_site::Site;
 use reply_lines::{Reply, ReplyBody};
 
 /// The reply to a line that moved the clock here.
-pub fn ticked(now: u64) -> Reply
-    requires { now ≤ last_moment }
+pub fn ticked(now: Seconds) -> Reply
     ensures { let body = reply_text.Now (pos now) in
         reply_of result ≡ record { name = codes "tick"; site = None; body = body } }
 {
     Reply {
         name: "tick",
         site: None,
-        body: ReplyBody::Now { now: now as i64 },
+        body: ReplyBody::Now { now: now.signed() },
     }
 }
 

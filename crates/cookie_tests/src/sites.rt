@@ -1,7 +1,8 @@
 //! Requests and scripts over the cookies of all sites.
 ghost use Rattle.std.specs.Prelude.{◌≤◌};
+ghost use Rattle.agent_base.specs.Seconds.{last_moment};
 
-use agent_base::MemSource;
+use agent_base::{MemSource, Seconds};
 use origin_site::{Address, Site};
 use reply_lines::ReplyBody;
 use script_actions::HeadField;
@@ -9,12 +10,23 @@ use std::alloc::Global;
 use std::test::Fail;
 use storage_key::Context;
 use suffix_list::SuffixList;
-use web_cookies::{CookieUse, Cookies};
+use web_cookies::{CookieUse, Cookies, LineInput};
 
 fn list_of(alloc: Global) -> Result<SuffixList, Fail> {
     let bytes = Vec::from_slice(alloc, b"test")?;
     let mut source = MemSource::new(bytes, Vec::new(alloc));
     Ok(SuffixList::read(alloc, &mut source)?)
+}
+
+// What a line is run with at this second.
+fn input_at(alloc: Global, list: &SuffixList, now: u64) -> LineInput<'_>
+    requires { now ≤ last_moment }
+{
+    LineInput {
+        alloc,
+        list,
+        clock: Seconds::new(now),
+    }
 }
 
 // Who uses cookies: an address, the top-level site, and of what kind the use is.
@@ -58,21 +70,17 @@ fn head_of(alloc: Global, name: &str, texts: &str) -> Result<Vec<HeadField>, Fai
 
 // What is answered to a request with these texts, or to a script that sets one or reads.
 fn answer(
-    alloc: Global,
+    input: &LineInput<'_>,
     cookies: &mut Cookies,
-    list: &SuffixList,
-    now: u64,
     who: Who,
     name: &str,
     texts: &str,
-) -> Result<ReplyBody, Fail>
-    requires now { now ≤ 253402300799 }
-{
+) -> Result<ReplyBody, Fail> {
     let (address, site, kind) = who;
     let script = kind == Kind::FirstPartyScript;
     let first = script || kind == Kind::FirstParty;
-    let url = Address::read(alloc, address)?;
-    let top = Site::read(alloc, site)?;
+    let url = Address::read(input.alloc, address)?;
+    let top = Site::read(input.alloc, site)?;
     let how = CookieUse {
         url: &url,
         top: &top,
@@ -84,14 +92,14 @@ fn answer(
         granted: kind == Kind::Granted,
     };
     if !script {
-        let head = head_of(alloc, name, texts)?;
-        let prepared = cookies.prepare(alloc, list, now, &how, &head)?;
+        let head = head_of(input.alloc, name, texts)?;
+        let prepared = cookies.prepare(input, &how, &head)?;
         return Ok(cookies.perform(prepared));
     }
     if texts.is_empty() {
-        Ok(cookies.read(alloc, list, now, &how)?)
+        Ok(cookies.read(input, &how)?)
     } else {
-        let prepared = cookies.prepare_set(alloc, list, now, &how, texts)?;
+        let prepared = cookies.prepare_set(input, &how, texts)?;
         Ok(cookies.perform(prepared))
     }
 }
@@ -175,17 +183,9 @@ const STEPS: &[Step] = &[
 ];
 
 // Whether one step answers as it has to at that moment.
-fn is_answered(
-    alloc: Global,
-    cookies: &mut Cookies,
-    list: &SuffixList,
-    now: u64,
-    step: Step,
-) -> Result<bool, Fail>
-    requires now { now ≤ 253402300799 }
-{
+fn is_answered(input: &LineInput<'_>, cookies: &mut Cookies, step: Step) -> Result<bool, Fail> {
     let (who, name, texts, want, words) = step;
-    let body = answer(alloc, cookies, list, now, who, name, texts)?;
+    let body = answer(input, cookies, who, name, texts)?;
     Ok(is_answer(&body, want, words))
 }
 
@@ -195,25 +195,17 @@ fn sites_and_partitions_stand_apart(rt: HostRuntime) -> Result<(), Fail> {
     let list = list_of(alloc)?;
     let mut cookies = Cookies::new(alloc);
     for (place, step) in STEPS.iter().enumerate() {
-        let answered = is_answered(alloc, &mut cookies, &list, 7, *step)?;
+        let answered = is_answered(&input_at(alloc, &list, 7), &mut cookies, *step)?;
         assert!(rt; answered, "step {place}");
     }
     Ok(())
 }
 
 // Sets so many cookies of one path in one second, each with a number of its own.
-fn fill(
-    alloc: Global,
-    cookies: &mut Cookies,
-    list: &SuffixList,
-    now: u64,
-    count: u32,
-) -> Result<(), Fail>
-    requires now { now ≤ 253402300799 }
-{
+fn fill(input: &LineInput<'_>, cookies: &mut Cookies, count: u32) -> Result<(), Fail> {
     for number in 0..count {
-        let text = format!(in alloc; "n{number}=1; Path=/y")?;
-        let _ = answer(alloc, cookies, list, now, A, "Set-Cookie", text.as_str())?;
+        let text = format!(in input.alloc; "n{number}=1; Path=/y")?;
+        let _ = answer(input, cookies, A, "Set-Cookie", text.as_str())?;
     }
     Ok(())
 }
@@ -240,18 +232,12 @@ fn is_filled(
     list: &SuffixList,
     user: Who,
 ) -> Result<bool, Fail> {
-    let added = is_answered(alloc, cookies, list, 1, FIRST)?;
-    fill(alloc, cookies, list, 1, 179)?;
-    Ok(
-        added
-            && is_answered(
-                alloc,
-                cookies,
-                list,
-                2,
-                (user, "Cookie", "", "k=1", NO_WORDS),
-            )?,
-    )
+    let first = input_at(alloc, list, 1);
+    let added = is_answered(&first, cookies, FIRST)?;
+    fill(&first, cookies, 179)?;
+    let step = (user, "Cookie", "", "k=1", NO_WORDS);
+    let used = is_answered(&input_at(alloc, list, 2), cookies, step)?;
+    Ok(added && used)
 }
 
 // Whether this goes out to `/x`, where a full cell had its first cookie used by this one before
@@ -260,9 +246,9 @@ fn is_left_by(alloc: Global, user: Who, want: &'static str) -> Result<bool, Fail
     let list = list_of(alloc)?;
     let mut cookies = Cookies::new(alloc);
     let filled = is_filled(alloc, &mut cookies, &list, user)?;
-    let added = is_answered(alloc, &mut cookies, &list, 3, LAST)?;
+    let added = is_answered(&input_at(alloc, &list, 3), &mut cookies, LAST)?;
     let step = (AT_X, "Cookie", "", want, NO_WORDS);
-    let sent = is_answered(alloc, &mut cookies, &list, 4, step)?;
+    let sent = is_answered(&input_at(alloc, &list, 4), &mut cookies, step)?;
     Ok(filled && added && sent)
 }
 

@@ -8,6 +8,7 @@ pub mod HeaderLemmas
 pub mod PreparedLemmas
 -- Texts that are stored.
 pub mod StepRows
+pub mod PairLemmas
 pub mod TextLemmas
 mod InPlaceLemmas
 -- Cookies at places of cells.

@@ -6,7 +6,6 @@ ghost use Rattle.script_actions.specs.Plain.{head_field_of};
 ghost use Rattle.setcookie_parse.specs.SetCookie.{Kept};
 ghost use Rattle.setcookie_parse.specs.Plain.{plain_text};
 ghost use Rattle.agent_model.specs.CookieStore as spec;
-ghost use Rattle.agent_base.specs.Seconds.{last_moment};
 ghost use Rattle.case_tables.specs.Rows.{same_in_any_case};
 ghost use Rattle.web_cookies.specs.Words.{AreStored, IsStored, IsWordOf, IsWordOfDrop, jar_left, rows_by, word_by};
 ghost use Rattle.cookie_jar.specs.Key.{plain_key};
@@ -21,9 +20,10 @@ ghost use Rattle.web_cookies.specs.Uses.{plain_use};
 
 use crate::cookie_use::{CookieUse, access_of};
 use crate::keys::UseKeys;
+use crate::line_input::LineInput;
 use crate::stored_rows::push_rows;
 use crate::words::{drop_word, parse_word, stored_word};
-use agent_base::NoMemory;
+use agent_base::{NoMemory, Seconds};
 use cookie_jar::{Access, CellKey, CookieDrop, Destination, Jar, Plan, destination};
 use partition_limits::CellKind;
 use row_changes::Change;
@@ -31,7 +31,6 @@ use script_actions::HeadField;
 use setcookie_parse::{CookieText, Parsed, parse};
 use std::alloc::Global;
 use std::marker::Model;
-use suffix_list::SuffixList;
 
 /// The jars of both cells of a use.
 #[derive(Debug, Drop)]
@@ -54,41 +53,40 @@ impl Model for BothJars {
 
 impl BothJars {
     /// Sets the last use of the cookies at these places. Takes no memory.
-    pub fn mark(&mut self, own_places: &[usize], partition_places: &[usize], now: u64)
-        requires now { now ≤ last_moment }
+    pub fn mark(&mut self, own_places: &[usize], partition_places: &[usize], now: Seconds)
         ensures own { self.new.own ≡ marked own_places.now (pos now) self.old.own }
         ensures partition { self.new.partition
             ≡ marked partition_places.now (pos now) self.old.partition }
     {
-        self.own.mark(own_places, now as i64);
-        self.partition.mark(partition_places, now as i64);
+        let moment = now.signed();
+        self.own.mark(own_places, moment);
+        self.partition.mark(partition_places, moment);
     }
 
     /// Stores the Set-Cookie texts of a response in their order, and answers their words. Adds the
     /// row changes of what was stored.
     pub fn store_all(
         &mut self,
-        alloc: Global,
-        list: &SuffixList,
-        now: u64,
+        input: &LineInput<'_>,
         how: &CookieUse<'_>,
         keys: &UseKeys,
         head: &[HeadField],
         rows: &mut Vec<Change>,
     ) -> Result<Vec<&'static str>, NoMemory>
-        requires now { now ≤ last_moment }
-        requires keys { AreKeysOf list.now.rules (plain_use how.now) keys.now }
-        ensures stored { IfOk result (λ words. AreStored (spec.store_texts list.now.rules now
+        requires keys { AreKeysOf input.now.list.now.rules (plain_use how.now) keys.now }
+        ensures stored { IfOk result (λ words. AreStored (spec.store_texts input.now.list.now.rules
+            input.now.clock
             (plain_use how.now) self.old (spec.cookie_texts (map head_field_of head.now)))
             self.new (map (λ word. word.now) words.items)) }
         ensures rows { OnOk result (map plain_change rows.new.items
             ≡ map plain_change rows.old.items
-            ++ (spec.store_texts list.now.rules now (plain_use how.now) self.old
+            ++ (spec.store_texts input.now.list.now.rules input.now.clock
+            (plain_use how.now) self.old
             (spec.cookie_texts (map head_field_of head.now))).changes) }
     {
-        let mut words = Vec::new(alloc);
+        let mut words = Vec::new(input.alloc);
         for field in head {
-            self.store_field(alloc, list, now, how, keys, field, &mut words, rows)?;
+            self.store_field(input, how, keys, field, &mut words, rows)?;
         }
         Ok(words)
     }
@@ -96,32 +94,32 @@ impl BothJars {
     // Stores the text of a field, if it is a Set-Cookie field, and adds its word.
     fn store_field(
         &mut self,
-        alloc: Global,
-        list: &SuffixList,
-        now: u64,
+        input: &LineInput<'_>,
         how: &CookieUse<'_>,
         keys: &UseKeys,
         field: &HeadField,
         words: &mut Vec<&'static str>,
         rows: &mut Vec<Change>,
     ) -> Result<(), NoMemory>
-        requires now { now ≤ last_moment }
-        requires keys { AreKeysOf list.now.rules (plain_use how.now) keys.now }
-        ensures stored { OnOk result ((spec.store_texts list.now.rules now (plain_use how.now)
+        requires keys { AreKeysOf input.now.list.now.rules (plain_use how.now) keys.now }
+        ensures stored { OnOk result ((spec.store_texts input.now.list.now.rules input.now.clock
+            (plain_use how.now)
             self.old (spec.cookie_texts (head_field_of field.now ∷ []))).both ≡ self.new) }
         ensures words { OnOk result (map (λ word. word.now) words.new.items
             ≡ map (λ word. word.now) words.old.items
-            ++ (spec.store_texts list.now.rules now (plain_use how.now) self.old
+            ++ (spec.store_texts input.now.list.now.rules input.now.clock
+            (plain_use how.now) self.old
             (spec.cookie_texts (head_field_of field.now ∷ []))).words) }
         ensures rows { OnOk result (map plain_change rows.new.items
             ≡ map plain_change rows.old.items
-            ++ (spec.store_texts list.now.rules now (plain_use how.now) self.old
+            ++ (spec.store_texts input.now.list.now.rules input.now.clock
+            (plain_use how.now) self.old
             (spec.cookie_texts (head_field_of field.now ∷ []))).changes) }
     {
         if !is_set_cookie(field) {
             return Ok(());
         }
-        let word = self.store(alloc, list, now, how, keys, field.value.as_str(), rows)?;
+        let word = self.store(input, how, keys, field.value.as_str(), rows)?;
         match words.push(word) {
             Ok(()) => Ok(()),
             Err(_) => Err(NoMemory),
@@ -131,70 +129,65 @@ impl BothJars {
     /// Stores a Set-Cookie text, and answers its word. Adds the row changes of what was stored.
     pub fn store(
         &mut self,
-        alloc: Global,
-        list: &SuffixList,
-        now: u64,
+        input: &LineInput<'_>,
         how: &CookieUse<'_>,
         keys: &UseKeys,
         text: &str,
         rows: &mut Vec<Change>,
     ) -> Result<&'static str, NoMemory>
-        requires now { now ≤ last_moment }
-        requires keys { AreKeysOf list.now.rules (plain_use how.now) keys.now }
-        ensures stored { IfOk result (λ word. IsStored (spec.store_text list.now.rules now
+        requires keys { AreKeysOf input.now.list.now.rules (plain_use how.now) keys.now }
+        ensures stored { IfOk result (λ word. IsStored (spec.store_text input.now.list.now.rules
+            input.now.clock
             (plain_use how.now) self.old text.now) self.new word.now) }
         ensures rows { OnOk result (map plain_change rows.new.items
-            ≡ map plain_change rows.old.items ++ (spec.store_text list.now.rules now
+            ≡ map plain_change rows.old.items ++ (spec.store_text input.now.list.now.rules
+            input.now.clock
             (plain_use how.now) self.old text.now).changes) }
     {
-        match parse(text, now as i64) {
+        match parse(text, input.clock.signed()) {
             Parsed::Dropped(why) => Ok(parse_word(why)),
-            Parsed::Kept(cookie) => self.store_kept(alloc, list, now, how, keys, &cookie, rows),
+            Parsed::Kept(cookie) => self.store_kept(input, how, keys, &cookie, rows),
         }
     }
 
     // Stores a cookie in the cell that it goes to.
     fn store_kept(
         &mut self,
-        alloc: Global,
-        list: &SuffixList,
-        now: u64,
+        input: &LineInput<'_>,
         how: &CookieUse<'_>,
         keys: &UseKeys,
         cookie: &CookieText<'_>,
         rows: &mut Vec<Change>,
     ) -> Result<&'static str, NoMemory>
-        requires now { now ≤ last_moment }
-        requires keys { AreKeysOf list.now.rules (plain_use how.now) keys.now }
+        requires keys { AreKeysOf input.now.list.now.rules (plain_use how.now) keys.now }
         requires pair { length cookie.now.name.now + length cookie.now.value.now ≤ 4096 }
-        ensures stored { IfOk result (λ word. IsStored (spec.store_parsed list.now.rules now
+        ensures stored { IfOk result (λ word. IsStored (spec.store_parsed input.now.list.now.rules
+            input.now.clock
             (plain_use how.now) self.old (Kept (plain_text cookie.now))) self.new word.now) }
         ensures rows { OnOk result (map plain_change rows.new.items
-            ≡ map plain_change rows.old.items ++ (spec.store_parsed list.now.rules now
+            ≡ map plain_change rows.old.items ++ (spec.store_parsed input.now.list.now.rules
+            input.now.clock
             (plain_use how.now) self.old (Kept (plain_text cookie.now))).changes) }
     {
         let access = access_of(how);
         match destination(cookie, &access) {
             Destination::Own => {
                 let cell = keys.own_cell();
-                store_in(&mut self.own, cell, alloc, list, now, &access, cookie, rows)
+                store_in(&mut self.own, cell, input, &access, cookie, rows)
             }
             Destination::Partition => {
                 let cell = &keys.partition;
-                store_in(
-                    &mut self.partition,
-                    cell,
-                    alloc,
-                    list,
-                    now,
-                    &access,
-                    cookie,
-                    rows,
-                )
+                store_in(&mut self.partition, cell, input, &access, cookie, rows)
             }
             Destination::Nowhere => {
-                let none = Jar::new(alloc, CellKind::Own);
-                word_of(none.plan(alloc, cookie, &access, list, now as i64))
+                let none = Jar::new(input.alloc, CellKind::Own);
+                word_of(none.plan(
+                    input.alloc,
+                    cookie,
+                    &access,
+                    input.list,
+                    input.clock.signed(),
+                ))
             }
         }
     }
@@ -204,27 +197,31 @@ impl BothJars {
 fn store_in(
     jar: &mut Jar,
     cell: &CellKey,
-    alloc: Global,
-    list: &SuffixList,
-    now: u64,
+    input: &LineInput<'_>,
     access: &Access<'_>,
     cookie: &CookieText<'_>,
     rows: &mut Vec<Change>,
 ) -> Result<&'static str, NoMemory>
-    requires now { now ≤ last_moment }
     requires pair { length cookie.now.name.now + length cookie.now.value.now ≤ 4096 }
-    ensures stored { let plan = planned list.now.rules (plain_text cookie.now)
-        (plain_access access.now) jar.old.kind (pos now) jar.old.cookies in
+    ensures stored { let plan = planned input.now.list.now.rules (plain_text cookie.now)
+        (plain_access access.now) jar.old.kind (pos input.now.clock) jar.old.cookies in
         IfOk result (λ word. (jar.new.cookies ≡ jar_left jar.old.cookies plan)
         × (word.now ≡ word_by plan)) }
     ensures rows { OnOk result (map plain_change rows.new.items
         ≡ map plain_change rows.old.items ++ rows_by (plain_key cell.now)
-        (planned list.now.rules (plain_text cookie.now) (plain_access access.now) jar.old.kind
-        (pos now) jar.old.cookies)) }
+        (planned input.now.list.now.rules (plain_text cookie.now)
+        (plain_access access.now) jar.old.kind
+        (pos input.now.clock) jar.old.cookies)) }
     ensures kind { jar.new.kind ≡ jar.old.kind }
 {
-    match jar.plan(alloc, cookie, access, list, now as i64) {
-        Ok(plan) => perform(jar, cell, alloc, plan, rows),
+    match jar.plan(
+        input.alloc,
+        cookie,
+        access,
+        input.list,
+        input.clock.signed(),
+    ) {
+        Ok(plan) => perform(jar, cell, input.alloc, plan, rows),
         Err(why) => word_of_drop(why),
     }
 }

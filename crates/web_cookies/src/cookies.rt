@@ -10,7 +10,6 @@ ghost use Rattle.agent_model.specs.CookieCells.{no_cookies};
 ghost use Rattle.agent_model.specs.PartitionedCells.{no_partitioned_cells};
 ghost use Rattle.agent_model.specs.Cookies.{read_cookies_by, request, set_cookie_by};
 ghost use Rattle.agent_model.specs.Effects.{Effect};
-ghost use Rattle.agent_base.specs.Seconds.{last_moment};
 ghost use Rattle.web_cookies.specs.Stored.{IsDoneBy, shared_in, partitioned_in};
 ghost use Rattle.web_cookies.specs.Uses.{plain_use};
 ghost use Rattle.web_cookies.specs.Cells.{cookies_at, jar_at, kind_of};
@@ -22,6 +21,7 @@ use crate::both::BothJars;
 use crate::change::{Becomes, BothChanges, is_nothing, write};
 use crate::cookie_use::CookieUse;
 use crate::keys::{UseKeys, keys_of};
+use crate::line_input::LineInput;
 use crate::prepared::{Prepared, marking, setting, storing};
 use crate::sending::{Sending, chosen, header_value};
 use agent_base::NoMemory;
@@ -34,7 +34,6 @@ use script_actions::HeadField;
 use std::alloc::Global;
 use std::marker::Model;
 use std::rc::Rc;
-use suffix_list::SuffixList;
 
 /// The cookies of all sites: a jar for each cell.
 ///
@@ -77,26 +76,24 @@ impl Cookies {
     /// more, no jar is copied. The keys of both cells are made where the last use had others.
     pub fn prepare(
         &mut self,
-        alloc: Global,
-        list: &SuffixList,
-        now: u64,
+        input: &LineInput<'_>,
         how: &CookieUse<'_>,
         head: &[HeadField],
     ) -> Result<Prepared, NoMemory>
-        requires now { now ≤ last_moment }
         ensures shared { shared_in self.new ≡ shared_in self.old }
         ensures partitioned { partitioned_in self.new ≡ partitioned_in self.old }
         ensures prepared { IfOk result (λ prepared. Prepares
-            (request list.now.rules now (plain_use how.now) (map head_field_of head.now)) self.new
+            (request input.now.list.now.rules input.now.clock (plain_use how.now)
+            (map head_field_of head.now)) self.new
             prepared) }
     {
-        let keys = keys_of(alloc, list, how, &self.last_keys)?;
-        let in_place = self.texts_in_place(alloc, list, now, how, &keys, head)?;
+        let keys = keys_of(input, how, &self.last_keys)?;
+        let in_place = self.texts_in_place(input, how, &keys, head)?;
         let Some((stored, words)) = in_place else {
-            return self.prepare_storing(alloc, list, now, how, head, keys);
+            return self.prepare_storing(input, how, head, keys);
         };
-        let sending = self.sending(alloc, list, now, how, &keys)?;
-        Ok(marking(now, keys, sending, stored, words))
+        let sending = self.sending(input, how, &keys)?;
+        Ok(marking(input.clock, keys, sending, stored, words))
     }
 
     /// Does what was prepared for these cookies as they stand. Takes no memory.
@@ -122,44 +119,37 @@ impl Cookies {
     /// cells.
     pub fn prepare_set(
         &mut self,
-        alloc: Global,
-        list: &SuffixList,
-        now: u64,
+        input: &LineInput<'_>,
         how: &CookieUse<'_>,
         text: &str,
     ) -> Result<Prepared, NoMemory>
-        requires now { now ≤ last_moment }
         ensures shared { shared_in self.new ≡ shared_in self.old }
         ensures partitioned { partitioned_in self.new ≡ partitioned_in self.old }
         ensures prepared { IfOk result (λ prepared. Prepares
-            (set_cookie_by list.now.rules now (plain_use how.now) text.now) self.new prepared) }
+            (set_cookie_by input.now.list.now.rules input.now.clock
+            (plain_use how.now) text.now) self.new
+            prepared) }
     {
-        let keys = keys_of(alloc, list, how, &self.last_keys)?;
-        let in_place = self.text_in_place(alloc, list, now, how, &keys, text)?;
+        let keys = keys_of(input, how, &self.last_keys)?;
+        let in_place = self.text_in_place(input, how, &keys, text)?;
         if let Some((stored, word)) = in_place {
-            return Ok(setting(alloc, keys, stored, word));
+            return Ok(setting(input.alloc, keys, stored, word));
         }
-        let mut both = self.copies(alloc, list, how, &keys)?;
-        let mut rows = Vec::new(alloc);
-        let word = both.store(alloc, list, now, how, &keys, text, &mut rows)?;
+        let mut both = self.copies(input, how, &keys)?;
+        let mut rows = Vec::new(input.alloc);
+        let word = both.store(input, how, &keys, text, &mut rows)?;
         Ok(storing(keys, both, rows, ReplyBody::SetOne { set: word }))
     }
 
     /// A script reads cookies. It marks none.
-    pub fn read(
-        &self,
-        alloc: Global,
-        list: &SuffixList,
-        now: u64,
-        how: &CookieUse<'_>,
-    ) -> Result<ReplyBody, NoMemory>
-        requires now { now ≤ last_moment }
+    pub fn read(&self, input: &LineInput<'_>, how: &CookieUse<'_>) -> Result<ReplyBody, NoMemory>
         ensures done { IfOk result (λ body. IsDoneBy
-            (read_cookies_by list.now.rules now (plain_use how.now)) self.now self.now
+            (read_cookies_by input.now.list.now.rules input.now.clock
+            (plain_use how.now)) self.now self.now
             (body_of body)) }
     {
-        let keys = keys_of(alloc, list, how, &self.last_keys)?;
-        let Sending { text, .. } = self.sending(alloc, list, now, how, &keys)?;
+        let keys = keys_of(input, how, &self.last_keys)?;
+        let Sending { text, .. } = self.sending(input, how, &keys)?;
         Ok(ReplyBody::Cookie { cookie: text })
     }
 }
@@ -168,22 +158,20 @@ impl Cookies {
     // What goes out of both cells of a use.
     fn sending(
         &self,
-        alloc: Global,
-        list: &SuffixList,
-        now: u64,
+        input: &LineInput<'_>,
         how: &CookieUse<'_>,
         keys: &UseKeys,
     ) -> Result<Sending, NoMemory>
-        requires now { now ≤ last_moment }
-        requires keys { AreKeysOf list.now.rules (plain_use how.now) keys.now }
-        ensures sending { IfOk result (λ s. IsSending list.now.rules now (plain_use how.now)
+        requires keys { AreKeysOf input.now.list.now.rules (plain_use how.now) keys.now }
+        ensures sending { IfOk result (λ s. IsSending input.now.list.now.rules input.now.clock
+            (plain_use how.now)
             self.now s) }
     {
-        let no_own = Jar::new(alloc, CellKind::Own);
-        let no_partition = Jar::new(alloc, CellKind::Partition);
+        let no_own = Jar::new(input.alloc, CellKind::Own);
+        let no_partition = Jar::new(input.alloc, CellKind::Partition);
         let own = self.own_or(&keys.own, &no_own);
         let partition = self.jar_or(&keys.partition, &no_partition);
-        chosen(alloc, now, how, own, partition)
+        chosen(input, how, own, partition)
     }
 
     // The jar of the unpartitioned cell, if there is one, or another.
@@ -214,29 +202,27 @@ impl Cookies {
     // Prepares a request whose response has a Set-Cookie text.
     fn prepare_storing(
         &mut self,
-        alloc: Global,
-        list: &SuffixList,
-        now: u64,
+        input: &LineInput<'_>,
         how: &CookieUse<'_>,
         head: &[HeadField],
         keys: Rc<UseKeys>,
     ) -> Result<Prepared, NoMemory>
-        requires now { now ≤ last_moment }
-        requires keys { AreKeysOf list.now.rules (plain_use how.now) (rc_value keys) }
+        requires keys { AreKeysOf input.now.list.now.rules (plain_use how.now) (rc_value keys) }
         ensures same { HoldSame self.old self.new }
         ensures prepared { IfOk result (λ prepared. Prepares
-            (request list.now.rules now (plain_use how.now) (map head_field_of head.now)) self.new
+            (request input.now.list.now.rules input.now.clock (plain_use how.now)
+            (map head_field_of head.now)) self.new
             prepared) }
     {
-        let mut both = self.copies(alloc, list, how, &keys)?;
+        let mut both = self.copies(input, how, &keys)?;
         let Sending {
             own_places,
             partition_places,
             text,
-        } = chosen(alloc, now, how, &both.own, &both.partition)?;
-        let mut rows = Vec::new(alloc);
-        both.mark(&own_places, &partition_places, now);
-        let words = both.store_all(alloc, list, now, how, &keys, head, &mut rows)?;
+        } = chosen(input, how, &both.own, &both.partition)?;
+        let mut rows = Vec::new(input.alloc);
+        both.mark(&own_places, &partition_places, input.clock);
+        let words = both.store_all(input, how, &keys, head, &mut rows)?;
         let body = ReplyBody::Load {
             cookie: header_value(&own_places, &partition_places, text),
             set: words,
@@ -247,20 +233,19 @@ impl Cookies {
     // Copies of the jars of both cells of a use. Each cell has a place then.
     fn copies(
         &mut self,
-        alloc: Global,
-        list: &SuffixList,
+        input: &LineInput<'_>,
         how: &CookieUse<'_>,
         keys: &UseKeys,
     ) -> Result<BothJars, NoMemory>
-        requires keys { AreKeysOf list.now.rules (plain_use how.now) keys.now }
+        requires keys { AreKeysOf input.now.list.now.rules (plain_use how.now) keys.now }
         ensures same { HoldSame self.old self.new }
         ensures found { IfOk result (λ both. both
-            ≡ found list.now.rules (plain_use how.now) self.old) }
+            ≡ found input.now.list.now.rules (plain_use how.now) self.old) }
         ensures own { OnOk result (HasKey (option_map plain_key keys.now.own) self.new) }
         ensures partition { OnOk result (HasKey (Some (plain_key keys.now.partition)) self.new) }
     {
-        let own = self.own_copy(alloc, &keys.own)?;
-        let partition = self.copy_at(alloc, &keys.partition, CellKind::Partition)?;
+        let own = self.own_copy(input.alloc, &keys.own)?;
+        let partition = self.copy_at(input.alloc, &keys.partition, CellKind::Partition)?;
         Ok(BothJars { own, partition })
     }
 

@@ -7,7 +7,6 @@ ghost use Rattle.script_actions.specs.Plain.{head_field_of};
 ghost use Rattle.setcookie_parse.specs.Plain.{plain_text};
 ghost use Rattle.setcookie_parse.specs.SetCookie.{Kept};
 ghost use Rattle.agent_model.specs.CookieStore as spec;
-ghost use Rattle.agent_base.specs.Seconds.{last_moment};
 ghost use Rattle.web_cookies.specs.Cells.{cookies_at, kind_of};
 ghost use Rattle.web_cookies.specs.CellsOfUse.{AreKeysOf, found};
 ghost use Rattle.web_cookies.specs.InPlace.{AreInPlace, IsInPlace, IsReplaced};
@@ -18,15 +17,14 @@ use crate::change::Replacement;
 use crate::cookie_use::{CookieUse, access_of};
 use crate::cookies::Cookies;
 use crate::keys::UseKeys;
+use crate::line_input::LineInput;
 use crate::stored_rows::push_rows;
 use crate::words::stored_word;
-use agent_base::NoMemory;
+use agent_base::{NoMemory, Seconds};
 use cookie_jar::{Access, CellKey, Destination, Jar, StoredKind, destination};
 use row_changes::Change;
 use script_actions::HeadField;
 use setcookie_parse::{CookieText, Parsed, parse};
-use std::alloc::Global;
-use suffix_list::SuffixList;
 
 /// A cookie that is put in a cell, with its row changes and its word.
 #[derive(Debug, Drop)]
@@ -49,83 +47,77 @@ impl Cookies {
     /// that go out may be marked before.
     pub fn texts_in_place(
         &self,
-        alloc: Global,
-        list: &SuffixList,
-        now: u64,
+        input: &LineInput<'_>,
         how: &CookieUse<'_>,
         keys: &UseKeys,
         head: &[HeadField],
     ) -> Result<Option<(InPlace, Vec<&'static str>)>, NoMemory>
-        requires now { now ≤ last_moment }
-        requires keys { AreKeysOf list.now.rules (plain_use how.now) keys.now }
+        requires keys { AreKeysOf input.now.list.now.rules (plain_use how.now) keys.now }
         ensures stored { IfOk result (λ r. IfSome r (λ r. AreInPlace
-            (λ both. spec.store_texts list.now.rules now (plain_use how.now) both
+            (λ both. spec.store_texts input.now.list.now.rules input.now.clock
+            (plain_use how.now) both
             (spec.cookie_texts (map head_field_of head.now)))
-            (found list.now.rules (plain_use how.now) self.now) r.0
+            (found input.now.list.now.rules (plain_use how.now) self.now) r.0
             (map (λ word. word.now) r.1.items))) }
     {
         if !has_cookies(head) {
             let none = InPlace {
                 own: None,
                 partition: None,
-                rows: Vec::new(alloc),
+                rows: Vec::new(input.alloc),
             };
-            return Ok(Some((none, Vec::new(alloc))));
+            return Ok(Some((none, Vec::new(input.alloc))));
         }
         let Some(text) = only_text(head) else {
             return Ok(None);
         };
-        let Some((stored, word)) = self.text_in_place(alloc, list, now, how, keys, text)? else {
+        let Some((stored, word)) = self.text_in_place(input, how, keys, text)? else {
             return Ok(None);
         };
-        Ok(Some((stored, Vec::from_slice(alloc, &[word])?)))
+        Ok(Some((stored, Vec::from_slice(input.alloc, &[word])?)))
     }
 
     /// The same of one text.
     pub fn text_in_place(
         &self,
-        alloc: Global,
-        list: &SuffixList,
-        now: u64,
+        input: &LineInput<'_>,
         how: &CookieUse<'_>,
         keys: &UseKeys,
         text: &str,
     ) -> Result<Option<(InPlace, &'static str)>, NoMemory>
-        requires now { now ≤ last_moment }
-        requires keys { AreKeysOf list.now.rules (plain_use how.now) keys.now }
+        requires keys { AreKeysOf input.now.list.now.rules (plain_use how.now) keys.now }
         ensures stored { IfOk result (λ r. IfSome r (λ r. IsInPlace
-            (λ both. spec.store_text list.now.rules now (plain_use how.now) both text.now)
-            (found list.now.rules (plain_use how.now) self.now) r.0 r.1.now)) }
+            (λ both. spec.store_text input.now.list.now.rules input.now.clock
+            (plain_use how.now) both text.now)
+            (found input.now.list.now.rules (plain_use how.now) self.now) r.0 r.1.now)) }
     {
-        match parse(text, now as i64) {
+        match parse(text, input.clock.signed()) {
             Parsed::Dropped(_) => Ok(None),
-            Parsed::Kept(cookie) => self.cookie_in_place(alloc, list, now, how, keys, &cookie),
+            Parsed::Kept(cookie) => self.cookie_in_place(input, how, keys, &cookie),
         }
     }
 
     // The same of a cookie, by the cell that it goes to.
     fn cookie_in_place(
         &self,
-        alloc: Global,
-        list: &SuffixList,
-        now: u64,
+        input: &LineInput<'_>,
         how: &CookieUse<'_>,
         keys: &UseKeys,
         cookie: &CookieText<'_>,
     ) -> Result<Option<(InPlace, &'static str)>, NoMemory>
-        requires now { now ≤ last_moment }
-        requires keys { AreKeysOf list.now.rules (plain_use how.now) keys.now }
+        requires keys { AreKeysOf input.now.list.now.rules (plain_use how.now) keys.now }
         requires pair { length cookie.now.name.now + length cookie.now.value.now ≤ 4096 }
         ensures stored { IfOk result (λ r. IfSome r (λ r. IsInPlace
-            (λ both. spec.store_parsed list.now.rules now (plain_use how.now) both
+            (λ both. spec.store_parsed input.now.list.now.rules input.now.clock
+            (plain_use how.now) both
             (Kept (plain_text cookie.now)))
-            (found list.now.rules (plain_use how.now) self.now) r.0 r.1.now)) }
+            (found input.now.list.now.rules (plain_use how.now) self.now) r.0 r.1.now)) }
     {
         let access = access_of(how);
         match destination(cookie, &access) {
             Destination::Own => {
                 let cell = keys.own_cell();
-                let Some(stored) = self.replacement(cell, alloc, list, now, &access, cookie)? else {
+                let Some(stored) = self.replacement(cell, input, &access, cookie)? else {
                     return Ok(None);
                 };
                 let Replaced { new, rows, word } = stored;
@@ -139,7 +131,7 @@ impl Cookies {
             }
             Destination::Partition => {
                 let cell = &keys.partition;
-                let Some(stored) = self.replacement(cell, alloc, list, now, &access, cookie)? else {
+                let Some(stored) = self.replacement(cell, input, &access, cookie)? else {
                     return Ok(None);
                 };
                 let Replaced { new, rows, word } = stored;
@@ -159,25 +151,23 @@ impl Cookies {
     fn replacement(
         &self,
         cell: &CellKey,
-        alloc: Global,
-        list: &SuffixList,
-        now: u64,
+        input: &LineInput<'_>,
         access: &Access<'_>,
         cookie: &CookieText<'_>,
     ) -> Result<Option<Replaced>, NoMemory>
-        requires now { now ≤ last_moment }
         requires pair { length cookie.now.name.now + length cookie.now.value.now ≤ 4096 }
-        ensures replaced { IfOk result (λ r. IfSome r (λ r. IsReplaced list.now.rules (pos now)
+        ensures replaced { IfOk result (λ r. IfSome r (λ r. IsReplaced input.now.list.now.rules
+            (pos input.now.clock)
             (plain_text cookie.now) (plain_access access.now) (kind_of (plain_key cell.now))
             (cookies_at (plain_key cell.now) self.now) (plain_key cell.now) r)) }
     {
         let Some(jar) = self.jar(cell) else {
             return Ok(None);
         };
-        if !may_replace(jar, now, cookie) {
+        if !may_replace(jar, input.clock, cookie) {
             return Ok(None);
         }
-        replaced_in(jar, cell, alloc, list, now, access, cookie)
+        replaced_in(jar, cell, input, access, cookie)
     }
 }
 
@@ -199,11 +189,9 @@ fn only_text(head: &[HeadField]) -> Option<&str>
 }
 
 // Whether it is worth a plan: an expired cookie, and one of a name that is not there, replace none.
-fn may_replace(jar: &Jar, now: u64, cookie: &CookieText<'_>) -> bool
-    requires now { now ≤ last_moment }
-{
+fn may_replace(jar: &Jar, now: Seconds, cookie: &CookieText<'_>) -> bool {
     let expired = match cookie.expiry {
-        Some(expiry) => expiry <= now as i64,
+        Some(expiry) => expiry <= now.signed(),
         None => false,
     };
     !expired && (0..jar.len()).any(|place| has_name(jar, place, cookie.name))
@@ -220,27 +208,31 @@ fn has_name(jar: &Jar, place: usize, name: &str) -> bool {
 fn replaced_in(
     jar: &Jar,
     cell: &CellKey,
-    alloc: Global,
-    list: &SuffixList,
-    now: u64,
+    input: &LineInput<'_>,
     access: &Access<'_>,
     cookie: &CookieText<'_>,
 ) -> Result<Option<Replaced>, NoMemory>
-    requires now { now ≤ last_moment }
     requires pair { length cookie.now.name.now + length cookie.now.value.now ≤ 4096 }
-    ensures replaced { IfOk result (λ r. IfSome r (λ r. IsReplaced list.now.rules (pos now)
+    ensures replaced { IfOk result (λ r. IfSome r (λ r. IsReplaced input.now.list.now.rules
+        (pos input.now.clock)
         (plain_text cookie.now) (plain_access access.now) jar.now.kind jar.now.cookies
         (plain_key cell.now) r)) }
 {
-    let Ok(plan) = jar.plan(alloc, cookie, access, list, now as i64) else {
+    let Ok(plan) = jar.plan(
+        input.alloc,
+        cookie,
+        access,
+        input.list,
+        input.clock.signed(),
+    ) else {
         return Ok(None);
     };
     if plan.kind() != StoredKind::Replaced {
         return Ok(None);
     }
     let word = stored_word(plan.kind());
-    let mut rows = Vec::new(alloc);
-    push_rows(&mut rows, alloc, cell, &plan)?;
+    let mut rows = Vec::new(input.alloc);
+    push_rows(&mut rows, input.alloc, cell, &plan)?;
     let Some((place, cookie)) = plan.into_replacement() else {
         return Ok(None);
     };

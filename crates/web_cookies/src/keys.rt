@@ -7,12 +7,12 @@ ghost use Rattle.web_cookies.specs.CellsOfUse as spec;
 ghost use Rattle.web_cookies.specs.Uses.{plain_use};
 
 use crate::cookie_use::CookieUse;
+use crate::line_input::LineInput;
 use agent_base::NoMemory;
 use cookie_jar::CellKey;
 use origin_site::{domain_of, same_site};
 use std::alloc::Global;
 use std::rc::Rc;
-use suffix_list::SuffixList;
 
 /// The keys of the cells of a use. There is an unpartitioned one for a first party and where access
 /// is granted.
@@ -38,18 +38,17 @@ impl UseKeys {
 /// The keys of a use: those of an earlier use where they are the same, and else keys over memory
 /// of their own.
 pub fn keys_of(
-    alloc: Global,
-    list: &SuffixList,
+    input: &LineInput<'_>,
     how: &CookieUse<'_>,
     earlier: &Option<Rc<UseKeys>>,
 ) -> Result<Rc<UseKeys>, NoMemory>
-    ensures keys { IfOk result (λ keys. spec.AreKeysOf list.now.rules (plain_use how.now)
+    ensures keys { IfOk result (λ keys. spec.AreKeysOf input.now.list.now.rules (plain_use how.now)
         (rc_value keys)) }
 {
-    let domain = domain_of(how.url.host.as_str(), how.url.ip, list);
+    let domain = domain_of(how.url.host.as_str(), how.url.ip, input.list);
     match earlier {
         Some(keys) if are_keys(keys, how, domain) => Ok(keys.clone()?),
-        _ => new_keys(alloc, how, domain),
+        _ => new_keys(input.alloc, how, domain),
     }
 }
 

@@ -8,7 +8,6 @@ ghost use Rattle.script_actions.specs.Action as script;
 ghost use Rattle.agent_model.specs.CookieUse as model;
 ghost use Rattle.agent_model.specs.CookieStore.{cookie_texts, store_text, store_texts};
 ghost use Rattle.agent_model.specs.Cookies.{request, set_cookie_by};
-ghost use Rattle.agent_base.specs.Seconds.{last_moment};
 ghost use Rattle.web_cookies.specs.Stored.{Entries};
 ghost use Rattle.web_cookies.specs.Cells.{kind_of};
 ghost use Rattle.web_cookies.specs.Keys.{own_of, partition_of};
@@ -21,6 +20,7 @@ use crate::change::{Becomes, BothChanges};
 use crate::in_place::InPlace;
 use crate::keys::UseKeys;
 use crate::sending::{Sending, header_value};
+use agent_base::Seconds;
 use reply_lines::ReplyBody;
 use row_changes::Change;
 use std::alloc::Global;
@@ -46,13 +46,12 @@ impl Prepared {
 
 /// The cookies that go out are marked in their cells, and then texts are stored in place.
 pub fn marking(
-    now: u64,
+    now: Seconds,
     keys: Rc<UseKeys>,
     sending: Sending,
     stored: InPlace,
     words: Vec<&'static str>,
 ) -> Prepared
-    requires now { now ≤ last_moment }
     ensures prepared { (rules : List Rule) (how : model.CookieUse) (head : List script.HeadField)
         (entries : Entries) → AreKeysOf rules how (rc_value keys)
         → IsSending rules now how entries sending
@@ -66,17 +65,18 @@ pub fn marking(
         text,
     } = sending;
     let cookie = header_value(&own_places, &partition_places, text);
+    let moment = now.signed();
     Prepared {
         cells: BothChanges {
             keys,
             own: Becomes::Marked {
                 places: own_places,
-                now: now as i64,
+                now: moment,
                 new: stored.own,
             },
             partition: Becomes::Marked {
                 places: partition_places,
-                now: now as i64,
+                now: moment,
                 new: stored.partition,
             },
         },

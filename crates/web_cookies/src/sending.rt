@@ -3,14 +3,13 @@ ghost use Rattle.std.specs.Prelude.{◌≡◌, ◌≤◌, ◌&&◌, IfOk, Some, 
 ghost use Rattle.cookie_jar.specs.Sending.{joined};
 ghost use Rattle.partition_limits.specs.declared.tally.CellKind.TheVariants as kind;
 ghost use Rattle.agent_model.specs.CookieStore as spec;
-ghost use Rattle.agent_base.specs.Seconds.{last_moment};
 ghost use Rattle.web_cookies.specs.CellsOfUse.{both_of};
 ghost use Rattle.web_cookies.specs.Uses.{plain_use};
 
 use crate::cookie_use::{CookieUse, access_of};
+use crate::line_input::LineInput;
 use agent_base::NoMemory;
 use cookie_jar::{Jar, header};
-use std::alloc::Global;
 
 /// The places of the cookies that go out of both cells, and their text, which is empty where none
 /// goes out.
@@ -23,26 +22,26 @@ pub struct Sending {
 
 /// What goes out of both cells of a use.
 pub fn chosen(
-    alloc: Global,
-    now: u64,
+    input: &LineInput<'_>,
     how: &CookieUse<'_>,
     own: &Jar,
     partition: &Jar,
 ) -> Result<Sending, NoMemory>
-    requires now { now ≤ last_moment }
     requires own { own.now.kind ≡ kind.Own }
     requires partition { partition.now.kind ≡ kind.Partition }
     ensures own { IfOk result (λ s. s.own_places.items
-        ≡ spec.own_places now (plain_use how.now) (both_of own.now partition.now)) }
+        ≡ spec.own_places input.now.clock (plain_use how.now) (both_of own.now partition.now)) }
     ensures partition { IfOk result (λ s. s.partition_places.items
-        ≡ spec.partition_places now (plain_use how.now) (both_of own.now partition.now)) }
+        ≡ spec.partition_places input.now.clock (plain_use how.now)
+        (both_of own.now partition.now)) }
     ensures text { IfOk result (λ s. string_bytes s.text
-        ≡ joined (spec.sent now (plain_use how.now) (both_of own.now partition.now))) }
+        ≡ joined (spec.sent input.now.clock (plain_use how.now) (both_of own.now partition.now))) }
 {
     let access = access_of(how);
-    let own_places = own.pick(alloc, &access, now as i64)?;
-    let partition_places = partition.pick(alloc, &access, now as i64)?;
-    let text = header(alloc, own, &own_places, partition, &partition_places)?;
+    let moment = input.clock.signed();
+    let own_places = own.pick(input.alloc, &access, moment)?;
+    let partition_places = partition.pick(input.alloc, &access, moment)?;
+    let text = header(input.alloc, own, &own_places, partition, &partition_places)?;
     Ok(Sending {
         own_places,
         partition_places,

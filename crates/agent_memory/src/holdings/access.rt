@@ -10,7 +10,6 @@ ghost use Rattle.frame_tree.specs.Tree.{document_of};
 ghost use Rattle.live_state.specs.FramesInPlace.{ChangesTab, frames_at, requested};
 ghost use Rattle.live_state.specs.Queues.{has_document};
 ghost use Rattle.live_state.specs.Tabs.{is_open};
-ghost use Rattle.agent_base.specs.Seconds.{last_moment};
 ghost use Rattle.agent_model.specs.StorageAccess.{access_facts, answer_of, decision_word};
 ghost use Rattle.agent_model.specs.StorageAccess.{embedded_site, refusal_word, request_access};
 ghost use Rattle.agent_model.specs.StorageAccess.{tell_access};
@@ -20,11 +19,10 @@ ghost use Rattle.row_changes.specs.Appended.{Appends};
 ghost use Rattle.agent_memory.specs.Writes.{WritesIn};
 
 use crate::body::Body;
-use crate::clock::signed;
 use crate::holdings::{Holdings, open_tab};
 use crate::replies::answer;
 use access_grants::{Answer, Decision, Facts, GrantRow, Grants, Outcome, Permission, Refusal};
-use agent_base::{Label, NoMemory};
+use agent_base::{Label, NoMemory, Seconds};
 use frame_tree::{Document, Tab, site_of_address};
 use live_state::Live;
 use origin_site::Site;
@@ -32,28 +30,22 @@ use reply_lines::ReplyBody;
 use row_changes::ChangeRef;
 use script_actions::Prompt;
 use std::alloc::Global;
-use suffix_list::SuffixList;
+use web_cookies::LineInput;
 
 impl Holdings {
     /// Answers whether a document has storage access.
-    pub fn has(
-        &self,
-        alloc: Global,
-        list: &SuffixList,
-        now: u64,
-        at: Label,
-    ) -> Result<ReplyBody, NoMemory>
-        requires now { now ≤ last_moment }
+    pub fn has(&self, input: &LineInput<'_>, at: Label) -> Result<ReplyBody, NoMemory>
         requires open { is_open at.tab self.now.live.tabs ≡ true }
-        ensures acts { ActsIn at.tab (λ site. tell_access list.now.rules now at)
+        ensures acts { ActsIn at.tab
+            (λ site. tell_access input.now.list.now.rules input.now.clock at)
             self.now self.now result }
     {
         let tab = self.tab(at.tab);
         let Some(document) = tab.document(at.frame) else {
             return Ok(answer("no-frame"));
         };
-        let site = site_of_address(alloc, &document.address, list)?;
-        let facts = facts_of(tab, at.frame, now, document, &site);
+        let site = site_of_address(input.alloc, &document.address, input.list)?;
+        let facts = facts_of(tab, at.frame, input.clock, document, &site);
         Ok(ReplyBody::Truth {
             value: facts.has_access(),
         })
@@ -65,18 +57,17 @@ impl Holdings {
     /// anything changes.
     pub fn request(
         &mut self,
-        alloc: Global,
-        list: &SuffixList,
-        now: u64,
+        input: &LineInput<'_>,
         at: Label,
         prompt: Prompt,
         body: &mut Body,
     ) -> Result<ReplyBody, NoMemory>
-        requires now { now ≤ last_moment }
         requires open { is_open at.tab self.old.live.tabs ≡ true }
-        ensures acts { ActsIn at.tab (λ site. request_access list.now.rules now site at prompt)
+        ensures acts { ActsIn at.tab
+            (λ site. request_access input.now.list.now.rules input.now.clock site at prompt)
             self.old self.new result }
-        ensures changes { WritesIn at.tab (λ site. request_access list.now.rules now site at prompt)
+        ensures changes { WritesIn at.tab
+            (λ site. request_access input.now.list.now.rules input.now.clock site at prompt)
             self.old body.old.bytes body.new.bytes result }
         ensures limit { body.new.limit ≡ body.old.limit }
     {
@@ -85,11 +76,13 @@ impl Holdings {
             return Ok(answer("no-frame"));
         };
         let top = tab.top_site();
-        let site = site_of_address(alloc, &document.address, list)?;
-        let facts = facts_of(tab, at.frame, now, document, &site);
+        let site = site_of_address(input.alloc, &document.address, input.list)?;
+        let facts = facts_of(tab, at.frame, input.clock, document, &site);
         let said = answer_of(prompt);
-        let outcome = self.grants.request(top, &site, &facts, said, signed(now));
-        let row = prepare_row(&mut self.grants, alloc, top, &site, outcome.kept)?;
+        let outcome = self
+            .grants
+            .request(top, &site, &facts, said, input.clock.signed());
+        let row = prepare_row(&mut self.grants, input.alloc, top, &site, outcome.kept)?;
         write_row(&row, body)?;
         finish(&mut self.live, at, outcome);
         keep(&mut self.grants, row);
@@ -98,8 +91,7 @@ impl Holdings {
 }
 
 // What the answers go by for the document of a frame, which is of this site.
-fn facts_of(tab: &Tab, frame: u8, now: u64, document: &Document, site: &Site) -> Facts
-    requires now { now ≤ last_moment }
+fn facts_of(tab: &Tab, frame: u8, now: Seconds, document: &Document, site: &Site) -> Facts
     requires document { document_of frame tab.now ≡ Some (plain_document document.now) }
     ensures facts { (rules : List Rule)
         → plain_site site.now ≡ embedded_site rules (plain_document document.now)
@@ -112,7 +104,7 @@ fn facts_of(tab: &Tab, frame: u8, now: u64, document: &Document, site: &Site) ->
         sandbox_allows: document.sandbox.storage_access,
         first: tab.first_party(frame, site),
         flag: document.flag,
-        active: tab.is_active(frame, signed(now)),
+        active: tab.is_active(frame, now.signed()),
     }
 }
 

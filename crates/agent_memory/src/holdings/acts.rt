@@ -4,7 +4,6 @@ ghost use Rattle.storage_key.specs.Plain.{plain_key};
 ghost use Rattle.live_state.specs.Queues.{has_document};
 ghost use Rattle.live_state.specs.Tabs.{is_open};
 ghost use Rattle.script_actions.specs.Plain.{action_of};
-ghost use Rattle.agent_base.specs.Seconds.{last_moment};
 ghost use Rattle.agent_model.specs.Documents.{with_key};
 ghost use Rattle.agent_model.specs.SiteStep.{act_in};
 ghost use Rattle.script_actions.specs.Labels.{label_of};
@@ -18,29 +17,25 @@ use crate::replies::answer;
 use agent_base::{Label, NoMemory};
 use reply_lines::ReplyBody;
 use script_actions::Action;
-use std::alloc::Global;
 use storage_key::StorageKey;
-use suffix_list::SuffixList;
+use web_cookies::LineInput;
 
 impl Holdings {
     /// Does an action in an open tab, at this moment.
     pub fn act(
         &mut self,
-        alloc: Global,
-        list: &SuffixList,
-        now: u64,
+        input: &LineInput<'_>,
         at: Label,
         action: &Action,
         body: &mut Body,
     ) -> Result<ReplyBody, NoMemory>
-        requires now { now ≤ last_moment }
         requires open { is_open at.tab self.old.live.tabs ≡ true }
         requires named { label_of (action_of action.now) ≡ Some at }
         ensures acts { IfSome (document_action (action_of action.now)) (λ does.
-            ActsIn at.tab (λ site. act_in list.now.rules now site at does)
+            ActsIn at.tab (λ site. act_in input.now.list.now.rules input.now.clock site at does)
             self.old self.new result) }
         ensures changes { IfSome (document_action (action_of action.now)) (λ does.
-            WritesIn at.tab (λ site. act_in list.now.rules now site at does)
+            WritesIn at.tab (λ site. act_in input.now.list.now.rules input.now.clock site at does)
             self.old body.old.bytes body.new.bytes result) }
         ensures limit { body.new.limit ≡ body.old.limit }
     {
@@ -54,9 +49,7 @@ impl Holdings {
                 ..
             } => {
                 let head = head.as_slice();
-                self.add_frame(
-                    alloc, list, now, at, *parent, url, sandbox, *deny, head, body,
-                )
+                self.add_frame(input, at, *parent, url, sandbox, *deny, head, body)
             }
             Action::Nav {
                 url,
@@ -66,25 +59,25 @@ impl Holdings {
                 ..
             } => {
                 let head = head.as_slice();
-                self.navigate_frame(alloc, list, now, at, url, *by_self, *method, head, body)
+                self.navigate_frame(input, at, url, *by_self, *method, head, body)
             }
             Action::Fetch {
                 url,
                 method,
                 head,
                 ..
-            } => self.fetch(alloc, list, now, at, url, *method, head.as_slice(), body),
+            } => self.fetch(input, at, url, *method, head.as_slice(), body),
             Action::Drop { .. } => self.remove_frame(at),
-            Action::Click { .. } => self.click(at, now),
+            Action::Click { .. } => self.click(at, input.clock),
             Action::Events { .. } => Ok(self.take(at)),
-            Action::Has { .. } => self.has(alloc, list, now, at),
-            Action::Request { answer, .. } => { self.request(alloc, list, now, at, *answer, body) }
+            Action::Has { .. } => self.has(input, at),
+            Action::Request { answer, .. } => { self.request(input, at, *answer, body) }
             Action::Tick { .. }
             | Action::Open { .. }
             | Action::Close { .. }
             | Action::Go { .. }
             | Action::Evict { .. } => unreachable!(),
-            _ => self.act_with_key(alloc, list, now, at, action, body),
+            _ => self.act_with_key(input, at, action, body),
         }
     }
 
@@ -92,19 +85,18 @@ impl Holdings {
     // action changes what is held, and with it the tab that has the key.
     fn act_with_key(
         &mut self,
-        alloc: Global,
-        list: &SuffixList,
-        now: u64,
+        input: &LineInput<'_>,
         at: Label,
         action: &Action,
         body: &mut Body,
     ) -> Result<ReplyBody, NoMemory>
-        requires now { now ≤ last_moment }
         requires open { is_open at.tab self.old.live.tabs ≡ true }
         requires keyed { is_keyed (action_of action.now) ≡ true }
-        ensures acts { IfSome (by_keyed list.now.rules now (action_of action.now)) (λ does.
+        ensures acts { IfSome (by_keyed input.now.list.now.rules input.now.clock
+            (action_of action.now)) (λ does.
             ActsIn at.tab (λ site tab. with_key at tab (does site tab)) self.old self.new result) }
-        ensures changes { IfSome (by_keyed list.now.rules now (action_of action.now)) (λ does.
+        ensures changes { IfSome (by_keyed input.now.list.now.rules input.now.clock
+            (action_of action.now)) (λ does.
             WritesIn at.tab (λ site tab. with_key at tab (does site tab))
             self.old body.old.bytes body.new.bytes result) }
         ensures limit { body.new.limit ≡ body.old.limit }
@@ -114,10 +106,10 @@ impl Holdings {
             Found::Opaque => Ok(answer("security")),
             Found::Keyed(key) => {
                 if is_reading(action) {
-                    return self.read_under(alloc, list, now, at, key, action);
+                    return self.read_under(input, at, key, action);
                 }
-                let key = key.copy(alloc)?;
-                self.write_under(alloc, list, now, at, &key, action, body)
+                let key = key.copy(input.alloc)?;
+                self.write_under(input, at, &key, action, body)
             }
         }
     }
@@ -125,17 +117,15 @@ impl Holdings {
     // Does an action that only reads, under the key of its document.
     fn read_under(
         &self,
-        alloc: Global,
-        list: &SuffixList,
-        now: u64,
+        input: &LineInput<'_>,
         at: Label,
         key: &StorageKey,
         action: &Action,
     ) -> Result<ReplyBody, NoMemory>
-        requires now { now ≤ last_moment }
         requires there { has_document self.now.live.tabs at ≡ true }
         requires reads { is_reading (action_of action.now) ≡ true }
-        ensures acts { IfSome (by_keyed list.now.rules now (action_of action.now)) (λ does.
+        ensures acts { IfSome (by_keyed input.now.list.now.rules input.now.clock
+            (action_of action.now)) (λ does.
             ActsAt at (plain_key key.now) does self.now self.now result) }
     {
         match action {
@@ -143,10 +133,10 @@ impl Holdings {
                 area,
                 key: name,
                 ..
-            } => self.get(alloc, *area, at.tab, key, name),
+            } => self.get(input.alloc, *area, at.tab, key, name),
             Action::Len { area, .. } => Ok(self.len(*area, at.tab, key)),
-            Action::Key { area, n, .. } => self.name_at(alloc, *area, at.tab, key, *n),
-            Action::Cookie { .. } => self.cookie(alloc, list, now, at, key),
+            Action::Key { area, n, .. } => self.name_at(input.alloc, *area, at.tab, key, *n),
+            Action::Cookie { .. } => self.cookie(input, at, key),
             Action::Persisted { .. } => Ok(self.persisted(key)),
             Action::Estimate { .. } => Ok(self.estimate(key)),
             _ => unreachable!(),
@@ -156,21 +146,20 @@ impl Holdings {
     // Does an action that changes what is held, under the key of its document.
     fn write_under(
         &mut self,
-        alloc: Global,
-        list: &SuffixList,
-        now: u64,
+        input: &LineInput<'_>,
         at: Label,
         key: &StorageKey,
         action: &Action,
         body: &mut Body,
     ) -> Result<ReplyBody, NoMemory>
-        requires now { now ≤ last_moment }
         requires there { has_document self.old.live.tabs at ≡ true }
         requires keyed { is_keyed (action_of action.now) ≡ true }
         requires writes { is_reading (action_of action.now) ≡ false }
-        ensures acts { IfSome (by_keyed list.now.rules now (action_of action.now)) (λ does.
+        ensures acts { IfSome (by_keyed input.now.list.now.rules input.now.clock
+            (action_of action.now)) (λ does.
             ActsAt at (plain_key key.now) does self.old self.new result) }
-        ensures changes { IfSome (by_keyed list.now.rules now (action_of action.now)) (λ does.
+        ensures changes { IfSome (by_keyed input.now.list.now.rules input.now.clock
+            (action_of action.now)) (λ does.
             WritesAt at (plain_key key.now) does self.old body.old.bytes body.new.bytes result) }
         ensures limit { body.new.limit ≡ body.old.limit }
     {
@@ -180,16 +169,14 @@ impl Holdings {
                 key: name,
                 value,
                 ..
-            } => self.set(alloc, at, *area, key, name, value, body),
+            } => self.set(input.alloc, at, *area, key, name, value, body),
             Action::Del {
                 area,
                 key: name,
                 ..
-            } => self.del(alloc, at, *area, key, name, body),
-            Action::Clear { area, .. } => self.clear(alloc, at, *area, key, body),
-            Action::SetCookie { text, .. } => {
-                self.set_cookie(alloc, list, now, at, key, text, body)
-            }
+            } => self.del(input.alloc, at, *area, key, name, body),
+            Action::Clear { area, .. } => self.clear(input.alloc, at, *area, key, body),
+            Action::SetCookie { text, .. } => { self.set_cookie(input, at, key, text, body) }
             Action::Persist { answer, .. } => self.persist(at, key, *answer, body),
             _ => unreachable!(),
         }

@@ -10,7 +10,6 @@ ghost use Rattle.script_actions.specs.Plain.{head_field_of};
 ghost use Rattle.agent_model.specs.CookieUses as spec;
 ghost use Rattle.agent_model.specs.Documents.{Keyed};
 ghost use Rattle.agent_model.specs.Lines as lines;
-ghost use Rattle.agent_base.specs.Seconds.{last_moment};
 ghost use Rattle.web_cookies.specs.Uses.{plain_use};
 ghost use Rattle.agent_memory.specs.Lines.{is_there};
 ghost use Rattle.agent_memory.specs.Requests.{IsPrepared, starter_in};
@@ -24,35 +23,42 @@ use frame_tree::{Tab, site_of_address};
 use live_state::Live;
 use origin_site::{Address, Site, domain_of, same_site};
 use script_actions::{HeadField, Method};
-use std::alloc::Global;
 use storage_key::{Context, StorageKey};
 use suffix_list::SuffixList;
-use web_cookies::{CookieUse, Cookies, Prepared};
+use web_cookies::{CookieUse, Cookies, LineInput, Prepared};
+
+/// A load, or another request.
+#[derive(Clone, Copy, Debug)]
+pub struct Load<'a> {
+    pub url: &'a Address,
+    pub method: Method,
+    /// The fields of the response's head.
+    pub head: &'a [HeadField],
+    /// Whether storage access is granted to it.
+    pub granted: bool,
+}
 
 /// Prepares the load of a top document at a site. A page of the starter's tab starts it, or the
 /// user.
 pub fn prepare_top(
     live: &Live,
     cookies: &mut Cookies,
-    alloc: Global,
-    list: &SuffixList,
-    now: u64,
+    input: &LineInput<'_>,
     starter: Option<u16>,
-    url: &Address,
     target: &Site,
-    method: Method,
-    head: &[HeadField],
+    load: &Load<'_>,
 ) -> Result<Prepared, NoMemory>
-    requires now { now ≤ last_moment }
     requires starter { is_there starter live.now.tabs ≡ true }
     ensures prepared { let same_site = lines.is_same_site (starter_in starter live.now.tabs)
         (plain_site target.now) in
-        let how = spec.top_use (plain_site target.now) (plain_address url.now) method same_site in
-        let fields = map head_field_of head.now in
-        IsPrepared list.now.rules now how fields cookies.old cookies.new result }
+        let how = spec.top_use (plain_site target.now) (plain_address load.now.url.now)
+        load.now.method same_site in
+        let fields = map head_field_of load.now.head.now in
+        IsPrepared input.now.list.now.rules input.now.clock how fields cookies.old cookies.new
+        result }
 {
     let how = CookieUse {
-        url,
+        url: load.url,
         top: target,
         context: Context {
             first: true,
@@ -60,11 +66,11 @@ pub fn prepare_top(
         },
         same_site: is_started_at(live, starter, target),
         top_load: true,
-        safe: is_safe(method),
+        safe: is_safe(load.method),
         script: false,
         granted: false,
     };
-    cookies.prepare(alloc, list, now, &how, head)
+    cookies.prepare(input, &how, load.head)
 }
 
 // Whether the user starts a load, or a page of this site.
@@ -80,51 +86,40 @@ fn is_started_at(live: &Live, starter: Option<u16>, target: &Site) -> bool
 }
 
 /// Prepares a request below a document, which starts it: a request of that document, or the load of
-/// a frame that is added to it. `granted` is whether access is granted to it.
+/// a frame that is added to it.
 pub fn prepare_below(
     tab: &Tab,
     cookies: &mut Cookies,
-    alloc: Global,
-    list: &SuffixList,
-    now: u64,
+    input: &LineInput<'_>,
     frame: u8,
-    url: &Address,
-    method: Method,
-    granted: bool,
-    head: &[HeadField],
+    load: &Load<'_>,
 ) -> Result<Prepared, NoMemory>
-    requires now { now ≤ last_moment }
     requires there { has_frame frame tab.now ≡ true }
     ensures prepared { (site : PlainSite) → top_site tab.now ≡ Some site
         → let chain = chain_of frame tab.now in
-        let how = spec.request_use list.now.rules site chain chain (plain_address url.now) method
-        granted in
-        let fields = map head_field_of head.now in
-        IsPrepared list.now.rules now how fields cookies.old cookies.new result }
+        let how = spec.request_use input.now.list.now.rules site chain chain
+        (plain_address load.now.url.now) load.now.method load.now.granted in
+        let fields = map head_field_of load.now.head.now in
+        IsPrepared input.now.list.now.rules input.now.clock how fields cookies.old cookies.new
+        result }
 {
-    let first = is_first(tab, alloc, list, frame, url)?;
+    let first = is_first(tab, input, frame, load.url)?;
     let context = Context { first, bit: !first };
-    let how = request_use(tab, url, context, first, method, granted);
-    cookies.prepare(alloc, list, now, &how, head)
+    let how = request_use(tab, load, context, first);
+    cookies.prepare(input, &how, load.head)
 }
 
 // Whether a request below a document is first party. Where it is one of the top-level site, that is
 // compared and no other is made.
-fn is_first(
-    tab: &Tab,
-    alloc: Global,
-    list: &SuffixList,
-    frame: u8,
-    url: &Address,
-) -> Result<bool, NoMemory>
+fn is_first(tab: &Tab, input: &LineInput<'_>, frame: u8, url: &Address) -> Result<bool, NoMemory>
     ensures { IfOk result (λ first. first ≡ is_first_at frame tab.now
-        (site_of_address list.now.rules (plain_address url.now))) }
+        (site_of_address input.now.list.now.rules (plain_address url.now))) }
 {
     let top = tab.top_site();
-    if is_at(top, list, url) {
+    if is_at(top, input.list, url) {
         return Ok(tab.first_party(frame, top));
     }
-    let target = site_of_address(alloc, url, list)?;
+    let target = site_of_address(input.alloc, url, input.list)?;
     Ok(tab.first_party(frame, &target))
 }
 
@@ -137,69 +132,63 @@ fn is_at(site: &Site, list: &SuffixList, url: &Address) -> bool
 }
 
 /// Prepares the load of a frame that goes to another address. Its own document starts it, or its
-/// parent's. `granted` is whether access is granted to it.
+/// parent's.
 pub fn prepare_nav(
     tab: &Tab,
     cookies: &mut Cookies,
-    alloc: Global,
-    list: &SuffixList,
-    now: u64,
+    input: &LineInput<'_>,
     frame: u8,
-    url: &Address,
     by_self: bool,
-    method: Method,
-    granted: bool,
-    head: &[HeadField],
+    load: &Load<'_>,
 ) -> Result<Prepared, NoMemory>
-    requires now { now ≤ last_moment }
     requires there { has_frame frame tab.now ≡ true }
     ensures prepared { (site : PlainSite) → top_site tab.now ≡ Some site
-        → let how = spec.request_use list.now.rules site (spec.chain_above frame tab.now)
-        (spec.starter_of by_self frame tab.now) (plain_address url.now) method granted in
-        let fields = map head_field_of head.now in
-        IsPrepared list.now.rules now how fields cookies.old cookies.new result }
+        → let how = spec.request_use input.now.list.now.rules site (spec.chain_above frame tab.now)
+        (spec.starter_of by_self frame tab.now) (plain_address load.now.url.now)
+        load.now.method load.now.granted in
+        let fields = map head_field_of load.now.head.now in
+        IsPrepared input.now.list.now.rules input.now.clock how fields cookies.old cookies.new
+        result }
 {
-    let target = site_of_address(alloc, url, list)?;
+    let target = site_of_address(input.alloc, load.url, input.list)?;
     let context = tab.context_above(frame, &target)?;
     let same_site = if by_self {
         tab.first_party(frame, &target)
     } else {
         context.first
     };
-    let how = request_use(tab, url, context, same_site, method, granted);
-    cookies.prepare(alloc, list, now, &how, head)
+    let how = request_use(tab, load, context, same_site);
+    cookies.prepare(input, &how, load.head)
 }
 
 // The use of a request in a tab.
 fn request_use<'a>(
     tab: &'a Tab,
-    url: &'a Address,
+    load: &Load<'a>,
     context: Context,
     same_site: bool,
-    method: Method,
-    granted: bool,
 ) -> CookieUse<'a>
     ensures { (site : PlainSite) → top_site tab.now ≡ Some site
         → plain_use result ≡ record {
-          url = plain_address url.now;
+          url = plain_address load.now.url.now;
           top = site;
           context = plain_context context;
           same_site = same_site;
           top_load = false;
-          safe = spec.is_safe method;
+          safe = spec.is_safe load.now.method;
           script = false;
-          granted = granted;
+          granted = load.now.granted;
         } }
 {
     CookieUse {
-        url,
+        url: load.url,
         top: tab.top_site(),
         context,
         same_site,
         top_load: false,
-        safe: is_safe(method),
+        safe: is_safe(load.method),
         script: false,
-        granted,
+        granted: load.granted,
     }
 }
 

@@ -1,9 +1,8 @@
 -- The plan stands where cookies were marked before.
-use Rattle.std.proofs.Common.{◌≡◌, ◌++◌, ℕ, ℤ, List, map, pos, true, ap, sym, subst, arith, ◌∙◌}
+use Rattle.std.proofs.Common.{rules, ◌≡◌, ◌++◌, ℕ, ℤ, List, map, pos, true, ap, sym, subst, ◌∙◌}
 use Rattle.std.specs.Prelude.{IfSome, Ok}
-use Rattle.std.proofs.lemmas.Int.{to_z_pos}
 use mir.Syntax.{w64}
-use mir.Val.{to_z}
+use mir.Val.{of_z, to_z}
 use Rattle.setcookie_parse.specs.Plain.{plain_text}
 use Rattle.cookie_jar.specs.Key.{plain_key}
 use Rattle.cookie_jar.specs.Persistent.{RowReplace, row_fits, rows_of_steps}
@@ -19,17 +18,18 @@ use Rattle.web_cookies.proofs.in_place.replaced_in.Goals as goal
 pub returns : goal.returns
 returns c = record {
   replaced = λ places at.
-      let rules = c.args.list.now.rules in
+      let own_rules = c.args.input.now.list.now.rules in
       let text = plain_text c.args.cookie.now in
       let access = plain_access c.args.access.now in
       let kind = c.args.jar.now.kind in
       let old = c.args.jar.now.cookies in
       let cell = plain_key c.args.cell.now in
       let plan = c.in-Ok.plan in
-      let moment : to_z w64 c.args.now ≡ pos c.args.now = to_z_pos w64 c.args.now (omega (arith, c.requires.now)) in
+      let back : to_z w64 (of_z w64 c.signed.result) ≡ c.signed.result = search rules in
+      let moment : to_z w64 (of_z w64 c.signed.result) ≡ pos c.args.input.now.clock = back ∙ c.signed.ensures.number in
       let stays = subst (λ n. IfSome (replacement_of plan) (λ r. (places : List ℕ) (used : ℤ)
-      → (planned rules text access kind n (marked places used old) ≡ Ok plan) × (row_fits kind (marked places used old) (RowReplace r.0 r.1) ≡ true))) moment c.in-Ok.ensures.replaced in
-      let told = plan_replaces rules (pos c.args.now) text access kind old cell plan c.in-Some.place (plain_cookie c.in-Some.cookie) (sym c.in-Some.ensures.value) stays places at in (
+      → (planned own_rules text access kind n (marked places used old) ≡ Ok plan) × (row_fits kind (marked places used old) (RowReplace r.0 r.1) ≡ true))) moment c.in-Ok.ensures.replaced in
+      let told = plan_replaces own_rules (pos c.args.input.now.clock) text access kind old cell plan c.in-Some.place (plain_cookie c.in-Some.cookie) (sym c.in-Some.ensures.value) stays places at in (
         told.0,
         c.stored_word-word.ensures.value ∙ ap stored_word c.kind-2.ensures.value ∙ told.1,
         c.in_ok-push_rows.ensures.rows ∙ ap (λ items. map plain_change items ++ map (in_cell cell) (rows_of_steps plan.fresh plan.steps)) c.new-rows.ensures.items ∙ told.2,

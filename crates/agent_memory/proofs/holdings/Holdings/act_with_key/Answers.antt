@@ -22,14 +22,14 @@ write_under-requires-clause-there c =
     (subst (IsFound (key_wanted c.args.at.frame c.tab.result.now)) c.in-Keyed.is c.key_at.ensures.found)
 
 pub returns-then-is_reading-clause-acts : goal.returns-then-is_reading-clause-acts
-returns-then-is_reading-clause-acts c = IfSome_then (by_keyed c.args.list.now.rules c.args.now
+returns-then-is_reading-clause-acts c = IfSome_then (by_keyed c.args.input.now.list.now.rules c.args.input.now.clock
     (action_of c.args.action.now)) c.read_under.ensures.acts
     (by_found (λ does. Acts does c.args.self.now c.args.self.now c.read_under.result)
     c.args.at c.args.self.now.live.tabs c.tab.result.now c.in-Keyed.key _ (sym c.tab.ensures.tab)
     (subst (IsFound (key_wanted c.args.at.frame c.tab.result.now)) c.in-Keyed.is c.key_at.ensures.found) refl)
 
 pub returns-in_ok-key-in-Keyed-clause-acts : goal.returns-in_ok-key-in-Keyed-clause-acts
-returns-in_ok-key-in-Keyed-clause-acts c = IfSome_then (by_keyed c.args.list.now.rules c.args.now
+returns-in_ok-key-in-Keyed-clause-acts c = IfSome_then (by_keyed c.args.input.now.list.now.rules c.args.input.now.clock
     (action_of c.args.action.now)) c.write_under.ensures.acts
     (by_found (λ does. Acts does c.args.self.now c.write_under.new.self c.write_under.result)
     c.args.at c.args.self.now.live.tabs c.tab.result.now c.in-Keyed.key _ (sym c.tab.ensures.tab)
@@ -38,8 +38,8 @@ returns-in_ok-key-in-Keyed-clause-acts c = IfSome_then (by_keyed c.args.list.now
 
 pub returns-then-is_reading-clause-changes : goal.returns-then-is_reading-clause-changes
 returns-then-is_reading-clause-changes c =
-    IfSome_then (by_keyed c.args.list.now.rules c.args.now (action_of c.args.action.now))
-    (reading_none c.args.list.now.rules c.args.now (action_of c.args.action.now) (sym c.if-is_reading.ensures))
+    IfSome_then (by_keyed c.args.input.now.list.now.rules c.args.input.now.clock (action_of c.args.action.now))
+    (reading_none c.args.input.now.list.now.rules c.args.input.now.clock (action_of c.args.action.now) (sym c.if-is_reading.ensures))
     (λ does none tab site found top.
     writes_none _ (keyed_none c.args.at tab (does site tab) (cells_of c.args.self.now)
     (held_of c.args.self.now) (λ reader. none site tab reader (cells_of c.args.self.now) (held_of c.args.self.now)))
@@ -47,7 +47,7 @@ returns-then-is_reading-clause-changes c =
 
 pub returns-in_ok-key-in-Keyed-clause-changes : goal.returns-in_ok-key-in-Keyed-clause-changes
 returns-in_ok-key-in-Keyed-clause-changes c =
-    IfSome_then (by_keyed c.args.list.now.rules c.args.now (action_of c.args.action.now)) c.write_under.ensures.changes
+    IfSome_then (by_keyed c.args.input.now.list.now.rules c.args.input.now.clock (action_of c.args.action.now)) c.write_under.ensures.changes
     (by_found (λ does. Writes does c.args.self.now c.args.body.now.bytes c.write_under.new.body.bytes
     c.write_under.result) c.args.at c.args.self.now.live.tabs c.tab.result.now c.in-Keyed.key _ (sym c.tab.ensures.tab)
     (subst (IsFound (key_wanted c.args.at.frame c.tab.result.now)) c.in-Keyed.is c.key_at.ensures.found)
@@ -57,6 +57,6 @@ pub returns-in_err-key-in-Keyed-clause-changes : goal.returns-in_err-key-in-Keye
 returns-in_err-key-in-Keyed-clause-changes c =
     each_some (λ does. WritesIn c.args.at.tab (λ site tab. with_key c.args.at tab (does site tab))
     c.args.self.now c.args.body.now.bytes c.args.body.now.bytes c.from_residual.result)
-    (by_keyed c.args.list.now.rules c.args.now (action_of c.args.action.now))
+    (by_keyed c.args.input.now.list.now.rules c.args.input.now.clock (action_of c.args.action.now))
     (λ does tab site found top. writes_wanting _ c.args.body.now.bytes c.args.body.now.bytes
     c.from_residual.result c.from_residual.ensures.0 (front_same c.args.body.now.bytes))

@@ -22,18 +22,18 @@ use Rattle.agent_memory.proofs.holdings.Holdings.arrive.Goals as goal
 
 pub returns : goal.returns
 returns c = rw (← c.self.view_is) (
-    let rules = c.args.list.now.rules in
+    let rules = c.args.input.now.list.now.rules in
     let url = plain_address c.args.url.now in
     let target = site_of_address rules url in
     let head = map head_field_of c.args.head.now in
     let old : HoldingsView = shown c.self.inside in
     let ready : HoldingsView = record (shown c.self.inside) { cookies = c.prepare_top.new.cookies } in
     let mid : HoldingsView = shown c.self-2.inside in
-    let new : HoldingsView = record (shown c.self-2.inside) { cookies = c.perform-load.new.self } in
+    let new : HoldingsView = record (shown c.self-2.inside) { cookies = c.perform-answer.new.self } in
     let how = top_use target url c.args.method (is_same_site (starter_in c.args.starter old.live.tabs) target) in
-    let does = request rules c.args.now how head in
-    let prepared : IsPrepared rules c.args.now how head old.cookies ready.cookies (Ok c.in_ok-prepared.prepared) =
-    subst (λ site. IsPrepared rules c.args.now (top_use site url c.args.method
+    let does = request rules c.args.input.now.clock how head in
+    let prepared : IsPrepared rules c.args.input.now.clock how head old.cookies ready.cookies (Ok c.in_ok-prepared.prepared) =
+    subst (λ site. IsPrepared rules c.args.input.now.clock (top_use site url c.args.method
     (is_same_site (starter_in c.args.starter old.live.tabs) site)) head old.cookies ready.cookies
     (Ok c.in_ok-prepared.prepared))
     c.in_ok-site.ensures.site c.in_ok-prepared.ensures.prepared in
@@ -44,13 +44,13 @@ returns c = rw (← c.self.view_is) (
       site = c.in_ok-site.ensures.site;
       loaded = load_done does (cells_of old) (show rules c.args.tab url
           (with_copies c.args.opener c.args.tab old.live.tabs (held_of old))) c.args.tab target old mid new
-          (body_of c.perform-load.result)
+          (body_of c.perform-answer.result)
           (ap shared_in cookies ∙ stays.cells)
           (ap held_of c.self-2.view_is ∙ c.in_ok-show.ensures.held
           ∙ ap (λ h. show rules c.args.tab url (with_copies c.args.opener c.args.tab old.live.tabs h)) stays.held)
           (ap (λ (h : HoldingsView). places_in h.live.tabs) c.self-2.view_is ∙ c.in_ok-show.ensures.places)
-          (done_by does mid new (body_of c.perform-load.result) refl refl refl
-          (c.perform-load.ensures.done does (subst (λ own. Prepares does own c.in_ok-prepared.prepared)
+          (done_by does mid new (body_of c.perform-answer.result) refl refl refl
+          (c.perform-answer.ensures.done does (subst (λ own. Prepares does own c.in_ok-prepared.prepared)
           (sym cookies) prepared.ready)));
       unchanged = tt;
       limit = c.write_rows.ensures.limit;

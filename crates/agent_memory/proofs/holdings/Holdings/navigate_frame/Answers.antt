@@ -1,11 +1,11 @@
 -- The frame has its document, and its load is performed; or the frames refuse it.
-use Rattle.std.proofs.Common.{◌≡◌, inr, true, Some, Ok, map, refl, sym, ap, subst, ◌∙◌}
+use Rattle.std.proofs.Common.{◌≡◌, inr, Some, Ok, map, refl, sym, ap, subst, ◌∙◌}
 use Rattle.agent_base.specs.Answers.{Answers}
 use Rattle.origin_site.specs.Plain.{plain_address}
 use Rattle.frame_tree.specs.declared.tab.TreeFault.TheVariants.{NoFrame, NoMemory}
-use Rattle.frame_tree.specs.Tree.{has_frame, top_site}
+use Rattle.frame_tree.specs.Tree.{top_site}
 use Rattle.live_state.specs.FramesInPlace.{frames_at}
-use Rattle.live_state.specs.Queues.{frames_by, has_document}
+use Rattle.live_state.specs.Queues.{frames_by}
 use Rattle.live_state.specs.Tabs.{PlainTab, is_open, tab_at}
 use Rattle.reply_lines.specs.Plain.{body_of}
 use Rattle.script_actions.specs.Plain.{head_field_of}
@@ -19,45 +19,49 @@ use Rattle.agent_memory.proofs.ShownLemmas.{shown}
 use Rattle.agent_memory.proofs.DoneLemmas.{cookies_held, frames_refused, no_change, stays_same}
 use Rattle.agent_memory.proofs.LoadWritesLemmas.{load_written, refused_none}
 use Rattle.agent_memory.proofs.WritesLemmas.{writes_none, writes_wanting}
-use Rattle.agent_memory.proofs.FoundLemmas.{frames_are, frames_found}
+use Rattle.agent_memory.proofs.FoundLemmas.{frames_are, has_found}
 use Rattle.agent_memory.proofs.FrameLemmas.{tree_navigated}
 use Rattle.agent_memory.proofs.InPlaceLemmas.{load_in_place, trees_in_place}
-use Rattle.agent_memory.proofs.RequestLemmas.{acts_wanting, below_there, navigated_by, not_below, prepared_stays}
+use Rattle.agent_memory.proofs.RequestLemmas.{acts_wanting, below_found, below_there, navigated_by, not_below, prepared_stays}
 use Rattle.agent_memory.proofs.holdings.Holdings.navigate_frame.Goals as goal
 
 pub returns-then-not-is_below-clause-acts : goal.returns-then-not-is_below-clause-acts
-returns-then-not-is_below-clause-acts c = λ tab site found top.
-    let rules = c.args.list.now.rules in
+returns-then-not-is_below-clause-acts c = rw (← c.self.view_is) (λ tab site found top.
+    let old : HoldingsView = shown c.self.inside in
+    let rules = c.args.input.now.list.now.rules in
     let url = plain_address c.args.url.now in
     frames_refused c.args.at.tab tab (Some c.args.at.frame)
-    (λ frames. request rules c.args.now (nav_use rules site c.args.at.frame tab.frames url c.args.by_self
+    (λ frames. request rules c.args.input.now.clock (nav_use rules site c.args.at.frame tab.frames url c.args.by_self
     c.args.method) (map head_field_of c.args.head.now))
     (frames_navigated rules c.args.at url c.args.by_self tab.frames) NoFrame (body_of c.answer.result)
-    c.args.self.now c.args.self.now
-    (inr (not_below rules c.args.at c.args.self.now.live.tabs tab found url c.args.by_self
-    (sym c.if-not-is_below.ensures.below))) (λ e. cc e) c.answer.ensures
-    (record { held = refl; cells = refl; places = refl })
+    old old
+    (inr (not_below rules c.args.at old.live.tabs tab found url c.args.by_self
+    (below_found c.args.at old.live.tabs c.open_tab-tab.result.now
+    (sym c.open_tab-tab.ensures.tab) ∙ sym c.if-not-is_below.ensures.below))) (λ e. cc e) c.answer.ensures
+    (record { held = refl; cells = refl; places = refl }))
 
-pub prepare_nav-requires-clause-there : goal.prepare_nav-requires-clause-there
-prepare_nav-requires-clause-there c =
-    let here : has_document c.self.inside.live.tabs c.args.at ≡ true =
-    ap (λ (h : HoldingsView). has_document h.live.tabs c.args.at) c.self.view_is
-    ∙ below_there c.args.self.now.live.tabs c.args.at (sym c.if-not-is_below.ensures.below) in
-    ap (has_frame c.args.at.frame) (sym (frames_found (tab_at c.args.at.tab c.self.inside.live.tabs)
-    c.open_tab-tab.result.now (sym c.open_tab-tab.ensures.tab))) ∙ here
+pub prepare_nav-requires : goal.prepare_nav-requires
+prepare_nav-requires c =
+    let tabs = c.self.inside.live.tabs in
+    let frames = c.open_tab-tab.result.now in
+    let shown = sym c.open_tab-tab.ensures.tab in
+    record {
+      there = sym (has_found c.args.at tabs frames shown)
+          ∙ below_there tabs c.args.at (below_found c.args.at tabs frames shown ∙ sym c.if-not-is_below.ensures.below);
+    }
 
 pub returns-in_err-granted-clause-acts : goal.returns-in_err-granted-clause-acts
 returns-in_err-granted-clause-acts c = rw (← c.self.view_is) (λ tab site found top.
-    let rules = c.args.list.now.rules in
+    let rules = c.args.input.now.list.now.rules in
     let url = plain_address c.args.url.now in
     let old : HoldingsView = shown c.self.inside in
-    acts_wanting (navigate_frame rules c.args.now site c.args.at url c.args.by_self c.args.method
+    acts_wanting (navigate_frame rules c.args.input.now.clock site c.args.at url c.args.by_self c.args.method
     (map head_field_of c.args.head.now) tab) old old
     c.from_residual.result c.from_residual.ensures.0 (stays_same old old refl refl refl (no_change c.self.inside.cookies)))
 
 pub returns-in_err-prepared-clause-acts : goal.returns-in_err-prepared-clause-acts
 returns-in_err-prepared-clause-acts c = rw (← c.self.view_is) (λ tab site found top.
-    acts_wanting (navigate_frame c.args.list.now.rules c.args.now site c.args.at
+    acts_wanting (navigate_frame c.args.input.now.list.now.rules c.args.input.now.clock site c.args.at
     (plain_address c.args.url.now) c.args.by_self c.args.method
     (map head_field_of c.args.head.now) tab) (shown c.self.inside)
     (record (shown c.self.inside) { cookies = c.prepare_nav.new.cookies })
@@ -67,7 +71,7 @@ returns-in_err-prepared-clause-acts c = rw (← c.self.view_is) (λ tab site fou
 
 pub invariant_of-self-2 : goal.invariant_of-self-2
 invariant_of-self-2 c =
-    let rules = c.args.list.now.rules in
+    let rules = c.args.input.now.list.now.rules in
     let url = plain_address c.args.url.now in
     let frames = frames_at c.args.at.tab c.self.inside.live.tabs in
     trees_in_place c.args.at.tab (Some c.args.at.frame) c.self.inside.live c.navigate-done.new.live
@@ -82,7 +86,7 @@ invariant_of-self-2 c =
 
 pub returns-in_err-write_rows-clause-acts : goal.returns-in_err-write_rows-clause-acts
 returns-in_err-write_rows-clause-acts c = rw (← c.self.view_is) (λ tab site found top.
-    acts_wanting (navigate_frame c.args.list.now.rules c.args.now site c.args.at
+    acts_wanting (navigate_frame c.args.input.now.list.now.rules c.args.input.now.clock site c.args.at
     (plain_address c.args.url.now) c.args.by_self c.args.method
     (map head_field_of c.args.head.now) tab) (shown c.self.inside)
     (record (shown c.self.inside) { cookies = c.prepare_nav.new.cookies })
@@ -92,7 +96,7 @@ returns-in_err-write_rows-clause-acts c = rw (← c.self.view_is) (λ tab site f
 
 pub returns : goal.returns
 returns c = rw (← c.self.view_is) (
-    let rules = c.args.list.now.rules in
+    let rules = c.args.input.now.list.now.rules in
     let url = plain_address c.args.url.now in
     let head = map head_field_of c.args.head.now in
     let old : HoldingsView = shown c.self.inside in
@@ -101,15 +105,15 @@ returns c = rw (← c.self.view_is) (
     let own = c.prepare_nav.new.cookies in
     let prepared : (tab : PlainTab) (site : PlainSite) → tab_at c.args.at.tab old.live.tabs ≡ Some tab
     → top_site tab.frames ≡ Some site
-    → IsPrepared rules c.args.now (nav_use rules site c.args.at.frame tab.frames url c.args.by_self
+    → IsPrepared rules c.args.input.now.clock (nav_use rules site c.args.at.frame tab.frames url c.args.by_self
     c.args.method) head old.cookies own (Ok c.in_ok-prepared.prepared) =
     λ tab site found top.
     let same = frames_are (tab_at c.args.at.tab old.live.tabs) c.open_tab-tab.result.now tab
     (sym c.open_tab-tab.ensures.tab) found in
-    subst (λ f. IsPrepared rules c.args.now (nav_use rules site c.args.at.frame f url c.args.by_self
+    subst (λ f. IsPrepared rules c.args.input.now.clock (nav_use rules site c.args.at.frame f url c.args.by_self
     c.args.method) head old.cookies own (Ok c.in_ok-prepared.prepared)) (sym same)
     (subst (λ granted. let frames = c.open_tab-tab.result.now in
-    IsPrepared rules c.args.now (request_use rules site (chain_above c.args.at.frame frames)
+    IsPrepared rules c.args.input.now.clock (request_use rules site (chain_above c.args.at.frame frames)
     (starter_of c.args.by_self c.args.at.frame frames) url c.args.method granted) head old.cookies own
     (Ok c.in_ok-prepared.prepared))
     c.in_ok-granted.ensures.granted (c.in_ok-prepared.ensures.prepared site (subst (λ f. top_site f ≡ Some site) same top))) in
@@ -125,7 +129,7 @@ returns c = rw (← c.self.view_is) (
       acts = λ tab site found top.
           let ready = prepared tab site found top in
           load_in_place c.args.at.tab (Some c.args.at.frame)
-          (request rules c.args.now (nav_use rules site c.args.at.frame tab.frames url c.args.by_self
+          (request rules c.args.input.now.clock (nav_use rules site c.args.at.frame tab.frames url c.args.by_self
           c.args.method) head) c.in_ok-prepared.prepared own old new
           (frames_navigated rules c.args.at url c.args.by_self tab.frames) refl refl ready.keeps ready.ready
           c.navigate-done.result (answered tab found) c.navigate-done.ensures.changes tab found
@@ -134,7 +138,7 @@ returns c = rw (← c.self.view_is) (
       changes = λ tab site found top.
           let ready = prepared tab site found top in
           load_written c.args.at.tab tab (Some c.args.at.frame) (cells_of old) (held_of old)
-          (request rules c.args.now (nav_use rules site c.args.at.frame tab.frames url c.args.by_self
+          (request rules c.args.input.now.clock (nav_use rules site c.args.at.frame tab.frames url c.args.by_self
           c.args.method) head) c.in_ok-prepared.prepared old.cookies own new.cookies
           (frames_navigated rules c.args.at url c.args.by_self tab.frames)
           (frames_at c.args.at.tab new.live.tabs)
@@ -147,16 +151,17 @@ returns c = rw (← c.self.view_is) (
     })
 
 pub returns-then-not-is_below-clause-changes : goal.returns-then-not-is_below-clause-changes
-returns-then-not-is_below-clause-changes c = λ tab site found top.
-    let rules = c.args.list.now.rules in
+returns-then-not-is_below-clause-changes c = rw (← c.self.view_is) (λ tab site found top.
+    let rules = c.args.input.now.list.now.rules in
     let url = plain_address c.args.url.now in
-    let old = c.args.self.now in
+    let old : HoldingsView = shown c.self.inside in
     writes_none _ (refused_none c.args.at.tab tab (Some c.args.at.frame) (cells_of old) (held_of old)
-    (λ frames. request rules c.args.now (nav_use rules site c.args.at.frame tab.frames url c.args.by_self
+    (λ frames. request rules c.args.input.now.clock (nav_use rules site c.args.at.frame tab.frames url c.args.by_self
     c.args.method) (map head_field_of c.args.head.now))
     (frames_navigated rules c.args.at url c.args.by_self tab.frames) NoFrame
     (not_below rules c.args.at old.live.tabs tab found url c.args.by_self
-    (sym c.if-not-is_below.ensures.below))) c.args.body.now.bytes (Ok c.answer.result)
+    (below_found c.args.at old.live.tabs c.open_tab-tab.result.now
+    (sym c.open_tab-tab.ensures.tab) ∙ sym c.if-not-is_below.ensures.below))) c.args.body.now.bytes (Ok c.answer.result))
 
 pub returns-in_err-write_rows-clause-changes : goal.returns-in_err-write_rows-clause-changes
 returns-in_err-write_rows-clause-changes c = λ tab site found top. writes_wanting _ c.args.body.now.bytes

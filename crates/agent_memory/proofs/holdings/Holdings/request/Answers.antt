@@ -39,11 +39,11 @@ returns-in_default-clause-acts c = rw (← c.self.view_is) (λ tab site found to
     let frames = frames_are (tab_at c.args.at.tab old.live.tabs) c.open_tab-tab.result.now tab
     (sym c.open_tab-tab.ensures.tab) found in
     missing_done c.args.at old.live.tabs tab found
-    (asks c.args.list.now.rules c.args.now site c.args.at c.args.prompt tab) old (body_of c.answer.result)
+    (asks c.args.input.now.list.now.rules c.args.input.now.clock site c.args.at c.args.prompt tab) old (body_of c.answer.result)
     (ap (document_of c.args.at.frame) frames ∙ sym c.in_default.ensures.document) c.answer.ensures)
 
-pub facts_of-facts-requires-clause-document : goal.facts_of-facts-requires-clause-document
-facts_of-facts-requires-clause-document c = sym c.in-Some.ensures.document
+pub facts_of-facts-requires : goal.facts_of-facts-requires
+facts_of-facts-requires c = record { document = sym c.in-Some.ensures.document }
 
 pub finish-requires : goal.finish-requires
 finish-requires c =
@@ -57,7 +57,7 @@ finish-requires c =
 pub returns-in_err-site-clause-acts : goal.returns-in_err-site-clause-acts
 returns-in_err-site-clause-acts c = rw (← c.self.view_is) (λ tab site found top.
     let old : HoldingsView = shown c.self.inside in
-    acts_wanting (request_access c.args.list.now.rules c.args.now site c.args.at c.args.prompt tab)
+    acts_wanting (request_access c.args.input.now.list.now.rules c.args.input.now.clock site c.args.at c.args.prompt tab)
     old old c.from_residual.result c.from_residual.ensures.0
     (stays_same old old refl refl refl (no_change c.self.inside.cookies)))
 
@@ -65,7 +65,7 @@ pub returns-in_err-row-clause-acts : goal.returns-in_err-row-clause-acts
 returns-in_err-row-clause-acts c = rw (← c.self.view_is) (λ tab site found top.
     let old : HoldingsView = shown c.self.inside in
     let new : HoldingsView = record old { grants = c.prepare_row.new.grants.rows } in
-    acts_wanting (request_access c.args.list.now.rules c.args.now site c.args.at c.args.prompt tab) old new
+    acts_wanting (request_access c.args.input.now.list.now.rules c.args.input.now.clock site c.args.at c.args.prompt tab) old new
     c.from_residual-in_err-row.result c.from_residual-in_err-row.ensures.0
     (stays_same old new refl refl c.in_err-row.ensures.same (no_change c.self.inside.cookies)))
 
@@ -73,7 +73,7 @@ pub returns-in_err-write_row-clause-acts : goal.returns-in_err-write_row-clause-
 returns-in_err-write_row-clause-acts c = rw (← c.self.view_is) (λ tab site found top.
     let old : HoldingsView = shown c.self.inside in
     let new : HoldingsView = record old { grants = c.prepare_row.new.grants.rows } in
-    acts_wanting (request_access c.args.list.now.rules c.args.now site c.args.at c.args.prompt tab) old new
+    acts_wanting (request_access c.args.input.now.list.now.rules c.args.input.now.clock site c.args.at c.args.prompt tab) old new
     c.from_residual-in_err-write_row.result c.from_residual-in_err-write_row.ensures.0
     (stays_same old new refl refl c.in_ok-row.ensures.same (no_change c.self.inside.cookies)))
 
@@ -83,7 +83,7 @@ returns-in_default-clause-changes c = rw (← c.self.view_is) (λ tab site found
     let frames = frames_are (tab_at c.args.at.tab old.live.tabs) c.open_tab-tab.result.now tab
     (sym c.open_tab-tab.ensures.tab) found in
     writes_none _ (ap (λ document. (by_document document
-    (asks c.args.list.now.rules c.args.now site c.args.at c.args.prompt tab) (cells_of old) (held_of old)).changes)
+    (asks c.args.input.now.list.now.rules c.args.input.now.clock site c.args.at c.args.prompt tab) (cells_of old) (held_of old)).changes)
     (ap (document_of c.args.at.frame) frames ∙ sym c.in_default.ensures.document)) c.args.body.now.bytes (Ok c.answer.result))
 
 pub invariant_of-self-2 : goal.invariant_of-self-2
@@ -104,22 +104,22 @@ comes : (c : goal.After-drop-site-2) (tab : PlainTab) (site : PlainSite)
     → tab_at c.args.at.tab c.self.inside.live.tabs ≡ Some tab → top_site tab.frames ≡ Some site
     → (document_of c.args.at.frame tab.frames ≡ Some (plain_document c.in-Some.document.now))
     × (plain_site c.top_site-top.result.now ≡ site)
-    × (outcome_of site (embedded_site c.args.list.now.rules (plain_document c.in-Some.document.now))
-    (access_facts c.args.list.now.rules c.args.now c.args.at.frame tab.frames (plain_document c.in-Some.document.now))
-    (answer_of c.args.prompt) c.args.now c.self.inside.grants.rows ≡ Some c.request-outcome.result)
+    × (outcome_of site (embedded_site c.args.input.now.list.now.rules (plain_document c.in-Some.document.now))
+    (access_facts c.args.input.now.list.now.rules c.args.input.now.clock c.args.at.frame tab.frames (plain_document c.in-Some.document.now))
+    (answer_of c.args.prompt) c.args.input.now.clock c.self.inside.grants.rows ≡ Some c.request-outcome.result)
 comes c tab site found top =
-    let own_rules = c.args.list.now.rules in
+    let own_rules = c.args.input.now.list.now.rules in
     let at = c.args.at in
     let document = plain_document c.in-Some.document.now in
     let frames = frames_are (tab_at at.tab c.self.inside.live.tabs) c.open_tab-tab.result.now tab
     (sym c.open_tab-tab.ensures.tab) found in
     let facts = c.facts_of-facts.ensures.facts own_rules c.in_ok-site.ensures.site
-    ∙ ap (λ frames. access_facts own_rules c.args.now at.frame frames document) (sym frames) in
+    ∙ ap (λ frames. access_facts own_rules c.args.input.now.clock at.frame frames document) (sym frames) in
     let over : plain_site c.top_site-top.result.now ≡ site =
     some_is (sym c.top_site-top.ensures.site ∙ ap top_site (sym frames) ∙ top) in
     let own : plain_site c.in_ok-site.site ≡ embedded_site own_rules document = c.in_ok-site.ensures.site in
     let back : to_z w64 (of_z w64 c.signed.result) ≡ c.signed.result = search rules in
-    let moment : pos c.args.now ≡ to_z w64 (of_z w64 c.signed.result) = sym c.signed.ensures ∙ sym back in (
+    let moment : pos c.args.input.now.clock ≡ to_z w64 (of_z w64 c.signed.result) = sym c.signed.ensures.number ∙ sym back in (
       ap (document_of at.frame) frames ∙ sym c.in-Some.ensures.document,
       over,
       (λ i. first_row (request_rows (sym facts i) (grant_state (sym over i) (sym own i) (moment i) c.self.inside.grants.rows)
@@ -132,7 +132,7 @@ returns-clause-acts c = rw (← c.self.view_is) (λ tab site found top.
     let old : HoldingsView = shown c.self.inside in
     let outcome = c.request-outcome.result in
     let is = comes c tab site found top in
-    asked_done c.args.list.now.rules c.args.now site c.args.at c.args.prompt tab
+    asked_done c.args.input.now.list.now.rules c.args.input.now.clock site c.args.at c.args.prompt tab
     (plain_document c.in-Some.document.now) outcome old
     c.finish.new.live c.keep.new.grants.rows (body_of c.answer-2.result) found is.0 is.2
     (c.finish.ensures.frames ∙ ap (λ t. requested outcome.sets_flag outcome.consumes c.args.at.frame (frames_by t)) found)
@@ -151,7 +151,7 @@ returns-clause-changes c = rw (← c.self.view_is) (λ tab site found top.
     (ap change_kept c.in_ok-row.ensures.row
     ∙ change_is outcome.kept (plain_site c.top_site-top.result.now) (plain_site c.in_ok-site.site)
     ∙ (λ i. change_requested outcome.kept (is.1 i) (c.in_ok-site.ensures.site i))
-    ∙ sym (asked_changes c.args.list.now.rules c.args.now site c.args.at c.args.prompt tab
+    ∙ sym (asked_changes c.args.input.now.list.now.rules c.args.input.now.clock site c.args.at c.args.prompt tab
     (plain_document c.in-Some.document.now) outcome (shown c.self.inside) is.0 is.2))
     c.in_ok-write_row.ensures.changes)
 

@@ -14,7 +14,7 @@ use Rattle.agent_memory.proofs.holdings.Holdings.show.Goals as goal
 
 pub invariant_of-self-3 : goal.invariant_of-self-3
 invariant_of-self-3 c =
-    let rules = c.args.list.now.rules in
+    let rules = c.args.input.now.list.now.rules in
     let url = plain_address c.args.url.now in
     shown_trees rules c.args.tab url _ _
     (put_opened rules c.args.tab url _ _ _ _ c.in_ok-made.ensures.opened c.in_ok-copy.ensures.same
@@ -22,7 +22,7 @@ invariant_of-self-3 c =
 
 pub returns-clause-held : goal.returns-clause-held
 returns-clause-held c =
-    let rules = c.args.list.now.rules in
+    let rules = c.args.input.now.list.now.rules in
     let url = plain_address c.args.url.now in
     shown_held rules c.args.tab url _ _
     (put_opened rules c.args.tab url _ _ _ _ c.in_ok-made.ensures.opened c.in_ok-copy.ensures.same
@@ -36,7 +36,7 @@ returns-clause-held c =
 
 pub returns-clause-places : goal.returns-clause-places
 returns-clause-places c =
-    let rules = c.args.list.now.rules in
+    let rules = c.args.input.now.list.now.rules in
     let url = plain_address c.args.url.now in
     shown_places rules c.args.tab url _ _ (put_opened rules c.args.tab url _ _ _ _ c.in_ok-made.ensures.opened
     c.in_ok-copy.ensures.same c.put_tab.ensures.put)

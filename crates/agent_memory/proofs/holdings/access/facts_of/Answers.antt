@@ -27,7 +27,7 @@ returns c =
     let there : has_frame frame frames ≡ true = sym (document_there frame frames) ∙ ap is_some c.requires.document in
     let opaque = none_is plain_origin c.args.document.now.origin c.is_none.result c.is_none.ensures in
     let back : to_z w64 (of_z w64 c.signed.result) ≡ c.signed.result = search rules in
-    let active = c.is_active.ensures.active ∙ (λ i. is_active_document ((back ∙ c.signed.ensures) i) (c.requires.document i)) in
+    let active = c.is_active.ensures.active ∙ (λ i. is_active_document ((back ∙ c.signed.ensures.number) i) (c.requires.document i)) in
     record {
       facts = λ given own. λ i. record {
         opaque = opaque i;

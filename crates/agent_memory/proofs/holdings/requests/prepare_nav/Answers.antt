@@ -14,8 +14,8 @@ use Rattle.agent_memory.proofs.holdings.requests.prepare_nav.Goals.{then-by_self
 
 pub returns : goal.returns
 returns c =
-    let rules = c.args.list.now.rules in
-    let url = plain_address c.args.url.now in
+    let rules = c.args.input.now.list.now.rules in
+    let url = plain_address c.args.load.now.url.now in
     let frames = c.args.tab.now in
     let target = site_of_address rules url in
     let context : plain_context c.in_ok-context.context ≡ context_of (sites (chain_above c.args.frame frames)) target =
@@ -31,9 +31,9 @@ returns c =
     ] in
     record {
       prepared = λ site top.
-          prepared_as rules c.args.now _ (request_use rules site (chain_above c.args.frame frames)
-          (starter_of c.args.by_self c.args.frame frames) url c.args.method c.args.granted)
-          (map head_field_of c.args.head.now) c.args.cookies.now c.prepare.new.self c.prepare.result
+          prepared_as rules c.args.input.now.clock _ (request_use rules site (chain_above c.args.frame frames)
+          (starter_of c.args.by_self c.args.frame frames) url c.args.load.now.method c.args.load.now.granted)
+          (map head_field_of c.args.load.now.head.now) c.args.cookies.now c.prepare.new.self c.prepare.result
           (c.request_use-how.ensures site top
           ∙ λ i. record {
             url = url;
@@ -42,9 +42,9 @@ returns c =
             same_site = same_site i;
             top_load =
                 false;
-            safe = is_safe c.args.method;
+            safe = is_safe c.args.load.now.method;
             script = false;
-            granted = c.args.granted;
+            granted = c.args.load.now.granted;
           })
           (record { shared = c.prepare.ensures.shared; partitioned = c.prepare.ensures.partitioned }) c.prepare.ensures.prepared;
     }

@@ -79,13 +79,13 @@ returns-in_err-told-clause-runs c =
 -- what was done in the tab
 did : (c : goal.After-replied) (own : IsActOf c.args.at (action_of c.args.action.now)) (tab : PlainTab)
     (site : PlainSite) → tab_at c.args.at.tab c.self.inside.held.live.tabs ≡ Some tab → top_site tab.frames ≡ Some site
-    → IsDone (act_in c.self.inside.list.now.rules c.self.inside.now site c.args.at own.done tab
+    → IsDone (act_in c.self.inside.input.list.now.rules c.self.inside.input.clock site c.args.at own.done tab
     (cells_of c.self.inside.held) (held_of c.self.inside.held)) c.self.inside.held c.act.new.self (body_of c.in_ok-told.told)
 did c own =
     subst (λ (line : PlainAction). IfSome (document_action line)
     (λ does. (tab : PlainTab) (site : PlainSite)
     → tab_at c.args.at.tab c.self.inside.held.live.tabs ≡ Some tab → top_site tab.frames ≡ Some site
-    → IsDone (act_in c.self.inside.list.now.rules c.self.inside.now site c.args.at does tab
+    → IsDone (act_in c.self.inside.input.list.now.rules c.self.inside.input.clock site c.args.at does tab
     (cells_of c.self.inside.held) (held_of c.self.inside.held)) c.self.inside.held c.act.new.self
     (body_of c.in_ok-told.told)))
     own.act c.in_ok-told.ensures.acts
@@ -151,7 +151,7 @@ returns-clause-written c =
     subst (λ (line : PlainAction). IfSome (document_action line)
     (λ does. (tab : PlainTab) (site : PlainSite) → tab_at c.args.at.tab here.held.live.tabs ≡ Some tab
     → top_site tab.frames ≡ Some site
-    → IsAppended (act_in here.list.now.rules here.now site c.args.at does tab (cells_of here.held)
+    → IsAppended (act_in here.input.list.now.rules here.input.clock site c.args.at does tab (cells_of here.held)
     (held_of here.held)).changes c.args.body.now.bytes c.act.new.body.bytes))
     own.act c.in_ok-told.ensures.changes shown.0 site shown.1 (top_is _ c.args.at.tab c.self.invariant shown.0 shown.1 ∙ place) in
     subst (λ (line : PlainAction). AreWritten (line_changes (machine c.args.self.now.rules)

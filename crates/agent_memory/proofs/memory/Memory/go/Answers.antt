@@ -45,15 +45,15 @@ starter_is c =
 
 -- the load, by who starts it
 loaded : (c : goal.After-replied) → let here = c.self.inside in
-    let target = site_of_address here.list.now.rules (plain_address c.args.url.now) in
-    IsLoaded (arrive here.list.now.rules here.now target c.args.tab (plain_address c.args.url.now)
+    let target = site_of_address here.input.list.now.rules (plain_address c.args.url.now) in
+    IsLoaded (arrive here.input.list.now.rules here.input.clock target c.args.tab (plain_address c.args.url.now)
     c.args.method (is_same_site (starter_in (by_tab c.args.by_page c.args.tab) here.held.live.tabs) target)
     (map head_field_of c.args.head.now) (cells_of here.held) (held_of here.held))
     c.args.tab target here.held c.arrive.new.self (body_of c.in_ok-site.load)
 loaded c =
     let here = c.self.inside in
-    let target = site_of_address here.list.now.rules (plain_address c.args.url.now) in
-    subst (λ starter. IsLoaded (arrive here.list.now.rules here.now target c.args.tab
+    let target = site_of_address here.input.list.now.rules (plain_address c.args.url.now) in
+    subst (λ starter. IsLoaded (arrive here.input.list.now.rules here.input.clock target c.args.tab
     (plain_address c.args.url.now) c.args.method (is_same_site (starter_in starter here.held.live.tabs) target)
     (map head_field_of c.args.head.now) (cells_of here.held) (held_of here.held))
     c.args.tab target here.held c.arrive.new.self (body_of c.in_ok-site.load)) (starter_is c) c.in_ok-site.ensures.loaded
@@ -91,12 +91,12 @@ returns-clause-written c =
     let here = c.self.inside in
     let url = plain_address c.args.url.now in
     let head = map head_field_of c.args.head.now in
-    let target = site_of_address here.list.now.rules url in
+    let target = site_of_address here.input.list.now.rules url in
     let there = tab_there c.args.tab c.self.inside.held.live.tabs (sym c.if-not-is_open.ensures.«open») in
     let place = place_is _ c.args.tab c.self.invariant there.0 there.1 in
     line_written (Go c.args.tab url c.args.by_page c.args.method head) _ _ c.self.view_is target _
     (changes_gone _ c.self.invariant c.args.tab url c.args.by_page c.args.method head there.0 there.1 place.0
     place.1) c.args.body.now.bytes c.arrive.new.body.bytes
-    (subst (λ starter. IsAppended (arrive here.list.now.rules here.now target c.args.tab url c.args.method
+    (subst (λ starter. IsAppended (arrive here.input.list.now.rules here.input.clock target c.args.tab url c.args.method
     (is_same_site (starter_in starter here.held.live.tabs) target) head (cells_of here.held) (held_of here.held)).changes
     c.args.body.now.bytes c.arrive.new.body.bytes) (starter_is c) c.in_ok-site.ensures.changes)

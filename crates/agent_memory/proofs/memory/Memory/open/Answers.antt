@@ -67,16 +67,16 @@ copied_is c =
 
 -- the load, by what is copied
 loaded : (c : goal.After-replied) → let here = c.self.inside in
-    let target = site_of_address here.list.now.rules (plain_address c.args.url.now) in
-    IsLoaded (arrive here.list.now.rules here.now target c.args.tab (plain_address c.args.url.now)
+    let target = site_of_address here.input.list.now.rules (plain_address c.args.url.now) in
+    IsLoaded (arrive here.input.list.now.rules here.input.clock target c.args.tab (plain_address c.args.url.now)
     c.args.method (is_same_site (starter_in c.args.opener here.held.live.tabs) target)
     (map head_field_of c.args.head.now) (cells_of here.held)
     (with_copies (copied_from c.args.noopener c.args.opener) c.args.tab here.held.live.tabs (held_of here.held)))
     c.args.tab target here.held c.arrive.new.self (body_of c.in_ok-site.load)
 loaded c =
     let here = c.self.inside in
-    let target = site_of_address here.list.now.rules (plain_address c.args.url.now) in
-    subst (λ from. IsLoaded (arrive here.list.now.rules here.now target c.args.tab
+    let target = site_of_address here.input.list.now.rules (plain_address c.args.url.now) in
+    subst (λ from. IsLoaded (arrive here.input.list.now.rules here.input.clock target c.args.tab
     (plain_address c.args.url.now) c.args.method (is_same_site (starter_in c.args.opener here.held.live.tabs) target)
     (map head_field_of c.args.head.now) (cells_of here.held)
     (with_copies from c.args.tab here.held.live.tabs (held_of here.held)))
@@ -127,11 +127,11 @@ returns-clause-written c =
     let a = c.args in
     let url = plain_address a.url.now in
     let head = map head_field_of a.head.now in
-    let target = site_of_address here.list.now.rules url in
+    let target = site_of_address here.input.list.now.rules url in
     line_written (Open a.tab url a.opener a.noopener a.method head) _ _ c.self.view_is target _
     (changes_opened _ c.self.invariant a.tab url a.opener a.noopener a.method head
     (sym c.if-not-is_there.ensures.there) (sym c.if-is_open.ensures.«open»)) a.body.now.bytes c.arrive.new.body.bytes
-    (subst (λ from. IsAppended (arrive here.list.now.rules here.now target a.tab url a.method
+    (subst (λ from. IsAppended (arrive here.input.list.now.rules here.input.clock target a.tab url a.method
     (is_same_site (starter_in a.opener here.held.live.tabs) target) head (cells_of here.held)
     (with_copies from a.tab here.held.live.tabs (held_of here.held))).changes a.body.now.bytes
     c.arrive.new.body.bytes) (copied_is c) c.in_ok-site.ensures.changes)

@@ -16,15 +16,15 @@ pub returns-clause-runs : goal.returns-clause-runs
 returns-clause-runs c =
     let here = c.self.inside in
     let old : AgentState = record {
-      rules = here.list.now.rules;
-      now = here.now;
+      rules = here.input.list.now.rules;
+      now = here.input.clock;
       tabs =
           here.held.live.tabs;
       entries = here.held.storage;
       cookies = here.held.cookies;
       grants = here.held.grants;
     } in
-    let later = c.clock_after-now.ensures.value in
+    let later = c.after-now.ensures.later in
     runs_from c.self.view_is
     (subst (λ now. Runs (Tick c.args.s) old (record old { now = now }) (Ok c.ticked.result)) (sym later)
     (runs_ticked old c.self.invariant c.args.s c.ticked.result

@@ -8,6 +8,6 @@ use Rattle.web_cookies.proofs.both.BothJars.store_all.Given as goal
 
 abbrev pub invariant-loop-field : goal.invariant-loop-field
 invariant-loop-field l =
-    let done = store_texts l.list.rules l.now (plain_use l.how) l.fn.self (cookie_texts (map head_field_of (take l.field-index l.head))) in
+    let done = store_texts l.input.list.now.rules l.input.clock (plain_use l.how) l.fn.self (cookie_texts (map head_field_of (take l.field-index l.head))) in
     (done.both ≡ l.self) × (map (λ word. word.now) l.words.items ≡ done.words)
     × (map plain_change l.rows.items ≡ map plain_change l.fn.rows.items ++ done.changes)

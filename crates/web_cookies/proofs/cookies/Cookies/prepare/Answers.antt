@@ -17,8 +17,8 @@ returns-in_default-clause-partitioned c = partitioned_same c.args.self.now c.pre
 
 pub returns-clause-prepared : goal.returns-clause-prepared
 returns-clause-prepared c =
-    let rules = c.args.list.now.rules in
-    let now = c.args.now in
+    let rules = c.args.input.now.list.now.rules in
+    let now = c.args.input.now.clock in
     let how = plain_use c.args.how.now in
     let head = map head_field_of c.args.head.now in
     c.marking.ensures.prepared rules how head c.args.self.now c.in_ok-keys.ensures.keys c.in_ok-sending.ensures.sending

@@ -34,8 +34,8 @@ returns-clause-partitioned c = partitioned_same c.args.self.now c.copies.new.sel
 
 pub returns-clause-prepared : goal.returns-clause-prepared
 returns-clause-prepared c =
-    let rules = c.args.list.now.rules in
-    let now = c.args.now in
+    let rules = c.args.input.now.list.now.rules in
+    let now = c.args.input.now.clock in
     let how = plain_use c.args.how.now in
     let mid = c.copies.new.self in
     let keys : c.deref-2.result.now ≡ rc_value c.in_ok-keys.keys = search in
@@ -52,8 +52,8 @@ returns-clause-prepared c =
 
 pub returns-in-Some-clause-prepared : goal.returns-in-Some-clause-prepared
 returns-in-Some-clause-prepared c =
-    let rules = c.args.list.now.rules in
-    let now = c.args.now in
+    let rules = c.args.input.now.list.now.rules in
+    let now = c.args.input.now.clock in
     let how = plain_use c.args.how.now in
     c.setting.ensures.prepared rules now how c.args.text.now c.args.self.now c.in_ok-keys.ensures.keys
     (subst (λ o. IfSome o (λ r. IsInPlace (λ both. store_text rules now how both c.args.text.now) (found rules how c.args.self.now) r.0 r.1.now)) c.in-Some.is c.in_ok-in_place.ensures.stored)

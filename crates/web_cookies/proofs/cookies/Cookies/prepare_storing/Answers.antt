@@ -15,8 +15,8 @@ use Rattle.web_cookies.proofs.cookies.Cookies.prepare_storing.Goals as goal
 
 pub returns-clause-prepared : goal.returns-clause-prepared
 returns-clause-prepared c =
-    let rules = c.args.list.now.rules in
-    let now = c.args.now in
+    let rules = c.args.input.now.list.now.rules in
+    let now = c.args.input.now.clock in
     let how = plain_use c.args.how.now in
     let at = found rules how c.args.self.now in
     let mid = c.copies.new.self in

@@ -6,5 +6,5 @@ use Rattle.web_cookies.proofs.cookies.Cookies.read.Goals as goal
 
 pub returns : goal.returns
 returns c = record {
-  done = read_done c.args.list.now.rules c.args.now (plain_use c.args.how.now) c.args.self.now (string_bytes c.in_ok-text.field-0.text) c.in_ok-text.ensures.sending.text;
+  done = read_done c.args.input.now.list.now.rules c.args.input.now.clock (plain_use c.args.how.now) c.args.self.now (string_bytes c.in_ok-text.field-0.text) c.in_ok-text.ensures.sending.text;
 }

@@ -13,24 +13,24 @@ use Rattle.web_cookies.proofs.cookies.Cookies.texts_in_place.Goals as goal
 
 pub returns-then-not-has_cookies : goal.returns-then-not-has_cookies
 returns-then-not-has_cookies c =
-    let rules = c.args.list.now.rules in
+    let rules = c.args.input.now.list.now.rules in
     let how = plain_use c.args.how.now in
     let none = no_texts head_field_of c.args.head.now (sym c.has_cookies.ensures.value ∙ c.if-not-has_cookies.true) in
     record {
       stored = λ own partition at.
           let used = both_used own partition at (found rules how c.args.self.now) in (
             (
-              ap (λ texts. (store_texts rules c.args.now how used texts).both) none,
-              ap (λ texts. (store_texts rules c.args.now how used texts).words) none ∙ sym (ap (map (λ word. word.now)) c.new-then-not-has_cookies.ensures.items),
+              ap (λ texts. (store_texts rules c.args.input.now.clock how used texts).both) none,
+              ap (λ texts. (store_texts rules c.args.input.now.clock how used texts).words) none ∙ sym (ap (map (λ word. word.now)) c.new-then-not-has_cookies.ensures.items),
             ),
-            ap (map plain_change) c.new.ensures.items ∙ sym (ap (λ texts. (store_texts rules c.args.now how used texts).changes) none),
+            ap (map plain_change) c.new.ensures.items ∙ sym (ap (λ texts. (store_texts rules c.args.input.now.clock how used texts).changes) none),
           );
     }
 
 pub returns : goal.returns
 returns c =
-    let rules = c.args.list.now.rules in
-    let now = c.args.now in
+    let rules = c.args.input.now.list.now.rules in
+    let now = c.args.input.now.clock in
     let how = plain_use c.args.how.now in
     let at = found rules how c.args.self.now in
     let text = c.in-Some.text.now in

@@ -17,7 +17,7 @@ use Rattle.agent_core.specs.declared.agent.Power.TheVariants.{Up}
 use Rattle.agent_core.specs.declared.outcome.Outcome.{Outcome}
 use Rattle.agent_core.specs.declared.outcome.Outcome.TheVariants as outcome
 use Rattle.agent_core.proofs.LineLemmas.{flush_ends, flush_leaves, memory_down, same_run, up_moments, wanting}
-use Rattle.agent_core.proofs.OutcomeLemmas.{device_before, device_none}
+use Rattle.agent_core.proofs.OutcomeLemmas.{device_before, device_none, idle_roomier}
 use Rattle.agent_core.proofs.SeenLemmas.{from_parts}
 
 module _ {D : Type 0} (m : AgentState) (b : PlainBatch) (j j' : JournalView)
@@ -35,6 +35,8 @@ module _ {D : Type 0} (m : AgentState) (b : PlainBatch) (j j' : JournalView)
         (seen.standing is_up);
     rules = (refl, ap (λ (i : JournalView). i.digest) roomier.journal, refl, refl);
     device = device_none j j' v w w roomier calls outcome.NoMemory memory_down;
+    spares = λ _. idle_roomier (from_parts m now b j opened checkpoint power disk)
+        (from_parts m now b j' opened checkpoint power disk') v w refl roomier;
     tidy = λ _. tt;
   }
 
@@ -47,9 +49,9 @@ module _ {D : Type 0} (m : AgentState) (b : PlainBatch) (j j' : JournalView)
       → ((a : AgentSeen) → IsUp (from_parts m now b j' opened checkpoint power disk') w a
       → w.tells ≡ true → LeavesOnly w x (IsBeforeOrAfter m.rules j'.digest a a))
       → KeepsOptions (from_parts m now b j' opened checkpoint power disk') new
-      → OutcomeDevice calls result w x → (b.held ≡ [] → IsTidy result new)
+      → OutcomeDevice calls result w x → (result ≡ outcome.NoMemory → ⊥) → (b.held ≡ [] → IsTidy result new)
       → Flushes calls (from_parts m now b j opened checkpoint power disk) v new x result
-  flush_goes is_now new x result finish moments rules device tidy = record {
+  flush_goes is_now new x result finish moments rules device memory tidy = record {
     means = λ a seen.
         flush_ends m b j j' now opened checkpoint power disk disk' v w roomier a seen is_now new x
         (may_of new x) result (λ up. finish a up seen.clock);
@@ -63,5 +65,6 @@ module _ {D : Type 0} (m : AgentState) (b : PlainBatch) (j j' : JournalView)
       rules.3,
     );
     device = device_before j j' v w x roomier calls result device;
+    spares = λ is. absurd (memory is);
     tidy = tidy;
   }

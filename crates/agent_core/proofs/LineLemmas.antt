@@ -25,6 +25,7 @@ use Rattle.agent_memory.specs.Written.{body_of}
 use Rattle.agent_core.specs.AgentView.{AgentView, may_find, may_of}
 use Rattle.agent_core.specs.Batch.{HasNotRun, HasRun, PlainBatch}
 use Rattle.agent_core.specs.Means.{AgentMay, Fits, FlushMeans, IsBeforeOrAfter, LineMeans, Same, after_line}
+use Rattle.agent_core.specs.Calls.{IsIdle}
 use Rattle.agent_core.specs.Running.{RunsLine}
 use Rattle.agent_core.specs.Seen.{AgentSeen, IsSeen, IsUp}
 use Rattle.agent_core.specs.Standing.{Finishes, IsHeld, IsStanding}
@@ -32,7 +33,7 @@ use Rattle.agent_core.specs.declared.agent.Power.{Power}
 use Rattle.agent_core.specs.declared.agent.Power.TheVariants.{Down, Spoilt, Up}
 use Rattle.agent_core.specs.declared.outcome.Outcome.{Outcome}
 use Rattle.agent_core.specs.declared.outcome.Outcome.TheVariants as outcome
-use Rattle.agent_core.proofs.OutcomeLemmas.{device_none, down_up, flush_finished, kept_up, line_finished, line_waits, not_run, not_run_may, roomier_may, seen_down}
+use Rattle.agent_core.proofs.OutcomeLemmas.{device_none, down_up, flush_finished, idle_roomier, kept_up, line_finished, line_waits, not_run, not_run_may, roomier_may, seen_down}
 use Rattle.agent_core.proofs.RoomLemmas.{roomier_same}
 use Rattle.agent_core.proofs.SeenLemmas.{from_parts, ran_bytes, ran_holds, ran_up}
 use Rattle.agent_core.proofs.StoreLemmas.{images_stand, nothing_left}
@@ -275,9 +276,23 @@ line_stays m m' b b' j j' now later opened checkpoint power disk disk' v w line 
           (after_line m.rules a line) laws roomier.stays (seen.standing is_up);
       rules = (rules, ap (λ (i : JournalView). i.digest) roomier.journal, size, refl);
       device = device_none j j' v w w roomier 4 result other;
-      idle = λ a seen none. roomier.stays.changing;
-      waits = λ is. roomier.stays.changing;
+      idle = λ a seen none. stays;
+      waits = λ is. stays;
+      spares = λ is. stays;
+      tried = λ is. absurd (other is);
     }
+  where
+    stays : IsIdle (from_parts m now b j opened checkpoint power disk) v
+        (from_parts m' later b' j' opened checkpoint power disk') w
+    stays =
+        idle_roomier (from_parts m now b j opened checkpoint power disk)
+        (from_parts m' later b' j' opened checkpoint power disk') v w refl roomier
+
+-- a line that fills its batch is the last of it
+pub last_of_batch : (line : PlainAction) (m m' : AgentState) (b b' : PlainBatch) → HasRun line m m' b b'
+    → b'.size ≤ length b'.held → b.size ≤ length b.held + 1
+last_of_batch line m m' b b' run full =
+    omega (arith, full, run.size, ap length run.held, length-append {A = PlainReply})
 
 -- ---- a flush
 

@@ -23,7 +23,7 @@ use Rattle.agent_core.specs.AgentView.{AgentView, is_due, may_find, may_of, sinc
 use Rattle.agent_core.specs.Batch.{HasNotRun, PlainBatch}
 use Rattle.open_store.specs.Commits.{CommitDevice}
 use Rattle.open_store.specs.Standing.{IsRoomier}
-use Rattle.agent_core.specs.Calls.{OutcomeDevice, calls_by, checkpoint_calls}
+use Rattle.agent_core.specs.Calls.{IsIdle, OutcomeDevice, calls_by, checkpoint_calls}
 use Rattle.agent_core.specs.Means.{AgentMay, FlushMeans, LineMeans, after_commit, after_line}
 use Rattle.agent_core.specs.Seen.{AgentSeen, IsAtBase, IsBatch, IsSeen, IsUp, LeavesStores}
 use Rattle.agent_core.specs.Standing.{Finishes}
@@ -301,7 +301,7 @@ module _ (j j' : JournalView) (v mid w : View) (roomier : IsRoomier j j' v mid) 
 pub not_down : (given : Vec Reply Global) → outcome.Replies given ≡ outcome.Down → ⊥
 not_down given e = cc
 
-not_wanting : (given : Vec Reply Global) → outcome.Replies given ≡ outcome.NoMemory → ⊥
+pub not_wanting : (given : Vec Reply Global) → outcome.Replies given ≡ outcome.NoMemory → ⊥
 not_wanting given e = cc
 
 down_not_wanting : outcome.Down ≡ outcome.NoMemory → ⊥
@@ -329,6 +329,23 @@ device_failed most result v w failed device = record {
   spared = λ is. absurd (down_not_wanting is);
   down = λ _. failed;
   others = λ never. absurd (never refl);
+}
+
+-- ---- no call is made, and what is due stays
+
+pub idle_roomier : {D : Type 0} (x y : AgentView D) (v w : View) → y.checkpoint ≡ x.checkpoint
+    → IsRoomier x.journal y.journal v w → IsIdle x v y w
+idle_roomier x y v w same roomier = record {
+  calls = roomier.stays.changing;
+  due = ap (λ n. is_due n y.journal) same
+      ∙ ap (λ (i : JournalView). is_due x.checkpoint i) roomier.journal;
+}
+
+pub idle_then : {D : Type 0} (x y z : AgentView D) (u v w : View) → IsIdle x u y v → IsIdle y v z w
+    → IsIdle x u z w
+idle_then x y z u v w first second = record {
+  calls = second.calls ∙ first.calls;
+  due = second.due ∙ first.due;
 }
 
 -- ---- how many calls a flush makes

@@ -1,7 +1,7 @@
 -- How many changing calls of the disk a call of an agent makes, and where one of them failed.
 -- Source: none.
 -- Our own choice: the numbers of calls are those of a commit and of a checkpoint of the journal.
-use Rattle.std.specs.Prelude.{◌≡◌, ◌⊎◌, ℕ, ◌+◌, ◌≤◌, List, Result, [], ◌∷◌, IsErrOf, OnOk, false}
+use Rattle.std.specs.Prelude.{◌≡◌, ◌⊎◌, ℕ, ◌+◌, ◌≤◌, List, Result, Some, [], ◌∷◌, IsErrOf, OnOk, false}
 use Rattle.std.specs.Prelude.{if◌then◌else◌}
 use Rattle.agent_base.specs.Counts.{Rose}
 use Rattle.disk_model.specs.Disk.{View, HasFailed, IsNextCut, WasOff}
@@ -43,6 +43,12 @@ pub record OutcomeDevice (most : ℕ) (result : Outcome) (old new : View) : Type
   pub down : result ≡ Down → Rose old.faults new.faults × HasFailed old new
   pub others : (result ≡ Down → ⊥) → HasNoFault old new
 
+-- no changing call was made, and a checkpoint is due exactly where one was
+pub record IsIdle {D : Type 0} (old : AgentView D) (before : View) (new : AgentView D)
+    (after : View) : Type 0 where
+  pub calls : after.changing ≡ before.changing
+  pub due : is_due new.checkpoint new.journal ≡ is_due old.checkpoint old.journal
+
 -- whether an agent is up after a line or a flush that answered so: `Down` leaves it down, and every
 -- other answer leaves it as it was
 abbrev pub PowerAfter : Outcome → (old new : Power) → Type 0
@@ -56,6 +62,9 @@ pub record RestartDevice (result : Result ℕ OpenFault) (old new : View) : Type
   -- the disk's own restart found the power off still, or the call that failed was a cut
   pub failed : IsErrOf result fault.DeviceFault
       → WasOff old new ⊎ IsNextCut old.cuts new.cuts new.changing
+  -- and where the disk tells its cuts, it was a cut
+  pub cut : (cuts : List ℕ) → old.cuts ≡ Some cuts → IsErrOf result fault.DeviceFault
+      → IsNextCut old.cuts new.cuts new.changing
   pub others : IsErrOf result fault.DeviceFault
       ⊎ ((new.faults ≡ old.faults) × (new.failures ≡ old.failures) × (new.cuts ≡ old.cuts))
   pub on : OnOk result (new.off ≡ false)

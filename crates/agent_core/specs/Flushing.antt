@@ -3,10 +3,11 @@
 use Rattle.std.specs.Prelude.{◌≡◌, ℕ, [], true}
 use Rattle.disk_model.specs.Disk.{LeavesOnly, View}
 use Rattle.agent_core.specs.AgentView.{AgentView, may_of}
-use Rattle.agent_core.specs.Calls.{IsTidy, OutcomeDevice}
+use Rattle.agent_core.specs.Calls.{IsIdle, IsTidy, OutcomeDevice}
 use Rattle.agent_core.specs.Means.{FlushMeans, IsBeforeOrAfter}
 use Rattle.agent_core.specs.Seen.{AgentSeen, IsSeen}
 use Rattle.agent_core.specs.declared.outcome.Outcome.{Outcome}
+use Rattle.agent_core.specs.declared.outcome.Outcome.TheVariants.{NoMemory}
 
 -- the list of rules and its digest, the length of a batch, and when a checkpoint is due, stay
 abbrev pub KeepsOptions : {D : Type 0} → (old new : AgentView D) → Type 0
@@ -25,5 +26,7 @@ pub record Flushes {D : Type 0} (calls : ℕ) (old : AgentView D) (before : View
       → LeavesOnly before after (IsBeforeOrAfter old.memory.rules old.journal.digest a a)
   pub rules : KeepsOptions old new
   pub device : OutcomeDevice calls result before after
+  -- where memory is wanting no call is made, and what is due stays
+  pub spares : result ≡ NoMemory → IsIdle old before new after
   -- with nothing held no checkpoint is due afterwards
   pub tidy : old.held ≡ [] → IsTidy result new

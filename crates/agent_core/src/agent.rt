@@ -1,5 +1,5 @@
 //! The agent over a disk.
-ghost use Rattle.std.specs.Prelude.{◌≡◌, ◌⊎◌, ◌≤◌, ℕ, List, [], Some, IfOk, IfErr};
+ghost use Rattle.std.specs.Prelude.{◌≡◌, ◌⊎◌, ◌+◌, ◌≤◌, ℕ, List, [], Some, IfOk, IfErr};
 ghost use Rattle.std.specs.Prelude.{MatchResult, length, true};
 ghost use Rattle.unwinding.specs.Course.{AtBase};
 ghost use Rattle.unwinding.specs.CourseSteps.{reopened};
@@ -21,7 +21,7 @@ ghost use Rattle.agent_core.specs.AgentView.{is_down, longest_batch, may_of, owe
 ghost use Rattle.open_store.specs.Commits.{HasRoomFor};
 ghost use Rattle.open_store.specs.Reopens.{LeavesAnew};
 ghost use Rattle.agent_core.specs.Flushing.{Flushes, KeepsOptions};
-ghost use Rattle.agent_core.specs.Calls.{IsTidy, OutcomeDevice, PowerAfter, RestartDevice};
+ghost use Rattle.agent_core.specs.Calls.{IsIdle, IsTidy, OutcomeDevice, PowerAfter, RestartDevice};
 ghost use Rattle.agent_core.specs.Calls.{flush_calls};
 ghost use Rattle.agent_core.specs.Means.{Fits, FlushMeans, IsBeforeOrAfter, IsOneFound, LineMeans};
 ghost use Rattle.agent_core.specs.Means.{RestartMeans, after_line};
@@ -243,8 +243,8 @@ impl<'l, D: Disk + Drop> Agent<'l, D> {
     /// Runs one line. The last line of a batch commits the batch.
     ///
     /// All memory of a line is taken before anything changes. At most four changing calls of the
-    /// disk are made, and none where no line of the batch has a durable change, or memory is
-    /// wanting.
+    /// disk are made, and none where the line ends no batch, no line of the batch has a durable
+    /// change, or memory is wanting.
     pub fn line(&mut self, action: &Action) -> Outcome
         ensures means { (a : AgentSeen) → IsSeen self.old (D.view self.old.disk) a → Fits a
             → (b : AgentSeen) × IsSeen self.new (D.view self.new.disk) b
@@ -260,12 +260,18 @@ impl<'l, D: Disk + Drop> Agent<'l, D> {
         ensures device { self.old.power ≡ Power.Up
             → OutcomeDevice 4 result (D.view self.old.disk) (D.view self.new.disk) }
 
-        // No call is made where no line of the batch has a durable change, or where it waits.
+        // No call is made, and a checkpoint is due exactly where one was, where no line of the
+        // batch has a durable change, where the line waits, and where memory is wanting.
         ensures idle { (a : AgentSeen) → IsSeen self.old (D.view self.old.disk) a
             → (after_line self.old.memory.rules a (action_of action.now)).pending ≡ []
-            → (D.view self.new.disk).changing ≡ (D.view self.old.disk).changing }
+            → IsIdle self.old (D.view self.old.disk) self.new (D.view self.new.disk) }
         ensures waits { result ≡ Outcome.Held
-            → (D.view self.new.disk).changing ≡ (D.view self.old.disk).changing }
+            → IsIdle self.old (D.view self.old.disk) self.new (D.view self.new.disk) }
+        ensures spares { result ≡ Outcome.NoMemory
+            → IsIdle self.old (D.view self.old.disk) self.new (D.view self.new.disk) }
+        // Only the last line of a batch can meet a device fault.
+        ensures tried { self.old.power ≡ Power.Up → result ≡ Outcome.Down
+            → self.old.batch ≤ length self.old.held + 1 }
 
         // A call of the disk that failed leaves the agent down, and nothing else changes whether it
         // is up.
@@ -301,10 +307,13 @@ impl<'l, D: Disk + Drop> Agent<'l, D> {
         ensures device { self.old.power ≡ Power.Up
             → OutcomeDevice (flush_calls self.old) result
             (D.view self.old.disk) (D.view self.new.disk) }
-        // No call is made where lines are held, none of which has a durable change.
+        // No call is made, and a checkpoint is due exactly where one was, where lines are held,
+        // none of which has a durable change, and where memory is wanting.
         ensures idle { (a : AgentSeen) → IsSeen self.old (D.view self.old.disk) a
             → a.pending ≡ [] → (self.old.held ≡ [] → ⊥)
-            → (D.view self.new.disk).changing ≡ (D.view self.old.disk).changing }
+            → IsIdle self.old (D.view self.old.disk) self.new (D.view self.new.disk) }
+        ensures spares { result ≡ Outcome.NoMemory
+            → IsIdle self.old (D.view self.old.disk) self.new (D.view self.new.disk) }
         // With nothing held no checkpoint is due afterwards.
         ensures tidy { self.old.held ≡ [] → IsTidy result self.new }
         // A call of the disk that failed leaves the agent down, and nothing else changes whether it
@@ -410,7 +419,7 @@ impl<'l, D: Disk + Drop> Agent<'l, D> {
         ensures power { PowerAfter result self.old.power self.new.power }
         ensures idle { (a : AgentSeen) → IsSeen self.old (D.view self.old.disk) a
             → a.pending ≡ [] → (self.old.held ≡ [] → ⊥)
-            → (D.view self.new.disk).changing ≡ (D.view self.old.disk).changing }
+            → IsIdle self.old (D.view self.old.disk) self.new (D.view self.new.disk) }
     {
         if self.batch.is_empty() {
             return self.tend();
@@ -436,9 +445,10 @@ impl<'l, D: Disk + Drop> Agent<'l, D> {
         ensures rules { KeepsOptions self.old self.new }
         ensures device { OutcomeDevice 4 result (D.view self.old.disk) (D.view self.new.disk) }
         ensures idle { self.old.body ≡ []
-            → (D.view self.new.disk).changing ≡ (D.view self.old.disk).changing }
+            → IsIdle self.old (D.view self.old.disk) self.new (D.view self.new.disk) }
         ensures power { PowerAfter result self.old.power self.new.power }
         ensures ends { result ≡ Outcome.Held → ⊥ }
+        ensures has_memory { result ≡ Outcome.NoMemory → ⊥ }
     {
         lines_keep_durable_states();
         bodies_mean_states();

@@ -106,6 +106,7 @@ impl<'l, D: Disk + Drop> Agent<'l, D> {
         ensures rules { KeepsOptions self.old self.new }
         ensures device { OutcomeDevice 7 result (D.view self.old.disk) (D.view self.new.disk) }
         ensures power { PowerAfter result self.old.power self.new.power }
+        ensures has_memory { result ≡ Outcome.NoMemory → ⊥ }
         ensures tidy { IsTidy result self.new }
     {
         bodies_mean_states();

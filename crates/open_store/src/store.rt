@@ -1,5 +1,5 @@
 //! The store.
-ghost use Rattle.std.specs.Prelude.{◌≡◌, ◌+◌, ◌%◌, ◌^◌, true, ℕ, List, [], length, OnOk};
+ghost use Rattle.std.specs.Prelude.{◌≡◌, ◌+◌, ◌%◌, ◌^◌, true, ℕ, List, [], length, IsOk, OnOk};
 ghost use Rattle.disk_model.specs.Disk.{LeavesOnly};
 ghost use Rattle.journal.specs.Journal.{HasRoom, since_of};
 ghost use Rattle.open_store.specs.Commits.{BodyLeads, CommitDevice, HasRoomFor, IsEither};
@@ -55,8 +55,8 @@ impl<D: Disk + Drop> Store<D> {
         // the ones of the body.
         ensures base { self.new.journal.base ≡ self.old.journal.base }
         ensures device { CommitDevice 4 result (D.view self.old.disk) (D.view self.new.disk) }
-        ensures idle { body.now ≡ []
-            → (D.view self.new.disk).changing ≡ (D.view self.old.disk).changing }
+        // An empty body is committed by no call at all.
+        ensures idle { body.now ≡ [] → IsOk result × (self.new ≡ self.old) }
     {
         if body.is_empty() {
             return Ok(());

@@ -1,5 +1,7 @@
 -- A commit leads to the state that the open batch leads to, or fails and leaves one or the other.
-use Rattle.std.proofs.Common.{arith, refl, ◌∙◌}
+use Rattle.std.proofs.Common.{ap, arith, refl, ◌∙◌}
+use Rattle.std.proofs.lemmas.Bool.{false≢true}
+use Rattle.agent_core.specs.AgentView.{is_due}
 use Rattle.agent_core.proofs.FinishLemmas.{commits_same, finish_failed, finish_gave, finish_moments, leaves_same}
 use Rattle.agent_core.proofs.LineLemmas.{after_commit_standing, after_fault_standing, power_is, room_is}
 use Rattle.agent_core.proofs.OutcomeLemmas.{device_failed, device_gave}
@@ -91,8 +93,12 @@ returns-in-Ok-clause-device g c = rw (← c.self.view_is)
 
 pub returns-in-Err-clause-idle : goal.returns-in-Err-clause-idle
 returns-in-Err-clause-idle g c = rw (← c.self.view_is) (λ empty.
-    c.in-Err.ensures.idle (c.bytes.ensures.bytes ∙ empty))
+    absurd (false≢true (c.in-Err.ensures.idle (c.bytes.ensures.bytes ∙ empty)).0))
 
 pub returns-in-Ok-clause-idle : goal.returns-in-Ok-clause-idle
 returns-in-Ok-clause-idle g c = rw (← c.self.view_is) (λ empty.
-    c.in-Ok.ensures.idle (c.bytes.ensures.bytes ∙ empty))
+    let same = (c.in-Ok.ensures.idle (c.bytes.ensures.bytes ∙ empty)).1 in
+    record {
+      calls = ap (λ store. (g.D.Disk.view store.disk).changing) same;
+      due = ap (λ store. is_due c.self.inside.checkpoint store.journal) same;
+    })

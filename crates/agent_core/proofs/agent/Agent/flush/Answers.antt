@@ -44,3 +44,6 @@ returns-in-Up-clause-device g c = λ up. c.settle.ensures.flushes.device
 
 pub returns-in-Up-clause-tidy : goal.returns-in-Up-clause-tidy
 returns-in-Up-clause-tidy g c = c.settle.ensures.flushes.tidy
+
+pub returns-in-Up-clause-spares : goal.returns-in-Up-clause-spares
+returns-in-Up-clause-spares g c = c.settle.ensures.flushes.spares

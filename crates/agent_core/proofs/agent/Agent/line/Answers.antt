@@ -47,3 +47,17 @@ returns-in-Up-clause-idle g c = c.run.ensures.runs.idle
 
 pub returns-in-Up-clause-waits : goal.returns-in-Up-clause-waits
 returns-in-Up-clause-waits g c = c.run.ensures.runs.waits
+
+pub returns-in-Up-clause-spares : goal.returns-in-Up-clause-spares
+returns-in-Up-clause-spares g c = c.run.ensures.runs.spares
+
+pub returns-in-Up-clause-tried : goal.returns-in-Up-clause-tried
+returns-in-Up-clause-tried g c = λ up. c.run.ensures.runs.tried
+
+pub returns-in-Down-clause-tried : goal.returns-in-Down-clause-tried
+returns-in-Down-clause-tried g c = rw (← c.self.view_is) (λ up.
+    absurd (not_power _ (inl c.in-Down.is) up))
+
+pub returns-in-Spoilt-clause-tried : goal.returns-in-Spoilt-clause-tried
+returns-in-Spoilt-clause-tried g c = rw (← c.self.view_is) (λ up.
+    absurd (not_power _ (inr c.in-Spoilt.is) up))

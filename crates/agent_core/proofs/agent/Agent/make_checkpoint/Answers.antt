@@ -16,6 +16,7 @@ returns-in-Err g c =
             (seen.standing is_up);
         rules = (refl, refl, refl, refl);
         device = device_none _ _ v v v (roomier_same c.args.self.now.journal v) _ _ memory_down;
+        spares = λ _. record { calls = refl; due = refl };
         tidy = λ _. tt;
       };
       power = refl;

@@ -23,6 +23,6 @@ returns-in-Ok g c =
           (g.met.D.Disk.lawful c.self.inside.store.disk) c.in-Ok.ensures.roomier 7
           (power_is _ _ c.self.view_is c.requires.up) c.put_snapshot.new.self
           (g.D.Disk.view c.put_snapshot.new.self.disk) c.put_snapshot.result put.finishes
-          put.any_moment put.rules put.device (λ _. put.tidy);
+          put.any_moment put.rules put.device put.has_memory (λ _. put.tidy);
       power = put.power;
     })

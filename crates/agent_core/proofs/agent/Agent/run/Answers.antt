@@ -2,9 +2,10 @@
 use Rattle.std.proofs.Common.{ap, refl, ◌∙◌}
 use Rattle.journal.specs.Journal.{JournalView}
 use Rattle.script_actions.specs.Plain.{action_of}
-use Rattle.agent_core.proofs.LineLemmas.{held_down, line_ends, line_held, line_leaves, line_stays, memory_down, no_body_ran, not_full, power_is, still_standing, wanting}
-use Rattle.agent_core.proofs.OutcomeLemmas.{device_before}
+use Rattle.agent_core.proofs.LineLemmas.{held_down, line_ends, line_held, line_leaves, last_of_batch, line_stays, memory_down, no_body_ran, not_full, power_is, still_standing, wanting}
+use Rattle.agent_core.proofs.OutcomeLemmas.{device_before, idle_roomier, idle_then}
 use Rattle.agent_core.proofs.ReadLemmas.{action_read}
+use Rattle.agent_core.proofs.SeenLemmas.{from_parts}
 use Rattle.agent_core.proofs.agent.Agent.run.Goals as goal
 
 pub invariant_of-self : goal.invariant_of-self
@@ -76,14 +77,23 @@ returns-then-is_full g c =
             device_before _ _ _ (g.D.Disk.view c.run_line.new.store.disk) _ c.in-Ok.ensures.roomier 4
             c.finish.result done.device;
         idle = λ a seen none.
-            done.idle
+            idle_then _ _ _ _ _ _ (idle_roomier
+            (from_parts c.self.inside.memory c.self.inside.now c.self.inside.batch
+            c.self.inside.store.journal c.self.inside.opened c.self.inside.checkpoint
+            c.self.inside.power c.self.inside.store.disk)
+            (from_parts c.run_line.new.memory c.self.inside.now c.run_line.new.batch
+            c.run_line.new.store.journal c.self.inside.opened c.self.inside.checkpoint
+            c.self.inside.power c.run_line.new.store.disk) _ _ refl c.in-Ok.ensures.roomier)
+            (done.idle
             (no_body_ran c.self.inside.memory c.run_line.new.memory c.self.inside.batch
             c.run_line.new.batch c.self.inside.store.journal c.self.inside.now c.self.inside.opened
             c.self.inside.checkpoint c.self.inside.power c.self.inside.store.disk
             (g.D.Disk.view c.self.inside.store.disk) (action_of c.args.action.now) a
-            c.in-Ok.ensures.ran (power_is _ _ c.self.view_is c.requires.up) seen none)
-            ∙ c.in-Ok.ensures.roomier.stays.changing;
+            c.in-Ok.ensures.ran (power_is _ _ c.self.view_is c.requires.up) seen none));
         waits = λ is. absurd (done.ends is);
+        spares = λ is. absurd (done.has_memory is);
+        tried = λ is. last_of_batch (action_of c.args.action.now) _ _ c.self.inside.batch c.run_line.new.batch
+            c.in-Ok.ensures.ran (c.is_full.ensures.0 c.if-is_full.true);
       };
       power = done.power;
     })

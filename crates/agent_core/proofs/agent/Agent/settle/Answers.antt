@@ -1,12 +1,13 @@
 -- Room is made for the body of the open batch, and then it is committed. With nothing held a
 -- checkpoint is made.
-use Rattle.std.proofs.Common.{ap, arith, length, refl, ◌∙◌}
+use Rattle.std.proofs.Common.{ap, arith, length, refl}
 use Rattle.agent_core.proofs.CheckpointLemmas.{held_is}
 use Rattle.agent_core.proofs.CommitLemmas.{held_of}
 use Rattle.agent_core.proofs.FlushLemmas.{flush_goes, flush_wants}
 use Rattle.agent_core.proofs.LineLemmas.{no_body, power_is, some_held, still_standing}
-use Rattle.agent_core.proofs.OutcomeLemmas.{calls_held, calls_none}
+use Rattle.agent_core.proofs.OutcomeLemmas.{calls_held, calls_none, idle_roomier, idle_then}
 use Rattle.agent_core.proofs.RoomLemmas.{room_less}
+use Rattle.agent_core.proofs.SeenLemmas.{from_parts}
 use Rattle.agent_core.proofs.agent.Agent.settle.Goals as goal
 
 pub invariant_of-self : goal.invariant_of-self
@@ -47,17 +48,22 @@ returns-in-Ok-clause-flushes g c =
     (λ a up. done.any_moment a (held_of _ _ a up)) done.rules
     (calls_held c.self.inside.batch.held _ c.finish.result _
     (g.D.Disk.view c.finish.new.self.disk) some done.device)
-    (λ none. absurd (some none)))
+    done.has_memory (λ none. absurd (some none)))
 
 pub returns-in-Err-clause-idle : goal.returns-in-Err-clause-idle
 returns-in-Err-clause-idle g c = rw (← c.self.view_is) (λ a seen none some.
-    c.in-Err.ensures.roomier.stays.changing)
+    idle_roomier _ _ _ _ refl c.in-Err.ensures.roomier)
 
 pub returns-in-Ok-clause-idle : goal.returns-in-Ok-clause-idle
 returns-in-Ok-clause-idle g c = rw (← c.self.view_is) (λ a seen none some.
-    c.finish.ensures.idle
-    (no_body _ _ a (power_is _ _ c.self.view_is c.requires.up) seen none)
-    ∙ c.in-Ok.ensures.roomier.stays.changing)
+    idle_then _ _ _ _ _ _
+    (idle_roomier
+    (from_parts c.self.inside.memory c.self.inside.now c.self.inside.batch c.self.inside.store.journal
+    c.self.inside.opened c.self.inside.checkpoint c.self.inside.power c.self.inside.store.disk)
+    (from_parts c.self.inside.memory c.self.inside.now c.self.inside.batch c.reserve.new.self.journal
+    c.self.inside.opened c.self.inside.checkpoint c.self.inside.power c.reserve.new.self.disk) _ _
+    refl c.in-Ok.ensures.roomier)
+    (c.finish.ensures.idle (no_body _ _ a (power_is _ _ c.self.view_is c.requires.up) seen none)))
 
 pub tend-requires-clause-none : goal.tend-requires-clause-none
 tend-requires-clause-none g c = rw (← c.self.view_is) (record {
@@ -77,6 +83,7 @@ returns-then-is_empty-clause-flushes g c =
           (g.D.Disk.view c.tend.new.self.disk)
           (held_is _ _ c.self.view_is (c.is_empty.ensures.empty.0 c.if-is_empty.true))
           tended.device;
+      spares = tended.spares;
       tidy = tended.tidy;
     }
 

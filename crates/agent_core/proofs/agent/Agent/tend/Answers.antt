@@ -2,7 +2,7 @@
 use Rattle.std.proofs.Common.{refl, sym, ◌∙◌}
 use Rattle.agent_core.proofs.CheckpointLemmas.{none_is, nothing_flushed}
 use Rattle.agent_core.proofs.LineLemmas.{power_is, up_moments}
-use Rattle.agent_core.proofs.OutcomeLemmas.{calls_due, device_none, not_down}
+use Rattle.agent_core.proofs.OutcomeLemmas.{calls_due, device_none, not_down, not_wanting}
 use Rattle.agent_core.proofs.RoomLemmas.{roomier_same, stays_same}
 use Rattle.agent_core.proofs.agent.Agent.tend.Goals as goal
 
@@ -17,6 +17,7 @@ returns-then-is_due g c =
         device =
             calls_due c.args.self.now _ _ (g.D.Disk.view c.make_checkpoint.new.self.disk)
             (sym c.is_due.ensures ∙ c.if-is_due.true) made.device;
+        spares = made.spares;
         tidy = made.tidy;
       };
       power = c.make_checkpoint.ensures.power;
@@ -42,6 +43,7 @@ returns g c = record {
         let v = g.D.Disk.view c.args.self.now.disk in
         device_none _ _ v v v (roomier_same c.args.self.now.journal v) _ _
         (not_down c.new.result);
+    spares = λ is. absurd (not_wanting c.new.result is);
     tidy = λ _. sym c.is_due.ensures ∙ c.if-is_due.false;
   };
   power = refl;

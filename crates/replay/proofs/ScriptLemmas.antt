@@ -12,8 +12,8 @@ use Rattle.durable_model.specs.Histories.{AgentOpening, opened_at}
 use Rattle.hosts.specs.Hosts.{HasLeft, SameImages, raised}
 use Rattle.disk_model.specs.Disk.{IsSettled, View}
 use Rattle.durable_model.specs.Saved.{Saved}
-use Rattle.store_runs.specs.Disks.{WritesInMemory, WritesOn}
-use Rattle.store_runs.specs.Faults.{LeavesDisk, RoseBy, faults_of}
+use Rattle.store_runs.specs.Disks.{LeavesDisk, WritesInMemory, WritesOn}
+use Rattle.store_runs.specs.Faults.{RoseBy, faults_of}
 use Rattle.store_runs.specs.Runs.{HasNoCuts, WritesLines}
 use Rattle.store_runs.specs.Steps.{steps_of}
 use Rattle.store_runs.specs.declared.ending.Ending.{Ending}
@@ -71,10 +71,10 @@ store_writes e list start batch checkpoint file old new steps taken counts after
     inr (
       ran.0,
       record { valid = ran.1; meant = ran.2 file held },
-      writes_other list.rules batch checkpoint x ⊥ (HasNoCuts old) (LeavesDisk e list batch x old new) (LeavesStore e list batch x counts after) (λ never. absurd never)
+      writes_other list.rules batch checkpoint x ⊥ (HasNoCuts old) (LeavesDisk e list batch x ran.4 old new) (LeavesStore e list batch x counts after) (λ never. absurd never)
           (λ history left. (
             (λ image is. left.0 image (same.no_more image is)),
             count_rises (faults_of e history) new.faults counts.before counts.after (subst (λ n. RoseBy (faults_of e history) n new.faults) fresh left.1) count,
-          )) taken.before taken.after e steps ran.4,
+          )) taken.before taken.after e steps ran.6,
     ))
     wrote

@@ -6,6 +6,7 @@ use Rattle.unwinding.specs.Admissible.{Acts}
 use Rattle.disk_model.specs.Disk.{View}
 use Rattle.disk_model.specs.MemDisk.{MemView, numbers_of, view_of}
 use Rattle.disk_model.specs.declared.schedule.Cut.{Cut}
+use Rattle.disk_model.proofs.MemView.{settled_anew}
 use Rattle.journal.specs.declared.open_fault.OpenFault.{OpenFault}
 use Rattle.journal.specs.declared.open_fault.OpenFault.TheVariants as fault
 use Rattle.suffix_list.specs.ListText.{RuleList}
@@ -15,9 +16,8 @@ use Rattle.durable_model.specs.Histories.{opened_at}
 use Rattle.durable_model.specs.Saved.{nothing_saved}
 use Rattle.printed_model.specs.Histories.{HasOneText, IsHistoryOf, begins_at, history_text}
 use Rattle.generated_day.specs.Day.{day_lines}
-use Rattle.store_runs.specs.Disks.{WritesInMemory, WritesOn}
+use Rattle.store_runs.specs.Disks.{LeavesDisk, WritesInMemory, WritesOn}
 use Rattle.store_runs.specs.Endings.{ending_of}
-use Rattle.store_runs.specs.Faults.{LeavesDisk}
 use Rattle.store_runs.specs.Runs.{HasNoCuts, LeavesHistory, WritesLines}
 use Rattle.store_runs.specs.Tidy.{LeavesTidy}
 use Rattle.store_runs.specs.declared.ending.Ending.{Ending}
@@ -45,13 +45,13 @@ module _ (list : RuleList) (old new : View) (steps : List PlainStep) (before aft
   done_anew : WritesOn Done list day_start day_batch day_checkpoint old steps before after new
       → RanAnew Done list steps before after new.may_leave
   done_anew (inl (why, is, refused)) = absurd (never_done why is)
-  done_anew (inr (base, valid, means, opens, written)) =
+  done_anew (inr (base, valid, means, opens, calls, begins, written)) =
       let nothing : base ≡ nothing_saved = (means [] empty).alone nothing_saved 0 (inr (inl (omega arith), refl, refl)) in
       let x = opened_at day_start base in
       subst (λ d. WritesLines Done list.rules day_batch day_checkpoint (opened_at day_start d) (Unit {0})
       steps before after (LeavesHistory list day_batch (opened_at day_start d) new.may_leave)) nothing
       (writes_other list.rules day_batch day_checkpoint x (Unit {0}) (HasNoCuts old)
-      (LeavesDisk Done list day_batch x old new) (LeavesHistory list day_batch x new.may_leave)
+      (LeavesDisk Done list day_batch x calls old new) (LeavesHistory list day_batch x new.may_leave)
       (λ any. (on, told)) (λ history left. left.0) before after Done steps written)
 
   ran_anew : (ending : Ending) → WritesOn ending list day_start day_batch day_checkpoint old steps before
@@ -79,6 +79,7 @@ disk_anew bytes fails cuts disk new list ending steps before after no_bytes no_c
     let none : (view_of disk).cuts ≡ Some [] = told no_fails ∙ ap (λ cs. Some (numbers_of cs)) no_cuts in
     ran_anew list (view_of disk) (view_of new) steps before after empty on none ending (written refl)
     (memory_writes [] (view_of disk) empty on none (ap (λ plan. plan.calls) plan)
+    (λ file left. settled_anew disk.past file contents.1 left)
     ending list day_start day_batch day_checkpoint (view_of new) steps before after (written refl))
 
 -- ---- under the list that has no rules

@@ -1,25 +1,25 @@
 -- What each answer of an agent makes of the text that waits and of every course.
-use Rattle.std.proofs.Common.{◌≡◌, ◌≢◌, ◌⊎◌, inl, inr, ⊎_elim, ℕ, true, false, List, [], ◌∷◌, ◌++◌, Some, map, length, refl, sym, ap, subst, ◌∙◌, append-nil, Vec, Global}
+use Rattle.std.proofs.Common.{◌≡◌, ◌≢◌, ◌⊎◌, inl, inr, ⊎_elim, ℕ, zero, suc, ◌+◌, ◌<◌, ◌≤◌, Bool, true, false, List, [], ◌∷◌, ◌++◌, Some, map, length, refl, sym, ap, subst, ◌∙◌, append-nil, arith, Vec, Global}
 use Rattle.std.proofs.lemmas.Bool.{and_parts, and_right, cases_Bool, eqb-true, false≢true, true≢false}
 use Rattle.std.proofs.lemmas.List.{nil_from_length}
-use Rattle.std.specs.Prelude.{Result, Ok, Err, IfErr, IsErrAnd, ◌==◌, ◌&&◌}
+use Rattle.std.specs.Prelude.{Result, Ok, Err, IfErr, IsErrAnd, ◌==◌, ◌&&◌, if◌then◌else◌}
 use Rattle.unwinding.specs.Admissible.{Acts, Reopens}
 use Rattle.unwinding.specs.CourseSteps.{holding, reopened}
-use Rattle.disk_model.specs.Disk.{HasFailed, IsNextCut, View, WasOff}
+use Rattle.disk_model.specs.Disk.{HasFailed, IsNextCut, Makes, View, WasOff}
 use Rattle.journal.specs.Opening.{HasNoFault}
 use Rattle.journal.specs.declared.open_fault.OpenFault.{OpenFault}
 use Rattle.journal.specs.declared.open_fault.OpenFault.TheVariants as fault
 use Rattle.suffix_list.specs.Suffix.{Rule}
 use Rattle.script_actions.specs.Action.{PlainAction, PlainStep}
 use Rattle.reply_lines.specs.Plain.{reply_of}
-use Rattle.reply_lines.specs.Reply.{reply_text}
+use Rattle.reply_lines.specs.Reply.{PlainReply, reply_text}
 use Rattle.reply_lines.specs.declared.reply.Reply.{Reply}
 use Rattle.agent_model.specs.Isolation.{printed, text_of}
 use Rattle.agent_model.specs.TheMachine.{machine}
 use Rattle.durable_model.specs.Histories.{AgentReply}
 use Rattle.durable_model.specs.Keeping.{AgentDurable, keeping}
 use Rattle.agent_core.specs.AgentView.{AgentView, is_due, is_up, may_of, owes}
-use Rattle.agent_core.specs.Calls.{OutcomeDevice, RestartDevice}
+use Rattle.agent_core.specs.Calls.{IsIdle, IsTidy, OutcomeDevice, RestartDevice, calls_by, checkpoint_calls, flush_calls}
 use Rattle.agent_core.specs.Means.{AgentMay, Fits, FlushMeans, LineMeans, RestartMeans, after_commit, after_line}
 use Rattle.agent_core.specs.Seen.{AgentSeen, IsSeen}
 use Rattle.agent_core.specs.declared.agent.Power.{Power}
@@ -27,7 +27,8 @@ use Rattle.agent_core.specs.declared.agent.Power.TheVariants.{Up, Down as PowerD
 use Rattle.agent_core.specs.declared.outcome.Outcome.{Outcome}
 use Rattle.agent_core.specs.declared.outcome.Outcome.TheVariants.{Replies, Held, Down, NoMemory}
 use Rattle.store_runs.specs.Courses.{Steps}
-use Rattle.store_runs.specs.Calls.{Called, IsQuiet, StaysOrRose, Stepped, Stops, over_call}
+use Rattle.store_runs.specs.CutCourses.{moment_of}
+use Rattle.store_runs.specs.Calls.{BreaksOff, Called, FailsAgain, IsQuiet, OpensAgain, Pays, StaysOrRose, Stepped, Stops, over_call, spent}
 use Rattle.store_runs.specs.Closing.{Ends}
 use Rattle.printed_model.specs.Histories.{down_reply, restart_reply}
 use Rattle.store_runs.specs.Waiting.{replies_text}
@@ -153,6 +154,122 @@ device_counts NoMemory old new device = inl (device.others (not_down NoMemory (�
 restart_counts : (result : Result ℕ OpenFault) (old new : View) → RestartDevice result old new → StaysOrRose old.faults new.faults
 restart_counts result old new device = ⊎_elim (λ is. inr (device.counted is)) (λ none. inl none.0) device.others
 
+-- ---- calls that were made, and are due
+
+next_cut : (old new : View) → old.off ≡ false → HasFailed old new → IsNextCut old.cuts new.cuts new.changing
+next_cut old new on (inl was) = absurd (true≢false (sym was.before ∙ on))
+next_cut old new on (inr failed) = failed.cut
+
+pub due_few : {D : Type 0} (v : AgentView D) → checkpoint_calls v ≤ 7
+due_few v = by (is_due v.checkpoint v.journal)
+  where
+    by : (due : Bool) → (if due then 7 else 0) ≤ 7
+    by true = omega arith
+    by false = omega arith
+
+due_none : {D : Type 0} (v : AgentView D) → is_due v.checkpoint v.journal ≡ false → checkpoint_calls v ≡ 0
+due_none v none = ap (λ due. if due then 7 else 0) none
+
+none_or_some : (n : ℕ) → (n ≡ 0) ⊎ (0 < n)
+none_or_some zero = inl refl
+none_or_some (suc n) = inr (omega arith)
+
+module _ {D : Type 0} (tell : D → View) (old new : AgentView D) where
+  idle_due : IsIdle old (tell old.disk) new (tell new.disk) → checkpoint_calls new ≡ checkpoint_calls old
+  idle_due idle = ap (λ due. if due then 7 else 0) idle.due
+
+  -- nothing was called
+  still_moment : new ≡ old → moment_of tell new ≡ moment_of tell old
+  still_moment same = ap (moment_of tell) same
+
+  module _ {most : ℕ} (outcome : Outcome) (device : OutcomeDevice most outcome (tell old.disk) (tell new.disk))
+      (changes : ℕ) where
+    -- no call failed, and the calls follow from these changes
+    pays : (outcome ≡ Down → ⊥) → checkpoint_calls new + (tell new.disk).changing
+        ≤ (tell old.disk).changing + checkpoint_calls old + spent changes → Pays changes (moment_of tell old) (moment_of tell new)
+    pays none few =
+        let fine = device.others none in
+        record { cuts = fine.cuts; off = fine.off; later = device.later; most = omega (arith, few) }
+
+    -- a commit's
+    pays_commit : most ≤ 4 → (outcome ≡ Down → ⊥) → (changes ≡ 0 → IsIdle old (tell old.disk) new (tell new.disk))
+        → Pays changes (moment_of tell old) (moment_of tell new)
+    pays_commit four none idle = pays none (⊎_elim
+        (λ nothing. omega (arith, (idle nothing).calls, idle_due (idle nothing)))
+        (λ some. omega (arith, four, device.calls, due_few new, some))
+        (none_or_some changes))
+
+    -- a call was cut
+    breaks : outcome ≡ Down → (tell new.disk).changing ≤ (tell old.disk).changing + checkpoint_calls old + spent changes
+        → BreaksOff changes (moment_of tell old) (moment_of tell new)
+    breaks is few = record {
+      cut = λ on. next_cut (tell old.disk) (tell new.disk) on (device.down is).1;
+      later = device.later;
+      most = omega (arith, few);
+    }
+
+    breaks_commit : most ≤ 4 → outcome ≡ Down → (changes ≡ 0 → IsIdle old (tell old.disk) new (tell new.disk))
+        → BreaksOff changes (moment_of tell old) (moment_of tell new)
+    breaks_commit four is idle = breaks is (⊎_elim
+        (λ nothing. omega (arith, (idle nothing).calls))
+        (λ some. omega (arith, four, device.calls, some))
+        (none_or_some changes))
+
+  -- the calls of a flush: with nothing held a checkpoint's, and else a commit's
+  module _ (outcome : Outcome) (device : OutcomeDevice (flush_calls old) outcome (tell old.disk) (tell new.disk))
+      (changes : ℕ) (idle : changes ≡ 0 → (old.held ≡ [] → ⊥) → IsIdle old (tell old.disk) new (tell new.disk)) where
+    checkpoint_few : old.held ≡ [] → (tell new.disk).changing ≤ (tell old.disk).changing + checkpoint_calls old
+    checkpoint_few none = omega (arith, device.calls, ap (λ held. calls_by held (checkpoint_calls old)) none)
+
+    commit_few : (one : PlainReply) (held : List PlainReply) → old.held ≡ one ∷ held → flush_calls old ≤ 4
+    commit_few one held some = omega (arith, ap (λ h. calls_by h (checkpoint_calls old)) some)
+
+    not_none : (one : PlainReply) (held : List PlainReply) → old.held ≡ one ∷ held → old.held ≡ [] → ⊥
+    not_none one held some none = cons_nil (sym some ∙ none)
+      where
+        cons_nil : ◌≡◌ {A = List PlainReply} (one ∷ held) [] → ⊥
+        cons_nil e = cc
+
+    pays_flush : (given : Vec Reply Global) → outcome ≡ Replies given → (old.held ≡ [] → IsTidy outcome new)
+        → Pays changes (moment_of tell old) (moment_of tell new)
+    pays_flush given is tidy = by old.held refl
+      where
+        down : outcome ≡ Down → ⊥
+        down wrong = replies_down given (sym is ∙ wrong)
+
+        by : (held : List PlainReply) → old.held ≡ held → Pays changes (moment_of tell old) (moment_of tell new)
+        by [] none =
+            let nothing_due : is_due new.checkpoint new.journal ≡ false = subst (λ o. IsTidy o new) is (tidy none) in
+            pays outcome device changes down (omega (arith, checkpoint_few none, due_none new nothing_due))
+        by (one ∷ held) some =
+            pays_commit outcome device changes (commit_few one held some) down (λ nothing. idle nothing (not_none one held some))
+
+    breaks_flush : outcome ≡ Down → BreaksOff changes (moment_of tell old) (moment_of tell new)
+    breaks_flush is = by old.held refl
+      where
+        by : (held : List PlainReply) → old.held ≡ held → BreaksOff changes (moment_of tell old) (moment_of tell new)
+        by [] none = breaks outcome device changes is (omega (arith, checkpoint_few none))
+        by (one ∷ held) some =
+            breaks_commit outcome device changes (commit_few one held some) is (λ nothing. idle nothing (not_none one held some))
+
+  -- those of a restart
+  opens_again : (kept : ℕ) → RestartDevice (Ok kept) (tell old.disk) (tell new.disk)
+      → Makes {E = OpenFault} 1 (Ok kept) (tell old.disk) (tell new.disk) → OpensAgain (moment_of tell old) (moment_of tell new)
+  opens_again kept device makes = record {
+    cuts = restart_cuts kept (tell old.disk) (tell new.disk) device;
+    off = device.on;
+    later = makes.later;
+    most = omega (arith, makes.most, due_few new);
+  }
+
+  fails_again : RestartDevice (Err fault.DeviceFault) (tell old.disk) (tell new.disk)
+      → Makes {T = ℕ} 1 (Err fault.DeviceFault) (tell old.disk) (tell new.disk) → FailsAgain (moment_of tell old) (moment_of tell new)
+  fails_again device makes = record {
+    cut = λ cuts told. device.cut cuts told refl;
+    later = makes.later;
+    most = makes.most;
+  }
+
 -- ---- checkpoints that are owed
 
 power_up : (power : Power) → is_up power ≡ true → power ≡ Up
@@ -199,10 +316,11 @@ module _ {D : Type 0} (v : AgentView D) where
     holds_none seen up none = sym (seen.standing up).held ∙ ap (map printed) none
 
 -- some lines ran, and the run stops
-stops_after : (rules : List Rule) (batch : ℕ) (ran : List PlainStep) (a b : AgentSeen) (may may' : AgentMay)
-    (old new : View) (text : List ℕ) → Steps rules batch ran (over_call a old new (Unit {0})) a may b may' text
-    → Steps rules batch ran (over_call a old new ⊥) a may b may' text
-stops_after rules batch ran a b may may' old new text steps x r on =
+stops_after : {D : Type 0} (tell : D → View) (rules : List Rule) (batch : ℕ) (ran : List PlainStep) (a b : AgentSeen)
+    (may may' : AgentMay) (old new : AgentView D) (text : List ℕ)
+    → Steps rules batch ran (over_call tell a old new (Unit {0})) a may b may' text
+    → Steps rules batch ran (over_call tell a old new ⊥) a may b may' text
+stops_after tell rules batch ran a b may may' old new text steps x r on =
     let next = steps x r on in (
       next.0,
       next.1,
@@ -213,6 +331,8 @@ stops_after rules batch ran a b may may' old new text steps x r on =
         counted =
             next.2.counted;
         met = λ never. absurd never;
+        shown = next.2.shown;
+        cut = λ never. absurd never;
       },
     )
 
@@ -226,13 +346,20 @@ module _ {D : Type 0} (tell : D → View) (old new : AgentView D) where
       (λ down. inl (ap (λ v. (tell v.disk).faults) (off (λ power. true≢false (sym (seen.up.1 power) ∙ down)))))
       (cases_Bool a.up)
 
+  -- an agent that is not up stays as it is
+  still_off : (a : AgentSeen) → IsSeen old (tell old.disk) a → ((old.power ≡ Up → ⊥) → new ≡ old) → a.up ≡ false → new ≡ old
+  still_off a seen off down = off (λ power. true≢false (sym (seen.up.1 power) ∙ down))
+
   pub line_called : (l : PlainAction) (outcome : Outcome)
       → ((a : AgentSeen) → IsSeen old (tell old.disk) a → Fits a
       → (b : AgentSeen) × IsSeen new (tell new.disk) b
       × LineMeans old.memory.rules old.batch l a (may_of old (tell old.disk)) b (may_of new (tell new.disk)) outcome)
       → (old.power ≡ Up → OutcomeDevice 4 outcome (tell old.disk) (tell new.disk))
+      → ((a : AgentSeen) → IsSeen old (tell old.disk) a → (after_line old.memory.rules a l).pending ≡ []
+      → IsIdle old (tell old.disk) new (tell new.disk))
+      → (outcome ≡ Held → IsIdle old (tell old.disk) new (tell new.disk))
       → ((old.power ≡ Up → ⊥) → new ≡ old) → Called tell old new (goes_on outcome) (line_ran l outcome) (line_text l outcome)
-  line_called l (Replies given) means device off told some a seen fits =
+  line_called l (Replies given) means device idle waits off told some a seen fits =
       let all = means a seen fits in
       let b = all.0 in
       let m = all.2 in
@@ -243,43 +370,52 @@ module _ {D : Type 0} (tell : D → View) (old new : AgentView D) where
         b,
         all.1,
         subst (λ t. Steps old.memory.rules old.batch (Acts l ∷ [])
-            (over_call a (tell old.disk) (tell new.disk) (Unit {0})) a (may_of old (tell old.disk)) b
+            (over_call tell a old new (Unit {0})) a (may_of old (tell old.disk)) b
             (may_of new (tell new.disk)) t) text
             (replied_line old.memory.rules old.batch l
-            (over_call a (tell old.disk) (tell new.disk) (Unit {0})) a b (may_of old (tell old.disk))
-            (may_of new (tell new.disk)) (call_counts (Replies given) a seen device off) up m.0 m.1 m.2.1 m.2.2),
+            (over_call tell a old new (Unit {0})) a b (may_of old (tell old.disk))
+            (may_of new (tell new.disk)) (call_counts (Replies given) a seen device off)
+            (pays_commit tell old new (Replies given) (device (seen.up.0 m.0)) (length ran.pending) (omega arith)
+            (replies_down given) (λ none. idle a seen (nil_from_length ran.pending none))) up m.0 m.1 m.2.1 m.2.2),
         (λ on q. stays_quiet a b (tell old.disk) (tell new.disk) up
             ((device (seen.up.0 q.0)).others (not_down (Replies given) (λ wrong. wrong))) q),
       )
-  line_called l Held means device off told some a seen fits =
+  line_called l Held means device idle waits off told some a seen fits =
       let all = means a seen fits in
       let b = all.0 in
       let m = all.2 in
       let up : b.up ≡ true = ap (λ s. s.up) m.2 ∙ up_after_line old.memory.rules a l in (
         b,
         all.1,
-        held_line old.memory.rules old.batch l (over_call a (tell old.disk) (tell new.disk) (Unit {0})) a b
-            (may_of old (tell old.disk)) (may_of new (tell new.disk)) (call_counts Held a seen device off) up m.0 m.1 m.2 m.3,
+        held_line old.memory.rules old.batch l (over_call tell a old new (Unit {0})) a b
+            (may_of old (tell old.disk)) (may_of new (tell new.disk)) (call_counts Held a seen device off)
+            (pays_commit tell old new Held (device (seen.up.0 m.0)) 0 (omega arith) (not_down Held (λ wrong. wrong)) (λ none. waits refl))
+            up m.0 m.1 m.2 m.3,
         (λ on q. stays_quiet a b (tell old.disk) (tell new.disk) up
             ((device (seen.up.0 q.0)).others (not_down Held (λ wrong. wrong))) q),
       )
-  line_called l Down means device off told some a seen fits =
+  line_called l Down means device idle waits off told some a seen fits =
       let all = means a seen fits in
       let b = all.0 in
       let loud : IsQuiet a (tell old.disk) → ⊥ = λ q. never_fails a (tell old.disk) (tell new.disk) q
       ((device (seen.up.0 q.0)).down refl).1 in (
         b,
         all.1,
-        down_line old.memory.rules old.batch l (over_call a (tell old.disk) (tell new.disk) (Unit {0})) a b
+        down_line old.memory.rules old.batch l (over_call tell a old new (Unit {0})) a b
             (may_of old (tell old.disk)) (may_of new (tell new.disk)) (call_counts Down a seen device off)
-            (λ up. ((device (seen.up.0 up)).down refl).0) loud all.2,
+            (λ up. ((device (seen.up.0 up)).down refl).0) (
+              (λ up. breaks_commit tell old new Down (device (seen.up.0 up)) (length (after_line old.memory.rules a l).pending)
+                  (omega arith) refl (λ none. idle a seen (nil_from_length (after_line old.memory.rules a l).pending none))),
+              (λ down. still_moment tell old new (still_off a seen off down)),
+            )
+            loud all.2,
         (λ on q. absurd (loud q)),
       )
-  line_called l NoMemory means device off told some a seen fits =
+  line_called l NoMemory means device idle waits off told some a seen fits =
       let all = means a seen fits in (
         all.0,
         all.1,
-        same_stands old.memory.rules old.batch (over_call a (tell old.disk) (tell new.disk) ⊥) a all.0
+        same_stands old.memory.rules old.batch (over_call tell a old new ⊥) a all.0
             (may_of old (tell old.disk)) (may_of new (tell new.disk)) (call_counts NoMemory a seen device off) (λ on. on) all.2,
         (λ on. absurd on),
       )
@@ -289,8 +425,10 @@ module _ {D : Type 0} (tell : D → View) (old new : AgentView D) where
       → (b : AgentSeen) × IsSeen new (tell new.disk) b
       × RestartMeans old.memory.rules a (may_of old (tell old.disk)) b (may_of new (tell new.disk)) result)
       → RestartDevice result (tell old.disk) (tell new.disk)
+      → ((tell old.disk).tells ≡ true → (a : AgentSeen) → IsSeen old (tell old.disk) a
+      → Makes 1 result (tell old.disk) (tell new.disk))
       → Called tell old new (restart_goes_on result) (restart_ran result) (restart_text result)
-  restart_called (Ok kept) means device told some a seen fits =
+  restart_called (Ok kept) means device makes told some a seen fits =
       let all = means told a seen in
       let b = all.0 in
       let m = all.2 in
@@ -298,32 +436,34 @@ module _ {D : Type 0} (tell : D → View) (old new : AgentView D) where
         b,
         all.1,
         restart_line old.memory.rules old.batch kept m.0
-            (over_call a (tell old.disk) (tell new.disk) (Unit {0})) a b (may_of old (tell old.disk))
-            (may_of new (tell new.disk)) (restart_counts (Ok kept) (tell old.disk) (tell new.disk) device) up some m.1 m.2 m.3,
+            (over_call tell a old new (Unit {0})) a b (may_of old (tell old.disk))
+            (may_of new (tell new.disk)) (restart_counts (Ok kept) (tell old.disk) (tell new.disk) device)
+            (opens_again tell old new kept device (makes told a seen)) up some m.1 m.2 m.3,
         (λ on q. (up, device.on, restart_cuts kept (tell old.disk) (tell new.disk) device ∙ q.2)),
       )
-  restart_called (Err fault.DeviceFault) means device told some a seen fits =
+  restart_called (Err fault.DeviceFault) means device makes told some a seen fits =
       let all = means told a seen in
       let b = all.0 in
       let loud : IsQuiet a (tell old.disk) → ⊥ = λ q. never_reopens a (tell old.disk) (tell new.disk) q (device.failed refl) in (
         b,
         all.1,
-        down_restart old.memory.rules old.batch (over_call a (tell old.disk) (tell new.disk) (Unit {0})) a b
-            (may_of old (tell old.disk)) (may_of new (tell new.disk)) (device.counted refl) loud all.2,
+        down_restart old.memory.rules old.batch (over_call tell a old new (Unit {0})) a b
+            (may_of old (tell old.disk)) (may_of new (tell new.disk)) (device.counted refl)
+            (fails_again tell old new device (makes told a seen)) loud all.2,
         (λ on q. absurd (loud q)),
       )
-  restart_called (Err fault.NoMemory) means device told some a seen fits =
+  restart_called (Err fault.NoMemory) means device makes told some a seen fits =
       let all = means told a seen in (
         all.0,
         all.1,
-        spoilt_stands old.memory.rules old.batch (over_call a (tell old.disk) (tell new.disk) ⊥) a all.0
+        spoilt_stands old.memory.rules old.batch (over_call tell a old new ⊥) a all.0
             (may_of old (tell old.disk)) (may_of new (tell new.disk))
             (restart_counts (Err fault.NoMemory) (tell old.disk) (tell new.disk) device) (λ on. on) all.2,
         (λ on. absurd on),
       )
-  restart_called (Err (fault.NotAStore offset)) means device told some a seen fits = absurd (means told a seen).2
-  restart_called (Err (fault.OtherList kept given)) means device told some a seen fits = absurd (means told a seen).2
-  restart_called (Err (fault.TooLarge len)) means device told some a seen fits = absurd (means told a seen).2
+  restart_called (Err (fault.NotAStore offset)) means device makes told some a seen fits = absurd (means told a seen).2
+  restart_called (Err (fault.OtherList kept given)) means device makes told some a seen fits = absurd (means told a seen).2
+  restart_called (Err (fault.TooLarge len)) means device makes told some a seen fits = absurd (means told a seen).2
 
   -- no line ran
   pub memory_stops : (step : PlainStep) → Called tell old new ⊥ [] [] → Stops tell old new step Memory
@@ -334,12 +474,14 @@ module _ {D : Type 0} (tell : D → View) (old new : AgentView D) where
       → ((tell old.disk).tells ≡ true → (a : AgentSeen) → IsSeen old (tell old.disk) a
       → (b : AgentSeen) × IsSeen new (tell new.disk) b
       × RestartMeans old.memory.rules a (may_of old (tell old.disk)) b (may_of new (tell new.disk)) (Err why))
-      → RestartDevice (Err why) (tell old.disk) (tell new.disk) → Stops tell old new Reopens (ending_of why)
-  restart_stops fault.DeviceFault other means device = absurd (other refl)
-  restart_stops fault.NoMemory other means device = memory_stops Reopens (restart_called (Err fault.NoMemory) means device)
-  restart_stops (fault.NotAStore offset) other means device = (tt, λ told a seen. (means told a seen).2)
-  restart_stops (fault.OtherList kept given) other means device = (tt, λ told a seen. (means told a seen).2)
-  restart_stops (fault.TooLarge len) other means device = (tt, λ told a seen. (means told a seen).2)
+      → RestartDevice (Err why) (tell old.disk) (tell new.disk)
+      → ((tell old.disk).tells ≡ true → (a : AgentSeen) → IsSeen old (tell old.disk) a
+      → Makes {T = ℕ} 1 (Err why) (tell old.disk) (tell new.disk)) → Stops tell old new Reopens (ending_of why)
+  restart_stops fault.DeviceFault other means device makes = absurd (other refl)
+  restart_stops fault.NoMemory other means device makes = memory_stops Reopens (restart_called (Err fault.NoMemory) means device makes)
+  restart_stops (fault.NotAStore offset) other means device makes = (tt, λ told a seen. (means told a seen).2)
+  restart_stops (fault.OtherList kept given) other means device makes = (tt, λ told a seen. (means told a seen).2)
+  restart_stops (fault.TooLarge len) other means device makes = (tt, λ told a seen. (means told a seen).2)
 
   -- a line ran, and its text has no room to wait
   stops_ran : (step : PlainStep) (text : List ℕ) → Called tell old new (Unit {0}) (step ∷ []) text
@@ -353,8 +495,8 @@ module _ {D : Type 0} (tell : D → View) (old new : AgentView D) where
           fits in (
             all.0,
             all.1,
-            stops_after old.memory.rules old.batch (step ∷ []) a all.0
-                (may_of old (tell old.disk)) (may_of new (tell new.disk)) (tell old.disk) (tell new.disk) text all.2,
+            stops_after tell old.memory.rules old.batch (step ∷ []) a all.0
+                (may_of old (tell old.disk)) (may_of new (tell new.disk)) old new text all.2,
             λ on. absurd on,
           ),
     ),
@@ -373,12 +515,14 @@ module _ {D : Type 0} (tell : D → View) (old new : AgentView D) where
         (subst (λ s. Stops tell old new s Memory) (sym same) (stops_ran step text called))
 
   -- the last commit, by what it is answered
-  module _ {most : ℕ} (outcome : Outcome)
+  module _ (outcome : Outcome)
       (means : (a : AgentSeen) → IsSeen old (tell old.disk) a
       → (b : AgentSeen) × IsSeen new (tell new.disk) b
       × FlushMeans old.memory.rules a (may_of old (tell old.disk)) b (may_of new (tell new.disk)) outcome)
-      (device : old.power ≡ Up → OutcomeDevice most outcome (tell old.disk) (tell new.disk))
-      (off : (old.power ≡ Up → ⊥) → new ≡ old)
+      (device : old.power ≡ Up → OutcomeDevice (flush_calls old) outcome (tell old.disk) (tell new.disk))
+      (idle : (a : AgentSeen) → IsSeen old (tell old.disk) a → a.pending ≡ [] → (old.held ≡ [] → ⊥)
+      → IsIdle old (tell old.disk) new (tell new.disk))
+      (tidy : old.held ≡ [] → IsTidy outcome new) (off : (old.power ≡ Up → ⊥) → new ≡ old)
       (before now : List ℕ) where
     -- what it means, by the answer that it is
     meant : (told : Outcome) → outcome ≡ told → (a : AgentSeen) (seen : IsSeen old (tell old.disk) a)
@@ -396,6 +540,13 @@ module _ {D : Type 0} (tell : D → View) (old new : AgentView D) where
         (ap (λ s. s.up) next ∙ up_after_commit old.memory.rules a)
         ((device (seen.up.0 up)).others (λ down. replies_down given (sym is ∙ down))) q
 
+    -- and they pay for what was pending
+    gives_pays : (given : Vec Reply Global) → outcome ≡ Replies given → (a : AgentSeen)
+        → IsSeen old (tell old.disk) a → a.up ≡ true → Pays (length a.pending) (moment_of tell old) (moment_of tell new)
+    gives_pays given is a seen up =
+        pays_flush tell old new outcome (device (seen.up.0 up)) (length a.pending)
+        (λ none. idle a seen (nil_from_length a.pending none)) given is tidy
+
     pub replies_end : (given : Vec Reply Global) → outcome ≡ Replies given
         → now ≡ before ++ replies_text (map reply_of given.items) → Ends tell old new Done before now
     replies_end given is shows a seen =
@@ -410,6 +561,7 @@ module _ {D : Type 0} (tell : D → View) (old new : AgentView D) where
             gives_quiet given is a all.0 seen m.0 m.1.1,
           ),
           call_counts outcome a seen device off,
+          gives_pays given is a seen m.0,
         )
 
     -- a checkpoint of an agent that holds nothing
@@ -425,6 +577,7 @@ module _ {D : Type 0} (tell : D → View) (old new : AgentView D) where
             gives_quiet given is a all.0 seen m.0 m.1.1,
           ),
           call_counts outcome a seen device off,
+          gives_pays given is a seen m.0,
         )
 
     pub replies_lost : (given : Vec Reply Global) → outcome ≡ Replies given → now ≡ before → Ends tell old new Memory before now
@@ -435,6 +588,7 @@ module _ {D : Type 0} (tell : D → View) (old new : AgentView D) where
           all.1,
           (inl (m.0, m.1.1, m.1.2), shows),
           call_counts outcome a seen device off,
+          tt,
         )
 
     pub down_ends : outcome ≡ Down → now ≡ before → Ends tell old new Device before now
@@ -450,6 +604,11 @@ module _ {D : Type 0} (tell : D → View) (old new : AgentView D) where
             (λ up. ((device (seen.up.0 up)).down is).0),
           ),
           call_counts outcome a seen device off,
+          (
+            (λ up. breaks_flush tell old new outcome (device (seen.up.0 up)) (length a.pending)
+                (λ none. idle a seen (nil_from_length a.pending none)) is),
+            (λ down. still_moment tell old new (still_off a seen off down)),
+          ),
         )
 
     pub held_ends : outcome ≡ Held → Ends tell old new Memory before now
@@ -463,6 +622,7 @@ module _ {D : Type 0} (tell : D → View) (old new : AgentView D) where
           all.1,
           (inr m, shows),
           call_counts outcome a seen device off,
+          tt,
         )
 
 -- an agent that owes a checkpoint holds no line that a last commit could commit
@@ -479,6 +639,7 @@ owed_ends tell v before owed a seen =
         (λ q. q),
       ),
       inl refl,
+      record { cuts = refl; off = refl; later = omega arith; most = omega arith },
     )
 
 -- ---- between two lines
@@ -489,7 +650,7 @@ nothing_called tell v told some a seen fits = (
   a,
   seen,
   nothing_stands v.memory.rules v.batch
-      (over_call a (tell v.disk) (tell v.disk) (Unit {0})) a (may_of v (tell v.disk)) (inl refl),
+      (over_call tell a v v (Unit {0})) a (may_of v (tell v.disk)) (inl refl) refl,
   (λ on q. q),
 )
 
@@ -502,8 +663,8 @@ module _ {D : Type 0} (tell : D → View) (old new : AgentView D) (owed : owes o
       let is = owing_seen old (tell old.disk) a owed seen in (
         all.0,
         all.1,
-        checkpoint_made old.memory.rules old.batch (over_call a (tell old.disk) (tell new.disk) (Unit {0}))
-            a all.0 (may_of old (tell old.disk)) (may_of new (tell new.disk)) all.3 is.1 all.2.0,
+        checkpoint_made old.memory.rules old.batch (over_call tell a old new (Unit {0}))
+            a all.0 (may_of old (tell old.disk)) (may_of new (tell new.disk)) all.3 (λ goes. all.4) is.1 all.2.0,
         (λ on q. all.2.2 q),
       )
   checkpoint_called Device ends other told some a seen fits =
@@ -511,8 +672,8 @@ module _ {D : Type 0} (tell : D → View) (old new : AgentView D) (owed : owes o
       let is = owing_seen old (tell old.disk) a owed seen in (
         all.0,
         all.1,
-        checkpoint_failed old.memory.rules old.batch (over_call a (tell old.disk) (tell new.disk) (Unit {0}))
-            a all.0 (may_of old (tell old.disk)) (may_of new (tell new.disk)) (all.2.3 is.0) is.0 is.1 all.2.0,
+        checkpoint_failed old.memory.rules old.batch (over_call tell a old new (Unit {0}))
+            a all.0 (may_of old (tell old.disk)) (may_of new (tell new.disk)) (all.2.3 is.0) all.4 is.0 is.1 all.2.0,
         (λ on q. absurd (all.2.2 q)),
       )
   checkpoint_called Memory ends other told some a seen fits = absurd (other refl)
@@ -524,12 +685,12 @@ module _ {D : Type 0} (tell : D → View) (old new : AgentView D) (owed : owes o
   checkpoint_wants ends told some a seen fits =
       let all = ends a seen in
       let is = owing_seen old (tell old.disk) a owed seen in
-      let watch = over_call a (tell old.disk) (tell new.disk) ⊥ in (
+      let watch = over_call tell a old new ⊥ in (
         all.0,
         all.1,
         ⊎_elim
             (λ done. checkpoint_made old.memory.rules old.batch watch a all.0 (may_of old (tell old.disk))
-            (may_of new (tell new.disk)) all.3 is.1 (inl done))
+            (may_of new (tell new.disk)) all.3 (λ never. absurd never) is.1 (inl done))
             (λ same. same_stands old.memory.rules old.batch watch a all.0 (may_of old (tell old.disk))
             (may_of new (tell new.disk)) all.3 (λ on. on) same)
             all.2.0,

@@ -1,11 +1,13 @@
 -- Counts of faults over the calls of a run, and the faults that a course shows.
-use Rattle.std.proofs.Common.{◌≡◌, inl, inr, ℕ, ◌+◌, ◌≤◌, Bool, true, false, List, [], ◌∷◌, ◌++◌, refl, sym, subst, arith}
+use Rattle.std.proofs.Common.{◌≡◌, inl, inr, ℕ, ◌+◌, ◌≤◌, Bool, true, false, List, [], ◌∷◌, ◌++◌, refl, sym, ap, subst, arith}
 use Rattle.std.proofs.lemmas.Bool.{false≢true}
 use Rattle.agent_base.specs.Counts.{Rose}
 use Rattle.unwinding.specs.Admissible.{Acts, Reopens, Stretch}
 use Rattle.script_actions.specs.Action.{PlainAction, PlainStep}
 use Rattle.store_runs.specs.Calls.{StaysOrRose}
-use Rattle.store_runs.specs.Courses.{unshown}
+use Rattle.unwinding.specs.Course.{Course, down_one, reopen, stretch_of}
+use Rattle.agent_core.specs.Seen.{AgentSeen}
+use Rattle.store_runs.specs.CutCourses.{faults_on, met_on, unshown}
 use Rattle.store_runs.specs.Faults.{RoseBy, closed_faults, epoch_faults, last_faults, restart_faults}
 use Rattle.store_runs.specs.declared.ending.Ending.TheVariants.{Device}
 
@@ -40,12 +42,12 @@ stays_more first before now was (inr rose) = inr (rose_later first before now wa
 
 -- ---- the faults of an epoch
 
-restarts_acts : (ds : List PlainStep) (l : PlainAction) → restart_faults (ds ++ Acts l ∷ []) ≡ restart_faults ds
+pub restarts_acts : (ds : List PlainStep) (l : PlainAction) → restart_faults (ds ++ Acts l ∷ []) ≡ restart_faults ds
 restarts_acts [] l = refl
 restarts_acts (Acts j ∷ ds) l = restarts_acts ds l
 restarts_acts (Reopens ∷ ds) l = omega (arith, restarts_acts ds l)
 
-restarts_reopens : (ds : List PlainStep) → restart_faults (ds ++ Reopens ∷ []) ≡ restart_faults ds + 1
+pub restarts_reopens : (ds : List PlainStep) → restart_faults (ds ++ Reopens ∷ []) ≡ restart_faults ds + 1
 restarts_reopens [] = refl
 restarts_reopens (Acts j ∷ ds) = restarts_reopens ds
 restarts_reopens (Reopens ∷ ds) = omega (arith, restarts_reopens ds)
@@ -107,3 +109,46 @@ last_fault_more (Reopens ∷ ds) = omega arith
 pub last_fault_met : (ds : List PlainStep) → last_faults Device ds ≤ epoch_faults ds + unshown false ds
 last_fault_met [] = omega arith
 last_fault_met (d ∷ ds) = omega arith
+
+-- ---- faults that were met, by what some lines do to an agent and to the lines answered `down`
+
+-- those that are shown
+pub shown_met : (a : AgentSeen) (r : Course PlainAction) → faults_on r ≤ met_on a r
+unfolding met_on
+shown_met a r = omega arith
+
+module _ (a b : AgentSeen) (r : Course PlainAction) where
+  -- an agent that is up met none but these
+  pub up_met : (q : Course PlainAction) → b.up ≡ true → q.closed ≡ r.closed → q.downs ≡ r.downs → met_on b q ≤ met_on a r
+  unfolding met_on faults_on
+  up_met q up closed downs = omega (arith, unshown_up b.up q.downs up, ap closed_faults closed, ap epoch_faults downs)
+
+  -- a restart closes the open epoch, with its faults
+  pub closed_met : (kept : ℕ) → b.up ≡ true → met_on b (reopen r kept) ≤ met_on a r
+  unfolding met_on faults_on
+  closed_met kept up = omega (arith, unshown_up b.up [] up, closed_faults_more r.closed (stretch_of r kept))
+
+  -- a line that is answered `down` is one more at most
+  pub down_met : (step : PlainStep) → met_on b (down_one r step) ≤ met_on a r + 1
+  unfolding met_on faults_on
+  down_met step = omega (arith, unshown_behind b.up r.downs step, one_fault_more r.downs step)
+
+  -- and none where it acts, and the agent was down
+  pub down_again : (l : PlainAction) → a.up ≡ false → met_on b (down_one r (Acts l)) ≤ met_on a r
+  unfolding met_on faults_on
+  down_again l down = omega (
+    arith,
+    unshown_behind b.up r.downs (Acts l),
+    no_fault_more r.downs l,
+    ap (λ up. unshown up r.downs) down,
+  )
+
+  -- an agent that is down, and stays so, met none more
+  pub still_down_met : a.up ≡ false → b.up ≡ false → met_on b r ≤ met_on a r
+  unfolding met_on
+  still_down_met was down = omega (arith, ap (λ up. unshown up r.downs) was, ap (λ up. unshown up r.downs) down)
+
+  -- a checkpoint that failed is one more at most
+  pub failed_met : met_on b r ≤ met_on a r + 1
+  unfolding met_on
+  failed_met = omega (arith, unshown_few b.up r.downs)

@@ -1,5 +1,5 @@
 -- What each answer of an agent makes of a course.
-use Rattle.std.proofs.Common.{◌≡◌, ℕ, ◌+◌, ◌<◌, ◌≤◌, ◌^◌, true, false, List, [], ◌∷◌, ◌++◌, Some, length, inl, inr, refl, sym, ap, subst, ⊎_elim, ◌∙◌, append-nil, append_assoc, arith}
+use Rattle.std.proofs.Common.{◌≡◌, ℕ, ◌+◌, ◌<◌, ◌^◌, true, List, [], ◌∷◌, ◌++◌, Some, length, inl, inr, refl, sym, ap, subst, ⊎_elim, ◌∙◌, append-nil, append_assoc, arith}
 use Rattle.std.proofs.lemmas.Bool.{cases_Bool}
 use Rattle.std.proofs.lemmas.List.{nil_from_length}
 use Rattle.agent_base.specs.Counts.{Rose}
@@ -14,7 +14,7 @@ use Rattle.unwinding.proofs.CourseScript.{steps_answered, steps_down, steps_reop
 use Rattle.unwinding.proofs.CourseSums.{base_is, committed_stands, holding_stands, length_held}
 use Rattle.unwinding.proofs.Transcripts.{transcript_answered, transcript_down, transcript_reopened, transcript_wait}
 use Rattle.suffix_list.specs.Suffix.{Rule}
-use Rattle.script_actions.specs.Action.{PlainAction, PlainStep}
+use Rattle.script_actions.specs.Action.{PlainAction}
 use Rattle.reply_lines.specs.Reply.{reply_text}
 use Rattle.agent_model.specs.Isolation.{printed, text_of}
 use Rattle.agent_model.specs.TheMachine.{machine}
@@ -22,51 +22,16 @@ use Rattle.durable_model.specs.Histories.{AgentOpening}
 use Rattle.durable_model.specs.Keeping.{AgentDurable, keeping}
 use Rattle.agent_core.specs.Means.{AgentMay, Fails, Fits, Same, after_commit, after_line}
 use Rattle.agent_core.specs.Seen.{AgentSeen}
-use Rattle.store_runs.specs.Calls.{StaysOrRose}
+use Rattle.store_runs.specs.Calls.{Breaks, FailsAgain, OpensAgain, Pays, StaysOrRose}
 use Rattle.store_runs.specs.Closing.{Commits, HoldsNone}
-use Rattle.store_runs.specs.Courses.{Adds, On, Steps, Watch, downs_on, faults_on, met_on, text_on, unshown}
-use Rattle.store_runs.specs.Faults.{RoseBy, closed_faults, epoch_faults}
+use Rattle.store_runs.specs.Courses.{Adds, On, Steps, Watch, downs_on, text_on}
+use Rattle.store_runs.specs.CutCourses.{KeepsCuts, met_on}
+use Rattle.store_runs.specs.Faults.{RoseBy}
 use Rattle.printed_model.specs.Histories.{closed_downs, down_reply, restart_reply}
-use Rattle.store_runs.proofs.CountLemmas.{closed_faults_more, no_fault_more, one_fault_more, rose_by_fewer, rose_by_rose, rose_by_stays, unshown_behind, unshown_few, unshown_up}
+use Rattle.store_runs.proofs.CountLemmas.{closed_met, down_again, down_met, failed_met, rose_by_fewer, rose_by_rose, rose_by_stays, shown_met, up_met}
+use Rattle.store_runs.proofs.CutLemmas.{keeps_shown}
+use Rattle.store_runs.proofs.KeepLemmas.{keeps_down_line, keeps_down_restart, keeps_failed, keeps_held, keeps_reopened, keeps_replied, keeps_tidied}
 use Rattle.store_runs.proofs.TextLemmas.{text_append, text_one}
-
--- ---- faults that were met, by what some lines do to an agent and to the lines answered `down`
-
--- those that are shown
-pub shown_met : (a : AgentSeen) (r : Course PlainAction) → faults_on r ≤ met_on a r
-unfolding met_on
-shown_met a r = omega arith
-
-module _ (a b : AgentSeen) (r : Course PlainAction) where
-  -- an agent that is up met none but these
-  pub up_met : (q : Course PlainAction) → b.up ≡ true → q.closed ≡ r.closed → q.downs ≡ r.downs → met_on b q ≤ met_on a r
-  unfolding met_on faults_on
-  up_met q up closed downs = omega (arith, unshown_up b.up q.downs up, ap closed_faults closed, ap epoch_faults downs)
-
-  -- a restart closes the open epoch, with its faults
-  pub closed_met : (kept : ℕ) → b.up ≡ true → met_on b (reopen r kept) ≤ met_on a r
-  unfolding met_on faults_on
-  closed_met kept up = omega (arith, unshown_up b.up [] up, closed_faults_more r.closed (stretch_of r kept))
-
-  -- a line that is answered `down` is one more at most
-  pub down_met : (step : PlainStep) → met_on b (down_one r step) ≤ met_on a r + 1
-  unfolding met_on faults_on
-  down_met step = omega (arith, unshown_behind b.up r.downs step, one_fault_more r.downs step)
-
-  -- and none where it acts, and the agent was down
-  pub down_again : (l : PlainAction) → a.up ≡ false → met_on b (down_one r (Acts l)) ≤ met_on a r
-  unfolding met_on faults_on
-  down_again l down = omega (
-    arith,
-    unshown_behind b.up r.downs (Acts l),
-    no_fault_more r.downs l,
-    ap (λ up. unshown up r.downs) down,
-  )
-
-  -- a checkpoint that failed is one more at most
-  pub failed_met : met_on b r ≤ met_on a r + 1
-  unfolding met_on
-  failed_met = omega (arith, unshown_few b.up r.downs)
 
 -- the lines that were answered `down` in one closed stretch more
 closed_downs_more : (ss : List (Stretch PlainAction)) (s : Stretch PlainAction)
@@ -97,14 +62,17 @@ module _ (rules : List Rule) (batch : ℕ) where
 
   -- the line waits
   pub held_line : (l : PlainAction) (watch : Watch) (a b : AgentSeen) (may may' : AgentMay)
-      → StaysOrRose watch.before watch.now → b.up ≡ true → a.up ≡ true → length a.held + 1 < batch
-      → b ≡ after_line rules a l → AtBase b.base may'
+      → StaysOrRose watch.before watch.now → Pays 0 watch.from watch.to → b.up ≡ true → a.up ≡ true
+      → length a.held + 1 < batch → b ≡ after_line rules a l → AtBase b.base may'
       → Steps rules batch (Acts l ∷ []) watch a may b may' []
   unfolding On text_on downs_on
-  held_line l watch a b may may' stays still up less is base x r on =
+  held_line l watch a b may may' stays pays still up less is base x r on =
       let met : (first : ℕ) → RoseBy (met_on a r) first watch.before
       → RoseBy (met_on b (wait r l)) first watch.now = λ first was. rose_by_stays _ _ first watch.before
-      watch.now (up_met a b r (wait r l) still refl refl) stays was in (
+      watch.now (up_met a b r (wait r l) still refl refl) stays was in
+      let keeps : (before : ℕ) (cuts : List ℕ) → KeepsCuts rules batch x before cuts a r watch.from
+      → KeepsCuts rules batch x before cuts b (wait r l) watch.to = λ before cuts was.
+      keeps_held rules batch x r a may on b watch.from watch.to before cuts was l up still pays in (
         wait r l,
         on_held (machine rules) keeping batch x r l a b may may' on up less is base,
         record {
@@ -113,16 +81,19 @@ module _ (rules : List Rule) (batch : ℕ) where
           downs = λ q. refl;
           counted = λ first was. rose_by_fewer _ _ first watch.now (shown_met b (wait r l)) (met first was);
           met = λ goes. met;
+          shown = λ before cuts was. keeps_shown rules batch x before cuts b (wait r l) watch.to (keeps before cuts was);
+          cut = λ goes. keeps;
         },
       )
 
   -- the line and all that waited are answered
   pub replied_line : (l : PlainAction) (watch : Watch) (a b : AgentSeen) (may may' : AgentMay)
-      → StaysOrRose watch.before watch.now → b.up ≡ true → a.up ≡ true → length a.held + 1 ≡ batch
+      → StaysOrRose watch.before watch.now → Pays (length (after_line rules a l).pending) watch.from watch.to
+      → b.up ≡ true → a.up ≡ true → length a.held + 1 ≡ batch
       → b ≡ after_commit rules (after_line rules a l) → AtBase b.base may'
       → Steps rules batch (Acts l ∷ []) watch a may b may' (text_of (after_line rules a l).held)
   unfolding On text_on downs_on
-  replied_line l watch a b may may' stays still up full is base x r on =
+  replied_line l watch a b may may' stays pays still up full is base x r on =
       let m = machine rules in
       let was = on_up x r a may on up in
       let o = last_opening m keeping x r in
@@ -130,6 +101,9 @@ module _ (rules : List Rule) (batch : ℕ) where
       → RoseBy (met_on b (answer_all (wait r l)))
       first watch.now = λ first was. rose_by_stays _ _ first watch.before watch.now
       (up_met a b r (answer_all (wait r l)) still refl refl) stays was in
+      let keeps : (before : ℕ) (cuts : List ℕ) → KeepsCuts rules batch x before cuts a r watch.from
+      → KeepsCuts rules batch x before cuts b (answer_all (wait r l)) watch.to = λ before cuts was.
+      keeps_replied rules batch x r a may on b watch.from watch.to before cuts was l up still pays in
       let held : (after_line rules a l).held ≡ (stands m keeping o (wait r l)).held =
       ap (λ s. (after_line rules s l).held) was.1 ∙ ap (λ s. s.held) (holding_stands m keeping o r l) in (
         answer_all (wait r l),
@@ -144,17 +118,23 @@ module _ (rules : List Rule) (batch : ℕ) where
           downs = λ q. refl;
           counted = λ first was. rose_by_fewer _ _ first watch.now (shown_met b (answer_all (wait r l))) (met first was);
           met = λ goes. met;
+          shown = λ before cuts was. keeps_shown rules batch x before cuts b (answer_all (wait r l)) watch.to (keeps before cuts was);
+          cut = λ goes. keeps;
         },
       )
 
   -- the line is answered `down`
   pub down_line : (l : PlainAction) (watch : Watch) (a b : AgentSeen) (may may' : AgentMay)
-      → StaysOrRose watch.before watch.now → (a.up ≡ true → Rose watch.before watch.now) → (watch.Quiet → ⊥)
+      → StaysOrRose watch.before watch.now → (a.up ≡ true → Rose watch.before watch.now)
+      → Breaks a.up (length (after_line rules a l).pending) watch.from watch.to → (watch.Quiet → ⊥)
       → GoesDown (machine rules) keeping a b may may'
       (λ d n. ((a.up ≡ true) × (length a.held + 1 ≡ batch)) × IsAt (after_commit rules (after_line rules a l)).base d n)
       → Steps rules batch (Acts l ∷ []) watch a may b may' (reply_text (printed (down_reply (Acts l))))
   unfolding On text_on downs_on
-  down_line l watch a b may may' stays fell loud goes x r on =
+  down_line l watch a b may may' stays fell breaks loud goes x r on =
+      let keeps : (before : ℕ) (cuts : List ℕ) → KeepsCuts rules batch x before cuts a r watch.from
+      → KeepsCuts rules batch x before cuts b (down_one r (Acts l)) watch.to = λ before cuts was.
+      keeps_down_line rules batch x r a may on b watch.from watch.to before cuts was l goes.down breaks in
       let met : (first : ℕ) → RoseBy (met_on a r) first watch.before
       → RoseBy (met_on b (down_one r (Acts l))) first watch.now = λ first was. ⊎_elim
       (λ up. rose_by_rose _ _ first watch.before watch.now (down_met a b r (Acts l)) (fell up) was)
@@ -171,14 +151,19 @@ module _ (rules : List Rule) (batch : ℕ) where
           downs = λ q. absurd (loud q);
           counted = λ first was. rose_by_fewer _ _ first watch.now (shown_met b (down_one r (Acts l))) (met first was);
           met = λ goes. met;
+          shown = λ before cuts was. keeps_shown rules batch x before cuts b (down_one r (Acts l)) watch.to (keeps before cuts was);
+          cut = λ goes. keeps;
         },
       )
 
   pub down_restart : (watch : Watch) (a b : AgentSeen) (may may' : AgentMay) → Rose watch.before watch.now
-      → (watch.Quiet → ⊥) → GoesDown (machine rules) keeping a b may may' (λ d n. ⊥)
+      → FailsAgain watch.from watch.to → (watch.Quiet → ⊥) → GoesDown (machine rules) keeping a b may may' (λ d n. ⊥)
       → Steps rules batch (Reopens ∷ []) watch a may b may' (reply_text (printed (down_reply Reopens)))
   unfolding On text_on downs_on
-  down_restart watch a b may may' rose loud goes x r on =
+  down_restart watch a b may may' rose fails loud goes x r on =
+      let keeps : (before : ℕ) (cuts : List ℕ) → KeepsCuts rules batch x before cuts a r watch.from
+      → KeepsCuts rules batch x before cuts b (down_one r Reopens) watch.to = λ before cuts was.
+      keeps_down_restart rules batch x r a may on b watch.from watch.to before cuts was goes.down fails in
       let met : (first : ℕ) → RoseBy (met_on a r) first watch.before
       → RoseBy (met_on b (down_one r Reopens))
       first watch.now = λ first was. rose_by_rose _ _ first watch.before watch.now (down_met a b r Reopens) rose was in (
@@ -192,16 +177,21 @@ module _ (rules : List Rule) (batch : ℕ) where
           downs = λ q. absurd (loud q);
           counted = λ first was. rose_by_fewer _ _ first watch.now (shown_met b (down_one r Reopens)) (met first was);
           met = λ goes. met;
+          shown = λ before cuts was. keeps_shown rules batch x before cuts b (down_one r Reopens) watch.to (keeps before cuts was);
+          cut = λ goes. keeps;
         },
       )
 
   -- the store is opened again
   pub restart_line : (kept : ℕ) (d : AgentDurable) (watch : Watch) (a b : AgentSeen) (may may' : AgentMay)
-      → StaysOrRose watch.before watch.now → b.up ≡ true → 0 < batch → may d kept
+      → StaysOrRose watch.before watch.now → OpensAgain watch.from watch.to → b.up ≡ true → 0 < batch → may d kept
       → b ≡ reopened (machine rules) keeping a.world.rest d → AtBase b.base may'
       → Steps rules batch (Reopens ∷ []) watch a may b may' (reply_text (printed (restart_reply kept)))
   unfolding On text_on downs_on
-  restart_line kept d watch a b may may' stays up some left is base x r on =
+  restart_line kept d watch a b may may' stays opens up some left is base x r on =
+      let keeps : (before : ℕ) (cuts : List ℕ) → KeepsCuts rules batch x before cuts a r watch.from
+      → KeepsCuts rules batch x before cuts b (reopen r kept) watch.to = λ before cuts was.
+      keeps_reopened rules batch x r a may on b watch.from watch.to before cuts was kept up opens in
       let met : (first : ℕ) → RoseBy (met_on a r) first watch.before
       → RoseBy (met_on b (reopen r kept)) first watch.now = λ first was. rose_by_stays _ _ first
       watch.before watch.now (closed_met a b r kept up) stays was in (
@@ -215,6 +205,8 @@ module _ (rules : List Rule) (batch : ℕ) where
           downs = λ q. append-nil _ ∙ closed_downs_more r.closed (stretch_of r kept);
           counted = λ first was. rose_by_fewer _ _ first watch.now (shown_met b (reopen r kept)) (met first was);
           met = λ goes. met;
+          shown = λ before cuts was. keeps_shown rules batch x before cuts b (reopen r kept) watch.to (keeps before cuts was);
+          cut = λ goes. keeps;
         },
       )
 
@@ -222,13 +214,17 @@ module _ (rules : List Rule) (batch : ℕ) where
   adds_nothing : (x : AgentOpening) (a b : AgentSeen) (r : Course PlainAction) (watch : Watch)
       → StaysOrRose watch.before watch.now → (watch.GoesOn → (first : ℕ)
       → RoseBy (met_on a r) first watch.before → RoseBy (met_on b r) first watch.now)
-      → Adds rules x a b r r [] watch []
-  adds_nothing x a b r watch stays met = record {
+      → (watch.GoesOn → (before : ℕ) (cuts : List ℕ) → KeepsCuts rules batch x before cuts a r watch.from
+      → KeepsCuts rules batch x before cuts b r watch.to)
+      → Adds rules batch x a b r r [] watch []
+  adds_nothing x a b r watch stays met keeps = record {
     steps = sym (append-nil _);
     prints = sym (append-nil _);
     downs = λ q. refl;
     counted = λ first was. rose_by_stays _ _ first watch.before watch.now (shown_met a r) stays was;
     met = met;
+    shown = λ before cuts was. keeps_shown rules batch x before cuts a r watch.from was;
+    cut = keeps;
   }
 
   -- nothing is held, so that no line waits
@@ -271,38 +267,43 @@ module _ (rules : List Rule) (batch : ℕ) where
 
   -- a checkpoint was made of an agent that holds nothing, or it is as it was
   pub checkpoint_made : (watch : Watch) (a b : AgentSeen) (may may' : AgentMay)
-      → StaysOrRose watch.before watch.now → a.held ≡ [] → HoldsNone rules a b may may'
-      → Steps rules batch [] watch a may b may' []
+      → StaysOrRose watch.before watch.now → (watch.GoesOn → Pays (length a.pending) watch.from watch.to)
+      → a.held ≡ [] → HoldsNone rules a b may may' → Steps rules batch [] watch a may b may' []
   unfolding On
-  checkpoint_made watch a b may may' stays none holds x r on =
+  checkpoint_made watch a b may may' stays pays none holds x r on =
       let done = nothing_held x r a b may may' on holds in
       let up : b.up ≡ true = ap (λ s. s.up) done.1 ∙ up_after_commit rules a in (
         r,
         on_flush (machine rules) keeping batch x r a b may may' on (none_waits x r a may on done.0 none) done.0 done.1 done.2,
         adds_nothing x a b r watch stays (λ goes first was. rose_by_stays _ _ first watch.before watch.now
-            (up_met a b r r up refl refl) stays was),
+            (up_met a b r r up refl refl) stays was)
+            (λ goes before cuts was. keeps_tidied rules batch x r a may on b watch.from watch.to before cuts was
+            (none_waits x r a may on done.0 none) done.0 up (pays goes)),
       )
 
   -- or it failed
   pub checkpoint_failed : (watch : Watch) (a b : AgentSeen) (may may' : AgentMay)
-      → Rose watch.before watch.now → a.up ≡ true → a.held ≡ [] → Fails rules a a b may may' (a.up ≡ true)
+      → Rose watch.before watch.now → Breaks a.up (length a.pending) watch.from watch.to → a.up ≡ true → a.held ≡ []
+      → Fails rules a a b may may' (a.up ≡ true)
       → Steps rules batch [] watch a may b may' []
   unfolding On
-  checkpoint_failed watch a b may may' rose up none goes x r on = (
+  checkpoint_failed watch a b may may' rose breaks up none goes x r on = (
     r,
     on_flush_down (machine rules) keeping batch x r a b may may' on (none_waits x r a may on up none) goes,
     adds_nothing x a b r watch (inr rose) (λ on first was. rose_by_rose _ _ first watch.before watch.now
-        (failed_met a b r) rose was),
+        (failed_met a b r) rose was)
+        (λ on_goes before cuts was. keeps_failed rules batch x r a may on b watch.from watch.to before cuts was goes.down breaks),
   )
 
   -- no call was made
   pub nothing_stands : (watch : Watch) (a : AgentSeen) (may : AgentMay) → StaysOrRose watch.before watch.now
-      → Steps rules batch [] watch a may a may []
-  nothing_stands watch a may stays x r on = (
+      → watch.to ≡ watch.from → Steps rules batch [] watch a may a may []
+  nothing_stands watch a may stays same x r on = (
     r,
     on,
     adds_nothing x a a r watch stays
-        (λ goes first was. rose_by_stays _ _ first watch.before watch.now (omega arith) stays was),
+        (λ goes first was. rose_by_stays _ _ first watch.before watch.now (omega arith) stays was)
+        (λ goes before cuts was. subst (KeepsCuts rules batch x before cuts a r) (sym same) was),
   )
 
   -- memory was wanting, and the agent is as it was
@@ -320,7 +321,7 @@ module _ (rules : List Rule) (batch : ℕ) where
       up = λ up. ((on.up (sym (ap (λ s. s.up) same.0) ∙ up)).0, same.0 ∙ (on.up (sym (ap (λ s. s.up) same.0) ∙ up)).1);
       images = λ d n left. on.images d n (same.1 d n left);
     },
-    adds_nothing x a b r watch stays (λ on. absurd (stops on)),
+    adds_nothing x a b r watch stays (λ on. absurd (stops on)) (λ on. absurd (stops on)),
   )
 
   -- memory was wanting at a restart, and the agent is not up
@@ -331,7 +332,7 @@ module _ (rules : List Rule) (batch : ℕ) where
   spoilt_stands watch a b may may' stays stops goes x r on = (
     r,
     on_quiet_down (machine rules) keeping batch x r a b may may' on goes,
-    adds_nothing x a b r watch stays (λ on. absurd (stops on)),
+    adds_nothing x a b r watch stays (λ on. absurd (stops on)) (λ on. absurd (stops on)),
   )
 
   -- what waits is answered at the end

@@ -1,6 +1,7 @@
 -- The store on a disk, when a run opens it.
-use Rattle.std.proofs.Common.{◌≡◌, ◌⊎◌, ℕ, ◌+◌, ◌-◌, ◌^◌, ◌<◌, ◌≤◌, min, true, false, List, [], ◌∷◌, Option, Some, inl, inr, refl, sym, ap, subst, ◌∙◌, arith, length}
-use Rattle.std.specs.Prelude.{Result, Ok, Err}
+use Rattle.std.proofs.Common.{◌≡◌, ◌⊎◌, ⊎_elim, ℕ, zero, suc, ◌+◌, ◌-◌, ◌^◌, ◌<◌, ◌≤◌, min, true, false, not, List, [], ◌∷◌, Option, Some, inl, inr, refl, sym, ap, subst, ◌∙◌, arith, length}
+use Rattle.std.proofs.lemmas.Bool.{and_right, lt-leb}
+use Rattle.std.specs.Prelude.{Result, Ok, Err, nat_le, ◌==◌, ◌&&◌, if◌then◌else◌}
 use Rattle.unwinding.specs.Admissible.{History}
 use Rattle.unwinding.specs.Course.{AtBase}
 use Rattle.agent_base.specs.Counts.{Rose}
@@ -10,28 +11,39 @@ use Rattle.disk_model.specs.DiskLaws.{IsLawful}
 use Rattle.disk_model.specs.History.{Event, Past, held}
 use Rattle.disk_model.specs.MemDisk.{numbers_of}
 use Rattle.disk_model.specs.declared.schedule.Cut.{Cut}
-use Rattle.journal.specs.Opening.{AnswersByCuts, IsExcused, IsOfFile, IsOpening, IsRefusal}
+use Rattle.journal.specs.Journal.{StandsInFile, since_of}
+use Rattle.journal.specs.Opening.{AnswersByCuts, IsExcused, IsOfFile, IsOpening, IsRefusal, opening_calls}
+use Rattle.journal.specs.Store.{IsStore, IsUnborn}
 use Rattle.journal.specs.declared.open_fault.OpenFault.{OpenFault}
 use Rattle.journal.specs.declared.open_fault.OpenFault.TheVariants as fault
 use Rattle.suffix_list.specs.ListText.{RuleList}
+use Rattle.suffix_list.specs.Suffix.{Rule}
 use Rattle.script_actions.specs.Action.{PlainAction, PlainStep}
 use Rattle.durable_model.specs.Histories.{AgentOpening, opened_at}
 use Rattle.durable_model.specs.Saved.{IsValid, Saved, nothing_saved}
 use Rattle.row_store.specs.Bodies.{Refuses}
 use Rattle.row_store.specs.Bodies as bodies
 use Rattle.agent_core.specs.AgentView.{AgentView, may_of}
-use Rattle.agent_core.specs.Seen.{IsSeen}
+use Rattle.agent_core.specs.Calls.{checkpoint_calls}
+use Rattle.agent_core.specs.Seen.{AgentSeen, IsSeen}
 use Rattle.journal.proofs.Cuts.{fails_by_cut, first_ahead}
-use Rattle.store_runs.specs.Disks.{CutsOpening, IsMeantBy, IsRefusedOn, IsUnopened, OpensByCuts, WritesInMemory, WritesOn}
+use Rattle.journal.proofs.Refusals.{store_is_born}
+use Rattle.journal.proofs.Unique.{store_unique}
+use Rattle.store_runs.specs.CutBounds.{MeetsCuts, fault_places}
+use Rattle.store_runs.specs.Disks.{BeginsWithin, CutsOpening, IsMeantBy, IsRefusedOn, IsUnopened, LeavesDisk, OpensByCuts, WritesInMemory, WritesOn}
 use Rattle.store_runs.specs.Endings.{ending_of}
-use Rattle.store_runs.specs.Openings.{IsOpenedAt, just_opened, list_of}
-use Rattle.store_runs.specs.Faults.{LeavesDisk, RoseBy, faults_of}
+use Rattle.store_runs.specs.Openings.{IsOpenedAt, calls_before, just_opened, list_of}
+use Rattle.store_runs.specs.Faults.{RoseBy, faults_of}
 use Rattle.store_runs.specs.Runs.{HasNoCuts, WritesLines}
 use Rattle.store_runs.specs.Tidy.{LeavesTidy}
 use Rattle.store_runs.specs.declared.ending.Ending.{Ending}
 use Rattle.store_runs.specs.declared.ending.Ending.TheVariants.{Device, Memory, Store}
+use Rattle.store_runs.proofs.AgentLemmas.{due_few}
+use Rattle.store_runs.proofs.CutLemmas.{meets_later}
 use Rattle.store_runs.proofs.EndLemmas.{refused_exactly}
+use Rattle.store_runs.proofs.LoopLemmas.{opens_up}
 use Rattle.store_runs.proofs.StopLemmas.{writes_other}
+use Rattle.store_runs.proofs.TidyLemmas.{since_is, store_of}
 
 -- an empty disk has no bytes
 pub held_nothing : (past : Past) → past.first ≡ [] → past.events ≡ []
@@ -78,6 +90,38 @@ module _ (old new : View) (calls : ℕ) (before : IsLawful old) (after : IsLawfu
     λ is. let call = (fails_by_cut old new (cut ∷ cuts) (failed (err_is why fault.DeviceFault is))
         on told).1 in (first_ahead old cut cuts before told, omega (arith, call, most)),
   )
+
+-- ---- a checkpoint that is due before the first line
+
+-- none is where nothing changed since the snapshot
+none_yet : (checkpoint since : ℕ) → since ≡ 0 → (not (checkpoint == 0) && nat_le checkpoint since) ≡ false
+none_yet zero since none = refl
+none_yet (suc n) since none =
+    and_right (not (suc n == 0)) (nat_le (suc n) since) (lt-leb (suc n) since (omega (arith, none)))
+
+none_due_yet : {D : Type 0} (agent : AgentView D) (file : List ℕ) → StandsInFile agent.journal file []
+    → checkpoint_calls agent ≡ 0
+none_due_yet agent file stands =
+    ap (λ due. if due then 7 else 0) (none_yet agent.checkpoint (since_of agent.journal) (since_is agent.journal file [] stands))
+
+-- none is for a store that was just made
+made_none_due : {D : Type 0} (agent : AgentView D) (old view : View) (a : AgentSeen) (digest file : List ℕ)
+    → IsSeen agent view a → a.up ≡ true → IsLawful view → view.tells ≡ true → agent.journal.digest ≡ digest
+    → IsUnborn file → LeavesOnly old view (IsOpening digest file) → checkpoint_calls agent ≡ 0
+made_none_due agent old view a digest file seen up laws told is unborn only =
+    let has = laws.told told in
+    let now = has.0 in
+    let found = (seen.standing up).store.rests.stands now has.1 in
+    let store : IsStore digest now found.0 =
+    subst (λ d. IsStore d now found.0) is (store_of agent.journal now found.0 found.1) in
+    ⊎_elim
+    (λ same. absurd (store_is_born digest now found.0 store (subst IsUnborn (sym same) unborn)))
+    (λ made. ⊎_elim
+    (λ still. absurd (store_is_born digest now found.0 store still))
+    (λ fresh. none_due_yet agent now
+    (subst (StandsInFile agent.journal now) (store_unique digest now found.0 [] store fresh) found.1))
+    made.1)
+    (only.each now (laws.counts_now old.moment now only.later (laws.contents_may_stay now has.1)))
 
 -- ---- a run over a disk
 
@@ -127,34 +171,57 @@ module _ {D : Type 0} (list : RuleList) (start batch checkpoint : ℕ) (old view
     base = subst (λ rs. AtBase (just_opened rs (opened_at start base)).base (may_of agent view)) (sym is_rules) at;
   }
 
+  -- with so many calls made, or due
+  pub begins_within : view.tells ≡ true → IsSeen agent view (just_opened list.rules (opened_at start base))
+      → IsLawful view
+      → ((c : List ℕ) → old.contents ≡ Some c → view.changing ≤ old.changing + opening_calls c)
+      → (IsSettled old → (c : List ℕ) → old.contents ≡ Some c → LeavesOnly old view (IsOpening list.digest c))
+      → BeginsWithin (calls_before agent view) old
+  begins_within told seen laws calls moments = record {
+    found = λ c contents. omega (arith, calls c contents, due_few agent);
+    made = λ settled c contents unborn. omega (
+      arith,
+      calls c contents,
+      made_none_due agent old view (just_opened list.rules (opened_at start base)) list.digest c seen
+          (opens_up list.rules (opened_at start base)) laws told is_digest unborn (moments settled c contents),
+    );
+  }
+
   -- and the lines ran
   pub opened_writes : IsValid base → (ending : Ending) (new : View) (steps : List PlainStep)
       (before after : Option (List ℕ)) → IsPowered old view → view.faults ≡ old.faults
-      → IsMeantBy list old base → OpensByCuts (Ok tt) old
+      → IsMeantBy list old base → OpensByCuts (Ok tt) old → BeginsWithin (calls_before agent view) old
       → WritesLines ending agent.memory.rules agent.batch agent.checkpoint (opened_at start base)
       (HasNoCuts view) steps before after (LeavesDisk ending (list_of agent) agent.batch
-      (opened_at start base) view new) → WritesOn ending list start batch checkpoint old steps before after new
-  opened_writes valid ending new steps before after powered faults means cuts written =
+      (opened_at start base) (calls_before agent view) view new) → WritesOn ending list start batch checkpoint old steps before after new
+  opened_writes valid ending new steps before after powered faults means cuts begins written =
+      let calls = calls_before agent view in
       let x : AgentOpening = opened_at start base in
-      let left : History PlainAction → Type 0 = LeavesDisk ending list batch x view new in
+      let left : History PlainAction → Type 0 = LeavesDisk ending list batch x calls view new in
       let in_batches : WritesLines ending agent.memory.rules batch checkpoint x (HasNoCuts view)
-      steps before after (LeavesDisk ending (list_of agent) batch x view new) =
+      steps before after (LeavesDisk ending (list_of agent) batch x calls view new) =
       subst (λ n. WritesLines ending agent.memory.rules batch n x (HasNoCuts view) steps before after
-      (LeavesDisk ending (list_of agent) batch x view new)) is_checkpoint
+      (LeavesDisk ending (list_of agent) batch x calls view new)) is_checkpoint
       (subst (λ n. WritesLines ending agent.memory.rules n agent.checkpoint x (HasNoCuts view)
-      steps before after (LeavesDisk ending (list_of agent) n x view new)) is_batch written) in
+      steps before after (LeavesDisk ending (list_of agent) n x calls view new)) is_batch written) in
       let same : list_of agent ≡ list = λ i. record { rules = is_rules i; digest = is_digest i } in
       let under : WritesLines ending list.rules batch checkpoint x (HasNoCuts view) steps before after left =
       subst (λ (l : RuleList). WritesLines ending l.rules batch checkpoint x (HasNoCuts view)
-      steps before after (LeavesDisk ending l batch x view new)) same in_batches in
+      steps before after (LeavesDisk ending l batch x calls view new)) same in_batches in
       inr (
         base,
         valid,
         means,
         cuts,
+        calls,
+        begins,
         writes_other list.rules batch checkpoint x (HasNoCuts old) (HasNoCuts view) left
-            (LeavesDisk ending list batch x old new) (λ none. (powered.after, powered.cuts ∙ none.1))
-            (λ history l. (l.0, subst (λ n. RoseBy (faults_of ending history) n new.faults) faults l.1))
+            (LeavesDisk ending list batch x calls old new) (λ none. (powered.after, powered.cuts ∙ none.1))
+            (λ history l. (
+              l.0,
+              subst (λ n. RoseBy (faults_of ending history) n new.faults) faults l.1,
+              λ numbers told on. l.2 numbers (powered.cuts ∙ told) powered.after,
+            ))
             before after ending steps under,
       )
 
@@ -167,7 +234,7 @@ tidy_under checkpoint mine digest own images is same tidy =
 -- ---- a run in memory
 
 module _ (cuts : List Cut) (old : View) (empty : old.contents ≡ Some []) (on : old.off ≡ false)
-    (told : old.cuts ≡ Some (numbers_of cuts)) (first : old.changing ≡ 0) where
+    (told : old.cuts ≡ Some (numbers_of cuts)) (first : old.changing ≡ 0) (settled : IsSettled old) where
   -- where there are no cuts, no call can fail
   no_cuts : cuts ≡ [] → HasNoCuts old
   no_cuts none = (on, told ∙ ap (λ cs. Some (numbers_of cs)) none)
@@ -201,6 +268,11 @@ module _ (cuts : List Cut) (old : View) (empty : old.contents ≡ Some []) (on :
       few : (len : ℕ) → len ≡ length {A = ℕ} [] → 1073741824 < len → ⊥
       few len is less = omega (arith, is, less)
 
+  -- its faults are met by the cuts
+  abbrev MeetsNumbers : Ending → List Rule → ℕ → AgentOpening → History PlainAction → Type 0
+  MeetsNumbers ending rules batch opening history =
+      MeetsCuts (opening_calls []) (numbers_of cuts) (fault_places rules batch ending opening history)
+
   -- a run over an empty disk
   pub memory_writes : (ending : Ending) (list : RuleList) (start batch checkpoint : ℕ) (new : View)
       (steps : List PlainStep) (before after : Option (List ℕ))
@@ -208,15 +280,20 @@ module _ (cuts : List Cut) (old : View) (empty : old.contents ≡ Some []) (on :
       → WritesInMemory ending list.rules start batch checkpoint cuts steps before after
   memory_writes ending list start batch checkpoint new steps before after (inl (why, is, refused)) =
       inl (subst (λ e. IsUnopened e cuts) (sym is) (unopened why list new before after refused), refused.text)
-  memory_writes ending list start batch checkpoint new steps before after (inr (base, valid, means, opens, written)) =
+  memory_writes ending list start batch checkpoint new steps before after (inr (base, valid, means, opens, calls, begins, written)) =
       let nothing : base ≡ nothing_saved = (means [] empty).alone nothing_saved 0 (inr (inl (omega arith), refl, refl)) in
+      let few : calls ≤ opening_calls [] = omega (arith, first, begins.made settled [] empty (inl (omega arith))) in
       let told_lines : WritesLines ending list.rules batch checkpoint (opened_at start base) (cuts ≡ [])
-      steps before after (λ history. Unit {0}) =
+      steps before after (MeetsNumbers ending list.rules batch (opened_at start base)) =
       writes_other list.rules batch checkpoint (opened_at start base) (cuts ≡ []) (HasNoCuts old)
-      (LeavesDisk ending list batch (opened_at start base) old new) (λ history. Unit {0}) no_cuts
-      (λ history l. tt) before after ending steps written in
+      (LeavesDisk ending list batch (opened_at start base) calls old new)
+      (MeetsNumbers ending list.rules batch (opened_at start base)) no_cuts
+      (λ history l. meets_later calls (opening_calls []) few (numbers_of cuts)
+      (fault_places list.rules batch ending (opened_at start base) history) (l.2 (numbers_of cuts) told on))
+      before after ending steps written in
       inr (
         opens_beyond cuts told opens,
         subst (λ d. WritesLines ending list.rules batch checkpoint
-            (opened_at start d) (cuts ≡ []) steps before after (λ history. Unit {0})) nothing told_lines,
+            (opened_at start d) (cuts ≡ []) steps before after (MeetsNumbers ending list.rules batch (opened_at start d)))
+            nothing told_lines,
       )

@@ -18,7 +18,8 @@ use Rattle.agent_core.specs.declared.agent.Power.{Power}
 use Rattle.agent_core.specs.declared.agent.Power.TheVariants.{Up}
 use Rattle.store_runs.specs.Calls.{StaysOrRose, Stops, Unsettled, over_run}
 use Rattle.store_runs.specs.Closing.{Closes, EndsWith, HoldsNone, IsEnd}
-use Rattle.store_runs.specs.Courses.{OnCourse, faults_on}
+use Rattle.store_runs.specs.Courses.{OnCourse}
+use Rattle.store_runs.specs.CutCourses.{faults_on}
 use Rattle.store_runs.specs.Faults.{RoseBy}
 use Rattle.store_runs.specs.Endings.{IsLimitEnding, IsStoreEnding, TellsPower, WriteCounts, ending_of}
 use Rattle.store_runs.specs.Tidy.{IsTidyAt}
@@ -181,23 +182,24 @@ ends_power rules a b may may' old new Write before now power up is_up ends = abs
 ends_power rules a b may may' old new (Store why) before now power up is_up ends = absurd ends
 
 -- the count of the disk's faults after it
-module _ (rules : List Rule) (batch : ℕ) (x : AgentOpening) (begin here : View) (a : AgentSeen)
-    (may : AgentMay) (steps : List PlainStep) (first out : Option (List ℕ)) (waiting : List ℕ)
-    (on : OnCourse rules batch x a may steps (over_run begin here (Unit {0})) first out waiting) where
+module _ {D : Type 0} (tell : D → View) (rules : List Rule) (batch : ℕ) (x : AgentOpening) (begin here : AgentView D)
+    (a : AgentSeen) (may : AgentMay) (steps : List PlainStep) (first out : Option (List ℕ)) (waiting : List ℕ)
+    (on : OnCourse rules batch x a may steps (over_run tell begin here (Unit {0})) first out waiting) where
   pub ends_device : (mine : List Rule) (b : AgentSeen) (may' : AgentMay) (new : View) (ending : Ending)
-      (now : List ℕ) → EndsWith mine a b may may' here new ending waiting now
-      → StaysOrRose here.faults new.faults → ending ≡ Device → Rose begin.faults new.faults
+      (now : List ℕ) → EndsWith mine a b may may' (tell here.disk) new ending waiting now
+      → StaysOrRose (tell here.disk).faults new.faults → ending ≡ Device → Rose (tell begin.disk).faults new.faults
   ends_device mine b may' new ending now ends stays is =
-      let failed = subst (λ e. EndsWith mine a b may may' here new e waiting now) is ends in
-      device_rose rules batch x (over_run begin here (Unit {0})) a may steps first out waiting on new.faults tt stays failed.3
+      let failed = subst (λ e. EndsWith mine a b may may' (tell here.disk) new e waiting now) is ends in
+      device_rose rules batch x (over_run tell begin here (Unit {0})) a may steps first out waiting on new.faults tt stays failed.3
 
   -- and did not fall before
   pub ends_later : (mine : List Rule) (b : AgentSeen) (may' : AgentMay) (new : View) (ending : Ending)
-      (now : List ℕ) → EndsWith mine a b may may' here new ending waiting now
-      → StaysOrRose here.faults new.faults → ending ≡ Done → (b.up ≡ true) × RoseBy 0 begin.faults new.faults
+      (now : List ℕ) → EndsWith mine a b may may' (tell here.disk) new ending waiting now
+      → StaysOrRose (tell here.disk).faults new.faults → ending ≡ Done
+      → (b.up ≡ true) × RoseBy 0 (tell begin.disk).faults new.faults
   ends_later mine b may' new ending now ends stays is = (
-    holds_up mine a b may may' (subst (λ e. EndsWith mine a b may may' here new e waiting now) is ends).0,
-    rose_by_stays (faults_on on.course) 0 begin.faults here.faults new.faults (omega arith) stays on.faults,
+    holds_up mine a b may may' (subst (λ e. EndsWith mine a b may may' (tell here.disk) new e waiting now) is ends).0,
+    rose_by_stays (faults_on on.course) 0 (tell begin.disk).faults (tell here.disk).faults new.faults (omega arith) stays on.faults,
   )
 
 -- ---- the checkpoint behind the last commit

@@ -7,3 +7,6 @@ pub mod DiskLemmas
 pub mod CountLemmas
 pub mod EndLemmas
 pub mod TidyLemmas
+pub mod CutLemmas
+pub mod KeepLemmas
+mod CutFacts

@@ -1,5 +1,5 @@
 -- What the loop over the lines keeps, and how it ends.
-use Rattle.std.proofs.Common.{◌≡◌, ◌≢◌, ℕ, ◌+◌, ◌<◌, ◌≤◌, ◌^◌, true, false, List, [], ◌∷◌, ◌++◌, Option, take, drop, length, get_or, inl, inr, refl, sym, ap, subst, ⊎_elim, ◌∙◌, append-nil, arith}
+use Rattle.std.proofs.Common.{◌≡◌, ◌≢◌, ℕ, ◌+◌, ◌<◌, ◌≤◌, ◌^◌, true, false, List, [], ◌∷◌, ◌++◌, Option, Some, take, drop, length, get_or, inl, inr, refl, sym, ap, subst, ⊎_elim, ◌∙◌, append-nil, arith}
 use Rattle.std.proofs.lemmas.Bool.{cases_Bool, false≢true}
 use Rattle.std.proofs.lemmas.List.{length-map, length-take-le, map-append, take-append-drop, take_more}
 use Rattle.agent_base.specs.Counts.{Rose}
@@ -23,9 +23,11 @@ use Rattle.agent_core.specs.Means.{AgentMay, Fails, Fits, Same, after_commit}
 use Rattle.agent_core.specs.Seen.{AgentSeen}
 use Rattle.printed_model.specs.Histories.{EndsUp, IsHistoryOf, history_text}
 use Rattle.printed_model.proofs.LeftLemmas.{left_of_answered, left_of_executed, left_of_kept}
-use Rattle.store_runs.specs.Calls.{IsQuiet, StaysOrRose}
-use Rattle.store_runs.specs.Closing.{Commits, EndsWith, HoldsNone}
-use Rattle.store_runs.specs.Courses.{Leaves, Marks, On, OnCourse, Steps, Watch, downs_on, faults_on, met_on, text_on, unshown}
+use Rattle.store_runs.specs.Calls.{Breaks, BreaksOff, IsQuiet, Pays, StaysOrRose}
+use Rattle.store_runs.specs.Closing.{Commits, EndsWith, HoldsNone, Spends}
+use Rattle.store_runs.specs.Courses.{Leaves, Marks, On, OnCourse, Steps, Watch, downs_on, text_on}
+use Rattle.store_runs.specs.CutCourses.{KeepsCuts, Moment, busy_on, faults_on, met_on, places_on, unshown}
+use Rattle.store_runs.specs.CutBounds.{MeetsCuts, MeetsToldCuts, fault_places}
 use Rattle.store_runs.specs.Faults.{RoseBy, epoch_faults, faults_of, last_faults}
 use Rattle.store_runs.specs.Openings.{just_opened}
 use Rattle.store_runs.specs.Runs.{Ran, Stopped, WritesLines}
@@ -35,6 +37,8 @@ use Rattle.waiting_lines.specs.Waiting.{TakesFront}
 use Rattle.store_runs.specs.declared.ending.Ending.{Ending}
 use Rattle.store_runs.specs.declared.ending.Ending.TheVariants.{Done, Device, Store, Write, Memory}
 use Rattle.store_runs.proofs.CountLemmas.{last_fault_met, last_fault_more, rose_by_fewer, rose_by_none, rose_by_rose, rose_by_stays, rose_later, some_fault, stays_more, unshown_up}
+use Rattle.store_runs.proofs.CutLemmas.{keeps_begun, keeps_last, keeps_shown, places_still}
+use Rattle.store_runs.proofs.KeepLemmas.{keeps_answered, keeps_broken, keeps_failed}
 use Rattle.store_runs.proofs.CourseLemmas.{nothing_held, nothing_printed, on_begun, on_fits, on_up, text_answered, up_after_commit}
 use Rattle.waiting_lines.proofs.PrefixLemmas.{front_end, front_more, front_none, front_part, front_then, prefix_all, prefix_front, prefix_longer}
 
@@ -64,6 +68,19 @@ unfolding committed
 committed_again rules a = forward_append (machine rules) keeping a.pending [] a.base
     ∙ ap (λ ms. forward (machine rules) keeping ms a.base) (append-nil a.pending)
 
+-- and nothing pending
+none_pending : (rules : List Rule) (a : AgentSeen) → length (after_commit rules a).pending ≡ 0
+unfolding committed
+none_pending rules a = refl
+
+-- an ending that shows no fault of its own
+abbrev IsUsual : Ending → Type 0
+IsUsual Done = Unit {0}
+IsUsual Device = ⊥
+IsUsual (Store why) = Unit {0}
+IsUsual Write = Unit {0}
+IsUsual Memory = Unit {0}
+
 -- an agent that was just opened is up
 pub opens_up : (rules : List Rule) (x : AgentOpening) → (just_opened rules x).up ≡ true
 unfolding reopened
@@ -72,30 +89,52 @@ opens_up rules x = refl
 module _ (rules : List Rule) (batch : ℕ) (x : AgentOpening) (watch : Watch) where
   -- no line has run yet
   pub course_begins : (a : AgentSeen) (may : AgentMay) (out : Option (List ℕ)) → watch.before ≤ watch.now
-      → a.up ≡ true → 0 < batch → a ≡ reopened (machine rules) keeping x.rest x.state → AtBase a.base may
+      → watch.to ≡ watch.from → a.up ≡ true → 0 < batch → a ≡ reopened (machine rules) keeping x.rest x.state → AtBase a.base may
       → OnCourse rules batch x a may [] watch out out []
   unfolding downs_on faults_on met_on
-  course_begins a may out later up some is base = record {
-    course = empty_course;
-    on = on_begun rules batch x a may some is base;
-    runs = refl;
-    downs = λ q. refl;
-    faults = rose_by_none watch.before watch.now later;
-    met = λ goes. rose_by_fewer 0 _ watch.before watch.now (omega (arith, unshown_up a.up [] up))
-        (rose_by_none watch.before watch.now later);
-    text = subst (λ t. TakesFront out out t []) (sym (nothing_printed rules x)) (front_none out);
-  }
+  course_begins a may out later same up some is base =
+      let keeps : (cuts : List ℕ) → watch.from.cuts ≡ Some cuts → watch.from.off ≡ false
+      → KeepsCuts rules batch x (watch.from.calls + watch.from.due) cuts a empty_course watch.from = λ cuts told on.
+      keeps_begun rules batch x (watch.from.calls + watch.from.due) cuts a watch.from told on refl up in
+      record {
+        course = empty_course;
+        on = on_begun rules batch x a may some is base;
+        runs = refl;
+        downs = λ q. refl;
+        faults = rose_by_none watch.before watch.now later;
+        met = λ goes. rose_by_fewer 0 _ watch.before watch.now (omega (arith, unshown_up a.up [] up))
+            (rose_by_none watch.before watch.now later);
+        shown = λ cuts told on. keeps_shown rules batch x (watch.from.calls + watch.from.due) cuts a empty_course watch.from
+            (keeps cuts told on);
+        cut = λ goes cuts told on. subst (KeepsCuts rules batch x (watch.from.calls + watch.from.due) cuts a empty_course)
+            (sym same) (keeps cuts told on);
+        text = subst (λ t. TakesFront out out t []) (sym (nothing_printed rules x)) (front_none out);
+      }
 
   -- some lines more
-  pub course_more : (ran : List PlainStep) (Now GoesOn : Type 0) (faults : ℕ) (a b : AgentSeen)
+  pub course_more : (ran : List PlainStep) (Now GoesOn : Type 0) (faults : ℕ) (to : Moment) (a b : AgentSeen)
       (may may' : AgentMay) (steps : List PlainStep) (first out : Option (List ℕ)) (waiting now text : List ℕ)
       → (watch.Quiet → Now) → watch.GoesOn
       → OnCourse rules batch x a may steps watch first out waiting
-      → Steps rules batch ran (record { Quiet = Now; GoesOn = GoesOn; before = watch.now; now = faults })
+      → Steps rules batch ran (record {
+        Quiet = Now;
+        GoesOn = GoesOn;
+        before = watch.now;
+        now = faults;
+        from = watch.to;
+        to = to;
+      })
       a may b may' text → now ≡ waiting ++ text
       → OnCourse rules batch x b may' (steps ++ ran)
-      (record { Quiet = watch.Quiet; GoesOn = GoesOn; before = watch.before; now = faults }) first out now
-  course_more ran Now GoesOn faults a b may may' steps first out waiting now text still goes on line is =
+      (record {
+        Quiet = watch.Quiet;
+        GoesOn = GoesOn;
+        before = watch.before;
+        now = faults;
+        from = watch.from;
+        to = to;
+      }) first out now
+  course_more ran Now GoesOn faults to a b may may' steps first out waiting now text still goes on line is =
       let next = line x on.course on.on in
       record {
         course = next.0;
@@ -104,6 +143,9 @@ module _ (rules : List Rule) (batch : ℕ) (x : AgentOpening) (watch : Watch) wh
         downs = λ q. next.2.downs (still q) ∙ on.downs q;
         faults = next.2.counted watch.before (on.met goes);
         met = λ on_goes. next.2.met on_goes watch.before (on.met goes);
+        shown = λ cuts told powered. next.2.shown (watch.from.calls + watch.from.due) cuts (on.cut goes cuts told powered);
+        cut = λ on_goes cuts told powered.
+            next.2.cut on_goes (watch.from.calls + watch.from.due) cuts (on.cut goes cuts told powered);
         text =
             subst (λ t. TakesFront first out t now) (sym next.2.prints)
             (subst (TakesFront first out (text_on rules x on.course ++ text)) (sym is)
@@ -122,6 +164,8 @@ module _ (rules : List Rule) (batch : ℕ) (x : AgentOpening) (watch : Watch) wh
       downs = on.downs;
       faults = on.faults;
       met = on.met;
+      shown = on.shown;
+      cut = on.cut;
       text = front_then first out later (text_on rules x on.course) waiting on.text rest took;
     }
 
@@ -178,6 +222,27 @@ module _ (rules : List Rule) (batch : ℕ) (x : AgentOpening) (watch : Watch) wh
     last_device now rose = rose_by_rose _ _ watch.before watch.now now
         (omega (arith, last_fault_more on.course.downs)) rose on.faults
 
+    -- each of them by a cut in time, since this was told first
+    abbrev MeetsHere : Ending → History PlainAction → Type 0
+    MeetsHere ending history = MeetsToldCuts (watch.from.calls + watch.from.due) watch.from.cuts watch.from.off
+        (fault_places rules batch ending x history)
+
+    lost_cuts : (ending : Ending) → IsUsual ending → MeetsHere ending lost
+    unfolding places_on busy_on
+    lost_cuts Done usual = on.shown
+    lost_cuts Device usual = absurd usual
+    lost_cuts Write usual = on.shown
+    lost_cuts Memory usual = on.shown
+    lost_cuts (Store why) usual = on.shown
+
+    -- the commit at the end met one
+    lost_device_cuts : (b : AgentSeen) (last : Moment) → watch.GoesOn → b.up ≡ false
+        → Breaks a.up (length a.pending) watch.to last → MeetsHere Device lost
+    lost_device_cuts b last goes down breaks cuts told powered =
+        let before = watch.from.calls + watch.from.due in
+        keeps_last rules batch x before cuts b on.course false last down
+        (keeps_failed rules batch x on.course a may on.on b watch.to last before cuts (on.cut goes cuts told powered) down breaks)
+
     lost_leaves : Leaves rules batch x may lost
     unfolding On
     lost_leaves d n left = left_of_kept rules batch x on.course on.on.batches on.on.whole on.on.short d n (on.on.images d n left)
@@ -194,6 +259,36 @@ module _ (rules : List Rule) (batch : ℕ) (x : AgentOpening) (watch : Watch) wh
       lines = steps_answered on.course ∙ on.runs;
       quiet = on.downs;
     }
+
+    answered_cuts : (ending : Ending) → IsUsual ending → a.up ≡ true → MeetsHere ending answered
+    unfolding places_on busy_on
+    answered_cuts ending usual up cuts told powered = by ending usual
+      where
+        here : MeetsCuts (watch.from.calls + watch.from.due) cuts (places_on rules batch x (answer_all on.course))
+        here = subst (MeetsCuts (watch.from.calls + watch.from.due) cuts)
+            (sym (places_still rules batch x on.course (answer_all on.course)
+            (on_up rules batch x on.course a may on.on up).0 refl refl)) (on.shown cuts told powered)
+
+        by : (ending : Ending) → IsUsual ending
+            → MeetsCuts (watch.from.calls + watch.from.due) cuts (fault_places rules batch ending x answered)
+        by Done usual = here
+        by Device usual = absurd usual
+        by Write usual = here
+        by Memory usual = here
+        by (Store why) usual = here
+
+    -- or the checkpoint behind that commit did
+    answered_device_cuts : (b c : AgentSeen) (here last : Moment) → watch.GoesOn → a.up ≡ true
+        → b ≡ after_commit rules a → c.up ≡ false → Pays (length a.pending) watch.to here
+        → Breaks b.up (length b.pending) here last → MeetsHere Device answered
+    answered_device_cuts b c here last goes up is down pays breaks cuts told powered =
+        let before = watch.from.calls + watch.from.due in
+        let still : b.up ≡ true = ap (λ s. s.up) is ∙ up_after_commit rules a in
+        let none : length b.pending ≡ 0 = ap (λ s. length s.pending) is ∙ none_pending rules a in
+        keeps_last rules batch x before cuts c (answer_all on.course) true last down
+        (keeps_broken rules batch x (answer_all on.course) b c here last before cuts
+        (keeps_answered rules batch x on.course a may on.on b watch.to here before cuts (on.cut goes cuts told powered) up still pays)
+        still down (subst (λ n. BreaksOff n here last) none (breaks.0 still)))
 
     answered_text : a.up ≡ true → history_text rules x answered ≡ text_on rules x on.course ++ text_of a.held
     unfolding history_replies text_on
@@ -251,13 +346,13 @@ module _ (rules : List Rule) (batch : ℕ) (x : AgentOpening) (watch : Watch) wh
     -- what a run wrote and left that ended so
     abbrev Writes : (checkpoint : ℕ) → (all : List PlainStep) → (later : Option (List ℕ)) → AgentMay → (now : ℕ) → Ending → Type 0
     Writes checkpoint all later may' now ending = WritesLines ending rules batch checkpoint x watch.Quiet all
-        first later (Marks rules batch x may' ending watch.before now)
+        first later (Marks rules batch x may' ending watch.before now watch.from)
 
     -- the run was stopped after these lines, and a part of what waits was written
     stopped : (all rest : List PlainStep) (later : Option (List ℕ)) (ending : Ending) (may' : AgentMay)
         (now : ℕ) → all ≡ steps ++ rest → TakesPrefix out later waiting
-        → Marks rules batch x may' ending watch.before now lost
-        → Stopped rules batch x watch.Quiet all first later (Marks rules batch x may' ending watch.before now)
+        → Marks rules batch x may' ending watch.before now watch.from lost
+        → Stopped rules batch x watch.Quiet all first later (Marks rules batch x may' ending watch.before now watch.from)
     stopped all rest later ending may' now parts took left = record {
       front = steps;
       rest = rest;
@@ -276,7 +371,7 @@ module _ (rules : List Rule) (batch : ℕ) (x : AgentOpening) (watch : Watch) wh
     pub course_stopped : (checkpoint : ℕ) (all rest : List PlainStep) (later : Option (List ℕ))
         → all ≡ steps ++ rest → TakesPrefix out later waiting → Writes checkpoint all later may watch.now Write
     course_stopped checkpoint all rest later parts took =
-        stopped all rest later Write may watch.now parts took (lost_leaves, lost_faults Write watch.now (omega arith) same_faults)
+        stopped all rest later Write may watch.now parts took (lost_leaves, lost_faults Write watch.now (omega arith) same_faults, lost_cuts Write tt)
 
     -- memory was wanting, and a part of what should wait does
     pub course_memory : (checkpoint : ℕ) (all rest : List PlainStep) (later : Option (List ℕ))
@@ -287,7 +382,7 @@ module _ (rules : List Rule) (batch : ℕ) (x : AgentOpening) (watch : Watch) wh
         (λ ok. subst (Writes checkpoint all later may watch.now) (sym ok.0)
         (stopped all rest later Memory may watch.now parts
         (subst (TakesPrefix out later) (sym is) (prefix_front out later shown more ok.1.0))
-        (lost_leaves, lost_faults Memory watch.now (omega arith) same_faults)))
+        (lost_leaves, lost_faults Memory watch.now (omega arith) same_faults, lost_cuts Memory tt)))
         (λ fault. subst (Writes checkpoint all later may watch.now) (sym fault.0)
         (course_stopped checkpoint all rest later parts
         (subst (TakesPrefix out later) (sym is) (prefix_longer out later shown more fault.1.0))))
@@ -299,16 +394,17 @@ module _ (rules : List Rule) (batch : ℕ) (x : AgentOpening) (watch : Watch) wh
     -- the end left this
     module _ (checkpoint : ℕ) (may' : AgentMay) (now : ℕ) (stays : StaysOrRose watch.now now) where
       -- the lines that waited were committed
-      answered_marks : (ending : Ending) → last_faults ending on.course.downs ≤ epoch_faults on.course.downs
-          → IsStored may' → Marks rules batch x may' ending watch.before now answered
-      answered_marks ending few stored = (answered_leaves may' stored, lost_faults ending now few stays)
+      answered_marks : (ending : Ending) → IsUsual ending → last_faults ending on.course.downs ≤ epoch_faults on.course.downs
+          → IsStored may' → Marks rules batch x may' ending watch.before now watch.from answered
+      answered_marks ending usual few stored =
+          (answered_leaves may' stored, lost_faults ending now few stays, answered_cuts ending usual stored.0)
 
       -- and a part of the text was written
-      answered_stopped : (ending : Ending) (later : Option (List ℕ))
+      answered_stopped : (ending : Ending) (later : Option (List ℕ)) → IsUsual ending
           → last_faults ending on.course.downs ≤ epoch_faults on.course.downs → IsStored may'
           → TakesPrefix out later (waiting ++ text_of a.held)
-          → Stopped rules batch x watch.Quiet steps first later (Marks rules batch x may' ending watch.before now)
-      answered_stopped ending later few stored took = record {
+          → Stopped rules batch x watch.Quiet steps first later (Marks rules batch x may' ending watch.before now watch.from)
+      answered_stopped ending later usual few stored took = record {
         front = steps;
         rest = [];
         parts = no_rest;
@@ -320,13 +416,13 @@ module _ (rules : List Rule) (batch : ℕ) (x : AgentOpening) (watch : Watch) wh
             (front_part first out later (text_on rules x on.course ++ text_of a.held)
             (waiting ++ text_of a.held) (front_more first out out (text_on rules x on.course)
             waiting on.text (text_of a.held)) took);
-        left = answered_marks ending few stored;
+        left = answered_marks ending usual few stored;
       }
 
       -- or all of it was
       abbrev answered_ran : (ending : Ending) (later : Option (List ℕ)) → IsStored may'
-          → Takes out later (waiting ++ text_of a.held) → Marks rules batch x may' ending watch.before now answered
-          → Ran rules batch x watch.Quiet steps first later (Marks rules batch x may' ending watch.before now)
+          → Takes out later (waiting ++ text_of a.held) → Marks rules batch x may' ending watch.before now watch.from answered
+          → Ran rules batch x watch.Quiet steps first later (Marks rules batch x may' ending watch.before now watch.from)
       answered_ran ending later stored took marks = record {
         history = answered;
         «is» = answered_is stored.0;
@@ -349,11 +445,11 @@ module _ (rules : List Rule) (batch : ℕ) (x : AgentOpening) (watch : Watch) wh
       done_ended ending waits later count rose stored is ended = ⊎_elim
           (λ ok. subst (Writes checkpoint steps later may' now) (sym ok.0) (
             answered_ran Done later stored (subst (Takes out later) is ok.1.0)
-                (answered_marks Done (omega arith) stored),
+                (answered_marks Done tt (omega arith) stored),
             answered_up stored,
           ))
           (λ fault. subst (Writes checkpoint steps later may' now) (sym fault.0)
-          (answered_stopped Write later (omega arith) stored (subst (TakesPrefix out later) is fault.1.0)))
+          (answered_stopped Write later tt (omega arith) stored (subst (TakesPrefix out later) is fault.1.0)))
           ended
 
       -- they were, and memory was wanting for their text
@@ -361,40 +457,45 @@ module _ (rules : List Rule) (batch : ℕ) (x : AgentOpening) (watch : Watch) wh
           → Ended Memory ending out later count rose waiting → Writes checkpoint steps later may' now ending
       answered_memory ending later count rose stored ended = ⊎_elim
           (λ ok. subst (Writes checkpoint steps later may' now) (sym ok.0)
-          (answered_stopped Memory later (omega arith) stored (prefix_front out later waiting (text_of a.held) ok.1.0)))
+          (answered_stopped Memory later tt (omega arith) stored (prefix_front out later waiting (text_of a.held) ok.1.0)))
           (λ fault. subst (Writes checkpoint steps later may' now) (sym fault.0)
-          (answered_stopped Write later (omega arith) stored (prefix_longer out later waiting (text_of a.held) fault.1.0)))
+          (answered_stopped Write later tt (omega arith) stored (prefix_longer out later waiting (text_of a.held) fault.1.0)))
           ended
 
       -- they were, all was written, and the checkpoint behind their commit failed
       checkpoint_ended : (later : Option (List ℕ)) → checkpoint ≢ 0 → (watch.Quiet → ⊥) → Rose watch.now now
-          → IsStored may' → Takes out later (waiting ++ text_of a.held) → Writes checkpoint steps later may' now Device
-      checkpoint_ended later some loud rose stored took = (
-        answered_ran Device later stored took (answered_leaves may' stored, last_device now rose),
+          → MeetsHere Device answered → IsStored may' → Takes out later (waiting ++ text_of a.held) → Writes checkpoint steps later may' now Device
+      checkpoint_ended later some loud rose meets stored took = (
+        answered_ran Device later stored took (answered_leaves may' stored, last_device now rose, meets),
         inr (some, answered_up stored),
         loud,
       )
 
       -- the last commit failed
-      device_ended : (b : AgentSeen) (ending : Ending) (later : Option (List ℕ)) (count rose : ℕ)
-          → watch.GoesOn → (a.up ≡ true → Rose watch.now now) → (watch.Quiet → ⊥)
+      device_ended : (b : AgentSeen) (last : Moment) (ending : Ending) (later : Option (List ℕ)) (count rose : ℕ)
+          → watch.GoesOn → (a.up ≡ true → Rose watch.now now) → Breaks a.up (length a.pending) watch.to last
+          → (watch.Quiet → ⊥)
           → Fails rules a a b may may' (a.up ≡ true) → Ended Device ending out later count rose waiting
           → Writes checkpoint steps later may' now ending
-      device_ended b ending later count rose on_goes fell loud goes ended = ⊎_elim
+      device_ended b last ending later count rose on_goes fell breaks loud goes ended = ⊎_elim
           (λ ok. subst (Writes checkpoint steps later may' now) (sym ok.0) (
             record {
               history = lost;
               «is» = lost_is;
               text = subst (Takes first later) (sym lost_text)
                   (front_end first out later (text_on rules x on.course) waiting on.text ok.1.0);
-              left = (tried_leaves b may' goes, lost_device now on_goes stays fell);
+              left = (
+                tried_leaves b may' goes,
+                lost_device now on_goes stays fell,
+                lost_device_cuts b last on_goes goes.down breaks,
+              );
             },
             inl (inr refl),
             loud,
           ))
           (λ fault. subst (Writes checkpoint steps later may' now) (sym fault.0)
           (stopped steps [] later Write may' now no_rest fault.1.0
-          (tried_leaves b may' goes, lost_faults Write now (omega arith) stays)))
+          (tried_leaves b may' goes, lost_faults Write now (omega arith) stays, lost_cuts Write tt)))
           ended
 
       -- memory was wanting, and the agent is as it was
@@ -405,9 +506,9 @@ module _ (rules : List Rule) (batch : ℕ) (x : AgentOpening) (watch : Watch) wh
           ⊎_elim
           (λ ok. subst (Writes checkpoint steps later may' now) (sym ok.0)
           (stopped steps [] later Memory may' now no_rest (prefix_all out later waiting ok.1.0)
-          (leaves, lost_faults Memory now (omega arith) stays)))
+          (leaves, lost_faults Memory now (omega arith) stays, lost_cuts Memory tt)))
           (λ fault. subst (Writes checkpoint steps later may' now) (sym fault.0)
-          (stopped steps [] later Write may' now no_rest fault.1.0 (leaves, lost_faults Write now (omega arith) stays)))
+          (stopped steps [] later Write may' now no_rest fault.1.0 (leaves, lost_faults Write now (omega arith) stays, lost_cuts Write tt)))
           ended
 
     -- what a last commit that is done leaves
@@ -415,28 +516,28 @@ module _ (rules : List Rule) (batch : ℕ) (x : AgentOpening) (watch : Watch) wh
     last_commits b may' holds = nothing_held rules batch x on.course a b may may' on.on holds
 
     -- the end of the lines
-    pub course_ends : (checkpoint : ℕ) (b : AgentSeen) (may' : AgentMay) (old new : View)
+    pub course_ends : (checkpoint : ℕ) (b : AgentSeen) (may' : AgentMay) (old new : View) (last : Moment)
         (asking ending : Ending) (waits : List ℕ) (later : Option (List ℕ)) (count rose : ℕ)
         → watch.now ≡ old.faults → watch.GoesOn → (watch.Quiet → IsQuiet a old)
         → EndsWith rules a b may may' old new asking waiting waits → StaysOrRose old.faults new.faults
-        → Ended asking ending out later count rose waits → Writes checkpoint steps later may' new.faults ending
-    course_ends checkpoint b may' old new Done ending waits later count rose is goes still ends stays ended =
+        → Spends asking a watch.to last → Ended asking ending out later count rose waits → Writes checkpoint steps later may' new.faults ending
+    course_ends checkpoint b may' old new last Done ending waits later count rose is goes still ends stays spends ended =
         done_ended checkpoint may' new.faults (subst (λ n. StaysOrRose n new.faults) (sym is) stays)
         ending waits later count rose (commits_stored b may' (last_commits b may' ends.0)) ends.1 ended
-    course_ends checkpoint b may' old new Device ending waits later count rose is goes still ends stays ended =
+    course_ends checkpoint b may' old new last Device ending waits later count rose is goes still ends stays spends ended =
         device_ended checkpoint may' new.faults (subst (λ n. StaysOrRose n new.faults) (sym is) stays)
-        b ending later count rose goes (λ up. subst (λ n. Rose n new.faults) (sym is) (ends.3 up))
+        b last ending later count rose goes (λ up. subst (λ n. Rose n new.faults) (sym is) (ends.3 up)) spends
         (λ q. ends.2 (still q)) ends.0
         (subst (Ended Device ending out later count rose) ends.1 ended)
-    course_ends checkpoint b may' old new Memory ending waits later count rose is goes still ends stays ended =
+    course_ends checkpoint b may' old new last Memory ending waits later count rose is goes still ends stays spends ended =
         let left : Ended Memory ending out later count rose waiting =
         subst (Ended Memory ending out later count rose) ends.1 ended in
         let stayed = subst (λ n. StaysOrRose n new.faults) (sym is) stays in
         ⊎_elim (λ done. answered_memory checkpoint may' new.faults stayed ending later count rose
         (commits_stored b may' done) left) (λ same. same_memory checkpoint may' new.faults stayed b ending
         later count rose same left) ends.0
-    course_ends checkpoint b may' old new Write ending waits later count rose is goes still ends stays ended = absurd ends
-    course_ends checkpoint b may' old new (Store why) ending waits later count rose is goes still ends stays ended = absurd ends
+    course_ends checkpoint b may' old new last Write ending waits later count rose is goes still ends stays spends ended = absurd ends
+    course_ends checkpoint b may' old new last (Store why) ending waits later count rose is goes still ends stays spends ended = absurd ends
 
     -- and the checkpoint behind the last commit, once all is written
     module _ (checkpoint : ℕ) (some : checkpoint ≢ 0) (b c : AgentSeen) (may' after : AgentMay)
@@ -444,7 +545,8 @@ module _ (rules : List Rule) (batch : ℕ) (x : AgentOpening) (watch : Watch) wh
         (still : watch.Quiet → IsQuiet a old)
         (ends : EndsWith rules a b may may' old here Done waiting waits)
         (stays : StaysOrRose old.faults here.faults) (more : StaysOrRose here.faults new.faults)
-        (took : Takes out later waits) where
+        (took : Takes out later waits) (goes : watch.GoesOn) (then last : Moment)
+        (pays : Pays (length a.pending) watch.to then) where
       done : Commits rules a b may'
       done = last_commits b may' ends.0
 
@@ -455,22 +557,23 @@ module _ (rules : List Rule) (batch : ℕ) (x : AgentOpening) (watch : Watch) wh
       all_taken = subst (Takes out later) ends.1 took
 
       pub course_closes : (ending : Ending) → EndsWith rules b c may' after here new ending [] []
-          → Writes checkpoint steps later after new.faults ending
-      course_closes Done last =
-          let stored = ⊎_elim (stored_again b c may' after done) (λ same. stored_still b c may' after done same.2) last.0 in (
+          → Spends ending b then last → Writes checkpoint steps later after new.faults ending
+      course_closes Done ends_last spends =
+          let stored = ⊎_elim (stored_again b c may' after done) (λ same. stored_still b c may' after done same.2) ends_last.0 in (
             answered_ran checkpoint after new.faults kept Done later stored all_taken
-                (answered_marks checkpoint after new.faults kept Done (omega arith) stored),
+                (answered_marks checkpoint after new.faults kept Done tt (omega arith) stored),
             answered_up checkpoint after new.faults kept stored,
           )
-      course_closes Device last =
+      course_closes Device ends_last spends =
           let up : b.up ≡ true = ap (λ s. s.up) done.1 ∙ up_after_commit rules a in
           let rose : Rose watch.now new.faults = subst (λ n. Rose n new.faults) (sym is)
-          (rose_later old.faults here.faults new.faults stays (last.3 up)) in
-          checkpoint_ended checkpoint after new.faults kept later some (λ q. last.2 (ends.2 (still q))) rose
-          (stored_down b c may' after done last.0) all_taken
-      course_closes Memory last =
-          let stored = ⊎_elim (stored_again b c may' after done) (stored_still b c may' after done) last.0 in
-          answered_stopped checkpoint after new.faults kept Memory later (omega arith) stored
+          (rose_later old.faults here.faults new.faults stays (ends_last.3 up)) in
+          checkpoint_ended checkpoint after new.faults kept later some (λ q. ends_last.2 (ends.2 (still q))) rose
+          (answered_device_cuts b c then last goes done.0 done.1 ends_last.0.down pays spends)
+          (stored_down b c may' after done ends_last.0) all_taken
+      course_closes Memory ends_last spends =
+          let stored = ⊎_elim (stored_again b c may' after done) (stored_still b c may' after done) ends_last.0 in
+          answered_stopped checkpoint after new.faults kept Memory later tt (omega arith) stored
           (prefix_all out later (waiting ++ text_of a.held) all_taken)
-      course_closes Write last = absurd last
-      course_closes (Store why) last = absurd last
+      course_closes Write ends_last spends = absurd ends_last
+      course_closes (Store why) ends_last spends = absurd ends_last

@@ -14,15 +14,17 @@ use Rattle.durable_model.specs.Keeping.{durable_of}
 use Rattle.durable_model.specs.Saved.{nothing_saved}
 use Rattle.row_store.specs.Bodies as bodies
 use Rattle.agent_core.specs.AgentView.{AgentView, may_find, may_of, since_opening}
+use Rattle.agent_core.specs.Calls.{checkpoint_calls}
 use Rattle.agent_core.specs.Means.{AgentMay}
 use Rattle.agent_core.specs.Seen.{AgentSeen, IsSeen}
 use Rattle.printed_model.specs.Histories.{IsHistoryOf}
 use Rattle.agent_base.specs.Streams.{TakesPrefix}
 use Rattle.store_runs.specs.Calls.{Called, IsQuiet, Settled, Stepped, Stops, Unsettled, over_call, over_run}
-use Rattle.store_runs.specs.Closing.{Closes, Ends, EndsWith}
+use Rattle.store_runs.specs.Closing.{Closes, Ends, EndsWith, Spends}
 use Rattle.store_runs.specs.Courses.{Leaves, Marks, OnCourse, Steps, Watch}
-use Rattle.store_runs.specs.Faults.{LeavesDisk}
-use Rattle.store_runs.specs.Openings.{GoesOn, IsOpenedAt, list_of}
+use Rattle.store_runs.specs.CutCourses.{moment_of}
+use Rattle.store_runs.specs.Disks.{LeavesDisk}
+use Rattle.store_runs.specs.Openings.{GoesOn, IsOpenedAt, calls_before, list_of}
 use Rattle.store_runs.specs.Runs.{HasNoCuts, LeavesHistory, Ran, Stopped, WritesLines}
 use Rattle.store_runs.specs.Steps.{steps_of}
 use Rattle.store_runs.specs.Waiting.{Ended}
@@ -93,19 +95,23 @@ left_files v view b list batch x history told seen is_rules is_digest leaves fil
 
 -- so a run leaves what it leaves to a restart, and the count of its disk
 pub writes_files : {D : Type 0} (v : AgentView D) (old view : View) (b : AgentSeen) (list : RuleList)
-    (batch checkpoint : ℕ) (x : AgentOpening) (Quiet : Type 0) (steps : List PlainStep)
+    (batch checkpoint : ℕ) (x : AgentOpening) (calls due : ℕ) (Quiet : Type 0) (steps : List PlainStep)
     (before after : Option (List ℕ)) (ending : Ending)
     → view.tells ≡ true → IsSeen v view b → v.memory.rules ≡ list.rules → v.journal.digest ≡ list.digest
     → WritesLines ending list.rules batch checkpoint x Quiet steps before after
-    (Marks list.rules batch x (may_of v view) ending old.faults view.faults)
-    → WritesLines ending list.rules batch checkpoint x Quiet steps before after (LeavesDisk ending list batch x old view)
-writes_files v old view b list batch checkpoint x Quiet steps before after ending told seen is_rules is_digest written =
+    (Marks list.rules batch x (may_of v view) ending old.faults view.faults
+    (record { cuts = old.cuts; calls = calls; off = old.off; due = due }))
+    → WritesLines ending list.rules batch checkpoint x Quiet steps before after
+    (LeavesDisk ending list batch x (calls + due) old view)
+writes_files v old view b list batch checkpoint x calls due Quiet steps before after ending told seen is_rules is_digest written =
     writes_other list.rules batch checkpoint x Quiet Quiet
-    (Marks list.rules batch x (may_of v view) ending old.faults view.faults)
-    (LeavesDisk ending list batch x old view) (λ q. q)
+    (Marks list.rules batch x (may_of v view) ending old.faults view.faults
+    (record { cuts = old.cuts; calls = calls; off = old.off; due = due }))
+    (LeavesDisk ending list batch x (calls + due) old view) (λ q. q)
     (λ history marks. (
       left_files v view b list batch x history told seen is_rules is_digest marks.0,
       marks.1,
+      marks.2,
     )) before after ending steps written
 
 -- ---- where a run stands
@@ -149,7 +155,7 @@ goes_then tell first old new was goes = record {
 module _ {D : Type 0} (tell : D → View) (agent : AgentView D) (x : AgentOpening) (first : Option (List ℕ)) where
   -- what is known of faults so far
   abbrev watched : AgentView D → Type 0 → Watch
-  watched v GoesOn = over_run (tell agent.disk) (tell v.disk) GoesOn
+  watched v GoesOn = over_run tell agent v GoesOn
 
   -- the agent, as it is now, stands on a course of these lines
   abbrev pub StandsOn : AgentView D → List PlainStep → Option (List ℕ) → List ℕ → Type 0
@@ -161,7 +167,8 @@ module _ {D : Type 0} (tell : D → View) (agent : AgentView D) (x : AgentOpenin
   abbrev pub Wrote : List PlainStep → Ending → Option (List ℕ) → AgentView D → Type 0
   Wrote all ending later v =
       WritesLines ending agent.memory.rules agent.batch agent.checkpoint x (HasNoCuts (tell agent.disk))
-      all first later (LeavesDisk ending (list_of agent) agent.batch x (tell agent.disk) (tell v.disk))
+      all first later (LeavesDisk ending (list_of agent) agent.batch x (calls_before agent (tell agent.disk))
+      (tell agent.disk) (tell v.disk))
 
   module _ (opened : IsOpenedAt agent (tell agent.disk) x) where
     -- by what it leaves to a restart
@@ -169,9 +176,10 @@ module _ {D : Type 0} (tell : D → View) (agent : AgentView D) (x : AgentOpenin
         → (all : List PlainStep) (ending : Ending) (later : Option (List ℕ))
         → WritesLines ending agent.memory.rules agent.batch agent.checkpoint x (HasNoCuts (tell agent.disk))
         all first later (Marks agent.memory.rules agent.batch x (may_of v (tell v.disk)) ending
-        (tell agent.disk).faults (tell v.disk).faults) → Wrote all ending later v
+        (tell agent.disk).faults (tell v.disk).faults (moment_of tell agent)) → Wrote all ending later v
     files_written v goes b seen all ending later written =
         writes_files v (tell agent.disk) (tell v.disk) b (list_of agent) agent.batch agent.checkpoint x
+        (tell agent.disk).changing (checkpoint_calls agent)
         (HasNoCuts (tell agent.disk)) all first later ending (goes.tells ∙ opened.tells) seen goes.rules goes.digest written
 
     module _ (old : AgentView D) (was : GoesOn tell agent old) (ran : List PlainStep)
@@ -192,13 +200,13 @@ module _ {D : Type 0} (tell : D → View) (agent : AgentView D) (x : AgentOpenin
           a may ran first out waiting stands.3 few in
           let all = called (was.tells ∙ opened.tells) some_lines a stands.1 fits in
           let line = steps_under agent.memory.rules old.memory.rules agent.batch old.batch more
-          (over_call a (tell old.disk) (tell new.disk) GoesOn) a may all.0 (may_of new (tell new.disk))
+          (over_call tell a old new GoesOn) a may all.0 (may_of new (tell new.disk))
           text was.rules was.batch all.2 in (
             all.0,
             all.1,
             (λ goes none. all.3 goes (stands.2 none)),
             course_more agent.memory.rules agent.batch x (watched old (Unit {0})) more
-                (IsQuiet a (tell old.disk)) GoesOn (tell new.disk).faults a all.0 may
+                (IsQuiet a (tell old.disk)) GoesOn (tell new.disk).faults (moment_of tell new) a all.0 may
                 (may_of new (tell new.disk)) ran first out waiting (waiting ++ text) text stands.2 tt stands.3 line refl,
           )
 
@@ -320,8 +328,8 @@ module _ {D : Type 0} (tell : D → View) (agent : AgentView D) (x : AgentOpenin
           files_written here gone all.0 all.1 ran asked later
           (course_ends agent.memory.rules agent.batch x (watched old (Unit {0})) a
           (may_of old (tell old.disk)) ran first out waiting stands.3 agent.checkpoint all.0
-          (may_of here (tell here.disk)) (tell old.disk) (tell here.disk) asking asked waits later count rose refl tt stands.2
-          with_rules all.3 ended) in
+          (may_of here (tell here.disk)) (tell old.disk) (tell here.disk) (moment_of tell here) asking asked waits later
+          count rose refl tt stands.2 with_rules all.3 all.4 ended) in
           ⊎_elim
           (λ same. subst (λ e. Wrote ran e later new) (sym same.0) (subst (Wrote ran asked later) (sym same.1) first_end))
           (λ last.
@@ -337,5 +345,6 @@ module _ {D : Type 0} (tell : D → View) (agent : AgentView D) (x : AgentOpenin
           (tell new.disk) waits later refl stands.2
           (subst (λ e. EndsWith agent.memory.rules a all.0 (may_of old (tell old.disk))
           (may_of here (tell here.disk)) (tell old.disk) (tell here.disk) e waiting waits)
-          done.0 with_rules) all.3 more.3 done.1 answered checkpoint_rules))
+          done.0 with_rules) all.3 more.3 done.1 tt (moment_of tell here) (moment_of tell new)
+          (subst (λ e. Spends e a (moment_of tell old) (moment_of tell here)) done.0 all.4) answered checkpoint_rules more.4))
           closes

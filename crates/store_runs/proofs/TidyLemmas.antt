@@ -18,13 +18,13 @@ few_changes checkpoint journal none = ⊎_elim
     (and_cases (not (checkpoint == 0)) (nat_le checkpoint (since_of journal)) none)
 
 -- the changes behind the snapshot are those that the journal counts
-since_is : (journal : JournalView) (file : List ℕ) (frames : List Frame) → StandsInFile journal file frames
+pub since_is : (journal : JournalView) (file : List ℕ) (frames : List Frame) → StandsInFile journal file frames
     → since_of journal ≡ changes_since frames
 since_is journal file frames stands =
     ap (λ changes. (changes + (2 ^ 64 - journal.base)) % 2 ^ 64) stands.last
     ∙ ap (λ base. (last_of 0 frames + (2 ^ 64 - base)) % 2 ^ 64) stands.base
 
-store_of : (journal : JournalView) (file : List ℕ) (frames : List Frame) → StandsInFile journal file frames
+pub store_of : (journal : JournalView) (file : List ℕ) (frames : List Frame) → StandsInFile journal file frames
     → IsStore journal.digest file frames
 store_of journal file frames stands = record {
   live = journal.live;

@@ -1,16 +1,18 @@
 -- What each call of an agent makes of the courses that it stands on, and of faults. Only private
 -- functions see it.
 -- Source: none; these are the words of the general law.
-use Rattle.std.specs.Prelude.{◌≡◌, ◌⊎◌, ℕ, ◌<◌, true, false, List, [], ◌∷◌, ◌++◌, Option, Some}
+use Rattle.std.specs.Prelude.{◌≡◌, ◌⊎◌, ℕ, ◌+◌, ◌*◌, ◌<◌, ◌≤◌, min, Bool, true, false, List, []}
+use Rattle.std.specs.Prelude.{◌∷◌, ◌++◌, Option, Some}
 use Rattle.agent_base.specs.Counts.{Rose}
 use Rattle.agent_base.specs.Streams.{Takes, TakesPrefix}
-use Rattle.disk_model.specs.Disk.{View}
+use Rattle.disk_model.specs.Disk.{IsNextCut, View}
 use Rattle.journal.specs.Opening.{IsOfFile}
 use Rattle.script_actions.specs.Action.{PlainStep}
 use Rattle.agent_core.specs.AgentView.{AgentView, may_of}
 use Rattle.agent_core.specs.Means.{Fits}
 use Rattle.agent_core.specs.Seen.{AgentSeen, IsSeen}
 use Rattle.store_runs.specs.Courses.{Steps, Watch}
+use Rattle.store_runs.specs.CutCourses.{Moment, moment_of}
 use Rattle.store_runs.specs.Runs.{HasNoCuts}
 use Rattle.waiting_lines.specs.Waiting.{TakesFront}
 use Rattle.store_runs.specs.declared.ending.Ending.{Ending}
@@ -25,24 +27,66 @@ abbrev pub StaysOrRose : (before now : ℕ) → Type 0
 StaysOrRose before now = (now ≡ before) ⊎ Rose before now
 
 -- what is known of faults over a call, by what the disk told before it and tells now
-abbrev pub over_call : AgentSeen → (old new : View) → (GoesOn : Type 0) → Watch
-over_call a old new GoesOn =
+abbrev pub over_call : {D : Type 0} → (tell : D → View) → AgentSeen → (old new : AgentView D)
+    → (GoesOn : Type 0) → Watch
+over_call tell a old new GoesOn =
     record {
-      Quiet = IsQuiet a old;
+      Quiet = IsQuiet a (tell old.disk);
       GoesOn = GoesOn;
-      before = old.faults;
-      now = new.faults;
+      before = (tell old.disk).faults;
+      now = (tell new.disk).faults;
+      from = moment_of tell old;
+      to = moment_of tell new;
     }
 
 -- the same over a run so far
-abbrev pub over_run : (old new : View) → (GoesOn : Type 0) → Watch
-over_run old new GoesOn =
+abbrev pub over_run : {D : Type 0} → (tell : D → View) → (old new : AgentView D)
+    → (GoesOn : Type 0) → Watch
+over_run tell old new GoesOn =
     record {
-      Quiet = HasNoCuts old;
+      Quiet = HasNoCuts (tell old.disk);
       GoesOn = GoesOn;
-      before = old.faults;
-      now = new.faults;
+      before = (tell old.disk).faults;
+      now = (tell new.disk).faults;
+      from = moment_of tell old;
+      to = moment_of tell new;
     }
+
+-- how many changing calls follow at most from so many durable changes: a commit's, and those of the
+-- checkpoint that is due behind it
+abbrev pub spent : ℕ → ℕ
+spent changes = 11 * min 1 changes
+
+-- no call was cut, and as many were made and are due as follow from so many changes at most
+pub record Pays (changes : ℕ) (from to : Moment) : Type 0 where
+  pub cuts : to.cuts ≡ from.cuts
+  pub off : to.off ≡ from.off
+  pub later : from.calls ≤ to.calls
+  pub most : to.calls + to.due ≤ from.calls + from.due + spent changes
+
+-- the last of some calls was cut where the power was on, and as many were made as were due, or
+-- follow from so many changes at most
+pub record BreaksOff (changes : ℕ) (from to : Moment) : Type 0 where
+  pub cut : from.off ≡ false → IsNextCut from.cuts to.cuts to.calls
+  pub later : from.calls ≤ to.calls
+  pub most : to.calls ≤ from.calls + from.due + spent changes
+
+-- a restart opened the store: no call was cut, one was made, and a checkpoint may be due
+pub record OpensAgain (from to : Moment) : Type 0 where
+  pub cuts : to.cuts ≡ from.cuts
+  pub off : to.off ≡ false
+  pub later : from.calls ≤ to.calls
+  pub most : to.calls + to.due ≤ from.calls + 8
+
+-- a restart failed: its last call was cut, where cuts are told, and one was made at most
+pub record FailsAgain (from to : Moment) : Type 0 where
+  pub cut : (cuts : List ℕ) → from.cuts ≡ Some cuts → IsNextCut from.cuts to.cuts to.calls
+  pub later : from.calls ≤ to.calls
+  pub most : to.calls ≤ from.calls + 1
+
+-- a call failed, or the agent was down before and nothing was called
+abbrev pub Breaks : (up : Bool) → (changes : ℕ) → (from to : Moment) → Type 0
+Breaks up changes from to = (up ≡ true → BreaksOff changes from to) × (up ≡ false → to ≡ from)
 
 -- a call of an agent whose disk tells its contents ran these lines, whose text is this; and it goes
 -- on, or the run stops
@@ -52,7 +96,7 @@ Called tell old new GoesOn ran text =
     (tell old.disk).tells ≡ true → 0 < old.batch
     → (a : AgentSeen) → IsSeen old (tell old.disk) a → Fits a
     → (b : AgentSeen) × IsSeen new (tell new.disk) b
-    × Steps old.memory.rules old.batch ran (over_call a (tell old.disk) (tell new.disk) GoesOn)
+    × Steps old.memory.rules old.batch ran (over_call tell a old new GoesOn)
     a (may_of old (tell old.disk)) b (may_of new (tell new.disk)) text
     × (GoesOn → IsQuiet a (tell old.disk) → IsQuiet b (tell new.disk))
 

@@ -1,7 +1,7 @@
 -- The calls behind the last line: the last commit, and the checkpoint behind it. Only private
 -- functions see it.
 -- Source: none; these are the words of the general law.
-use Rattle.std.specs.Prelude.{◌≡◌, ◌⊎◌, ℕ, true, List, [], ◌++◌}
+use Rattle.std.specs.Prelude.{◌≡◌, ◌⊎◌, ℕ, true, List, [], ◌++◌, length}
 use Rattle.unwinding.specs.Course.{AtBase}
 use Rattle.agent_base.specs.Counts.{Rose}
 use Rattle.disk_model.specs.Disk.{View}
@@ -10,7 +10,8 @@ use Rattle.agent_model.specs.Isolation.{text_of}
 use Rattle.agent_core.specs.AgentView.{AgentView, may_of, owes}
 use Rattle.agent_core.specs.Means.{AgentMay, Fails, Same, after_commit}
 use Rattle.agent_core.specs.Seen.{AgentSeen, IsSeen}
-use Rattle.store_runs.specs.Calls.{IsQuiet, StaysOrRose}
+use Rattle.store_runs.specs.Calls.{Breaks, IsQuiet, Pays, StaysOrRose}
+use Rattle.store_runs.specs.CutCourses.{Moment, moment_of}
 use Rattle.store_runs.specs.declared.ending.Ending.{Ending}
 use Rattle.store_runs.specs.declared.ending.Ending.TheVariants.{Done, Device, Store, Write, Memory}
 
@@ -45,6 +46,13 @@ EndsWith rules a b may may' old new Memory before now =
 EndsWith rules a b may may' old new Write before now = ⊥
 EndsWith rules a b may may' old new (Store why) before now = ⊥
 
+-- what the calls of such an end make of the cuts to come: they pay for what was pending, or one of
+-- them was cut
+abbrev pub Spends : Ending → AgentSeen → (from to : Moment) → Type 0
+Spends Done a from to = Pays (length a.pending) from to
+Spends Device a from to = Breaks a.up (length a.pending) from to
+Spends ending a from to = Unit {0}
+
 -- the same of an agent; the disk's count stays or rises
 abbrev pub Ends : {D : Type 0} → (tell : D → View) → (old new : AgentView D) → Ending
     → (before now : List ℕ) → Type 0
@@ -54,6 +62,7 @@ Ends tell old new ending before now =
     × EndsWith old.memory.rules a b (may_of old (tell old.disk)) (may_of new (tell new.disk))
     (tell old.disk) (tell new.disk) ending before now
     × StaysOrRose (tell old.disk).faults (tell new.disk).faults
+    × Spends ending a (moment_of tell old) (moment_of tell new)
 
 -- once all is written: the ending stays, or a run that was done ends as the checkpoint does that
 -- the agent owed

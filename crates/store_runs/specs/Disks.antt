@@ -1,28 +1,47 @@
 -- What a run over a disk writes and leaves, from the opening of its store on.
 -- Source: none; these are the words of the promise.
-use Rattle.std.specs.Prelude.{◌≡◌, ◌⊎◌, ℕ, ◌≤◌, true, false, List, [], ◌∷◌, Option, Some, Result}
-use Rattle.std.specs.Prelude.{Ok, Err}
+use Rattle.std.specs.Prelude.{◌≡◌, ◌⊎◌, ℕ, ◌+◌, ◌≤◌, true, false, List, [], ◌∷◌, Option, Some}
+use Rattle.std.specs.Prelude.{Result, Ok, Err}
 use Rattle.agent_base.specs.Counts.{Rose}
 use Rattle.agent_base.specs.Streams.{Takes}
 use Rattle.disk_model.specs.Disk.{HasFailed, IsSettled, View}
+use Rattle.disk_model.specs.MemDisk.{numbers_of}
 use Rattle.disk_model.specs.declared.schedule.Cut.{Cut}
 use Rattle.journal.specs.Opening.{AnswersByCuts, FileMeans, IsOfFile, IsOpening, IsRefusal}
 use Rattle.journal.specs.Opening.{opening_calls}
+use Rattle.journal.specs.Store.{IsUnborn}
 use Rattle.journal.specs.declared.open_fault.OpenFault.{OpenFault}
 use Rattle.journal.specs.declared.open_fault.OpenFault.TheVariants as fault
 use Rattle.suffix_list.specs.ListText.{RuleList}
 use Rattle.suffix_list.specs.Suffix.{Rule}
-use Rattle.script_actions.specs.Action.{PlainStep}
-use Rattle.durable_model.specs.Histories.{opened_at}
+use Rattle.unwinding.specs.Admissible.{History}
+use Rattle.script_actions.specs.Action.{PlainAction, PlainStep}
+use Rattle.durable_model.specs.Histories.{AgentOpening, opened_at}
 use Rattle.durable_model.specs.Saved.{IsValid, Saved, nothing_saved}
 use Rattle.row_store.specs.Bodies.{Refuses}
 use Rattle.row_store.specs.Bodies as bodies
 use Rattle.printed_model.specs.Histories.{begins_at}
 use Rattle.store_runs.specs.Endings.{ending_of}
-use Rattle.store_runs.specs.Faults.{LeavesDisk}
-use Rattle.store_runs.specs.Runs.{HasNoCuts, WritesLines}
+use Rattle.store_runs.specs.CutBounds.{MeetsCuts, MeetsToldCuts, fault_places}
+use Rattle.store_runs.specs.Faults.{RoseBy, faults_of}
+use Rattle.store_runs.specs.Runs.{HasNoCuts, LeavesHistory, WritesLines}
 use Rattle.store_runs.specs.declared.ending.Ending.{Ending}
 use Rattle.store_runs.specs.declared.ending.Ending.TheVariants.{Device, Memory}
+
+-- ---- what is left
+
+-- What a run that ended so leaves of its disk, of which this was told before and that afterwards:
+-- images that its history leaves, and a count that rose by its faults at least. Where the disk
+-- tells its cuts and its power was on, the faults are at most as many, and each comes in time; so
+-- many changing calls were made, or are due, before the first line.
+abbrev pub LeavesDisk : Ending → RuleList → (batch : ℕ) → AgentOpening → (before : ℕ)
+    → (old new : View) → History PlainAction → Type 0
+LeavesDisk ending list batch opening before old new history =
+    LeavesHistory list batch opening new.may_leave history
+    × RoseBy (faults_of ending history) old.faults new.faults
+    × MeetsToldCuts before old.cuts old.off (fault_places list.rules batch ending opening history)
+
+-- ---- the first opening
 
 -- the first opening answered so by the cuts that are to come, where these are told and the power is
 -- on: a device fault is the first of them, and at `Ok` that lies past the opening
@@ -55,6 +74,13 @@ pub record IsStateOf (list : RuleList) (file : List ℕ) (base : Saved) : Type 0
 abbrev pub IsMeantBy : RuleList → View → Saved → Type 0
 IsMeantBy list view base = (c : List ℕ) → view.contents ≡ Some c → IsStateOf list c base
 
+-- How many changing calls were made, or are due, before the first line: those of the opening, and
+-- of a checkpoint, which may be due for the store that was found, but not for one that was made.
+pub record BeginsWithin (before : ℕ) (old : View) : Type 0 where
+  pub found : (c : List ℕ) → old.contents ≡ Some c → before ≤ old.changing + opening_calls c + 7
+  pub made : IsSettled old → (c : List ℕ) → old.contents ≡ Some c → IsUnborn c
+      → before ≤ old.changing + opening_calls c
+
 -- A run over a disk ended so. The first opening was refused, or the lines ran from the durable
 -- state that the disk's bytes stand for, which is a valid one.
 abbrev pub WritesOn : Ending → RuleList → (start batch checkpoint : ℕ) → View → List PlainStep
@@ -62,8 +88,9 @@ abbrev pub WritesOn : Ending → RuleList → (start batch checkpoint : ℕ) →
 WritesOn ending list start batch checkpoint old steps before after new =
     ((why : OpenFault) × (ending ≡ ending_of why) × IsRefusedOn list why old new before after)
     ⊎ ((base : Saved) × IsValid base × IsMeantBy list old base × OpensByCuts (Ok tt) old
+    × (calls : ℕ) × BeginsWithin calls old
     × WritesLines ending list.rules batch checkpoint (opened_at start base) (HasNoCuts old) steps
-    before after (LeavesDisk ending list batch (opened_at start base) old new))
+    before after (LeavesDisk ending list batch (opened_at start base) calls old new))
 
 -- ---- in memory
 
@@ -80,12 +107,14 @@ IsUnopened Memory cuts = Unit {0}
 IsUnopened ending cuts = ⊥
 
 -- A run over a new store, whose power is cut so, ended so. The sink took nothing where the first
--- opening failed. It is not opened where a cut falls into the opening. Of what is left nothing is
--- said, since the disk is gone.
+-- opening failed. It is not opened where a cut falls into the opening. The faults of its history
+-- are at most as many as the cuts, and each comes in time, by the calls of the opening and of the
+-- lines. Of what is left nothing is said, since the disk is gone.
 abbrev pub WritesInMemory : Ending → List Rule → (start batch checkpoint : ℕ) → List Cut
     → List PlainStep → (before after : Option (List ℕ)) → Type 0
 WritesInMemory ending rules start batch checkpoint cuts steps before after =
     (IsUnopened ending cuts × Takes before after [])
     ⊎ ((CutsOpening cuts → ⊥)
     × WritesLines ending rules batch checkpoint (begins_at start) (cuts ≡ []) steps before after
-    (λ history. Unit {0}))
+    (λ history. MeetsCuts (opening_calls []) (numbers_of cuts)
+    (fault_places rules batch ending (begins_at start) history)))

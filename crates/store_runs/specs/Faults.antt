@@ -1,4 +1,4 @@
--- The faults that a history shows, and what a run leaves of its disk.
+-- The faults that a history shows.
 -- Source: none; these are the words of the promise.
 -- Our own choice: an epoch met a fault where a line of it was answered `down`, or where it is the
 -- last one and the agent is down at the end. It is one fault, however many of its lines are
@@ -6,11 +6,7 @@
 -- `down` is a fault of its own.
 use Rattle.std.specs.Prelude.{ℕ, ◌+◌, ◌-◌, ◌^◌, ◌≤◌, min, List, [], ◌∷◌}
 use Rattle.unwinding.specs.Admissible.{Acts, History, Reopens, Stretch}
-use Rattle.disk_model.specs.Disk.{View}
-use Rattle.suffix_list.specs.ListText.{RuleList}
 use Rattle.script_actions.specs.Action.{PlainAction, PlainStep}
-use Rattle.durable_model.specs.Histories.{AgentOpening}
-use Rattle.store_runs.specs.Runs.{LeavesHistory}
 use Rattle.store_runs.specs.declared.ending.Ending.{Ending}
 use Rattle.store_runs.specs.declared.ending.Ending.TheVariants.{Device}
 
@@ -48,16 +44,6 @@ abbrev pub faults_of : Ending → History PlainAction → ℕ
 faults_of ending history =
     closed_faults history.closed + last_faults ending history.open_end.downs
 
--- ---- what is left
-
 -- a count rose by at least so many, or stands at its last value
 abbrev pub RoseBy : ℕ → (before now : ℕ) → Type 0
 RoseBy faults before now = min (before + faults) (2 ^ 64 - 1) ≤ now
-
--- what a run that ended so leaves of its disk, of which this was told before and that afterwards:
--- images that its history leaves, and a count that rose by its faults at least
-abbrev pub LeavesDisk : Ending → RuleList → ℕ → AgentOpening → (old new : View)
-    → History PlainAction → Type 0
-LeavesDisk ending list batch opening old new history =
-    LeavesHistory list batch opening new.may_leave history
-    × RoseBy (faults_of ending history) old.faults new.faults

@@ -1,6 +1,6 @@
 -- Where a run over an agent begins, and what it leaves of the agent.
 -- Source: none; these are the words of the general law.
-use Rattle.std.specs.Prelude.{◌≡◌, ◌<◌, List, true}
+use Rattle.std.specs.Prelude.{◌≡◌, ℕ, ◌+◌, ◌<◌, List, true}
 use Rattle.unwinding.specs.Course.{AtBase}
 use Rattle.unwinding.specs.CourseSteps.{reopened}
 use Rattle.disk_model.specs.Disk.{View}
@@ -10,6 +10,7 @@ use Rattle.agent_model.specs.TheMachine.{machine}
 use Rattle.durable_model.specs.Histories.{AgentOpening}
 use Rattle.durable_model.specs.Keeping.{keeping}
 use Rattle.agent_core.specs.AgentView.{AgentView, may_of}
+use Rattle.agent_core.specs.Calls.{checkpoint_calls}
 use Rattle.agent_core.specs.Seen.{AgentSeen, IsSeen}
 
 -- what an agent stands for that was just opened
@@ -24,6 +25,10 @@ pub record IsOpenedAt {D : Type 0} (agent : AgentView D) (view : View) (opening 
   pub batch : 0 < agent.batch
   pub seen : IsSeen agent view (just_opened agent.memory.rules opening)
   pub base : AtBase (just_opened agent.memory.rules opening).base (may_of agent view)
+
+-- how many changing calls were made, or are due, when an agent was just opened
+abbrev pub calls_before : {D : Type 0} → AgentView D → View → ℕ
+calls_before agent view = view.changing + checkpoint_calls agent
 
 -- the list that an agent is under
 abbrev pub list_of : {D : Type 0} → AgentView D → RuleList

@@ -9,8 +9,8 @@ ghost use Rattle.agent_core.specs.AgentView.{owes};
 ghost use Rattle.store_runs.specs.Calls.{Settled, Stepped, Stops, Unsettled};
 ghost use Rattle.store_runs.specs.Closing.{Closes, Ends, IsEnd};
 ghost use Rattle.store_runs.specs.Endings.{IsStoreEnding, TellsPower, WriteCounts};
-ghost use Rattle.store_runs.specs.Openings.{GoesOn, IsOpenedAt};
-ghost use Rattle.store_runs.specs.Faults.{LeavesDisk};
+ghost use Rattle.store_runs.specs.Openings.{GoesOn, IsOpenedAt, calls_before};
+ghost use Rattle.store_runs.specs.Disks.{LeavesDisk};
 ghost use Rattle.store_runs.specs.Runs.{HasNoCuts};
 ghost use Rattle.store_runs.specs.Openings.{list_of};
 ghost use Rattle.store_runs.specs.Runs.{WritesLines};
@@ -50,6 +50,7 @@ pub fn run_lines<D: Disk + Drop, O: Sink>(
         (HasNoCuts (D.view agent.old.disk)) (steps_of lines.now)
         (O.taken out.old) (O.taken out.new)
         (LeavesDisk result (list_of agent.old) agent.old.batch opening
+        (calls_before agent.old (D.view agent.old.disk))
         (D.view agent.old.disk) (D.view agent.new.disk)) }
     ensures power { (opening : AgentOpening)
         → IsOpenedAt agent.old (D.view agent.old.disk) opening

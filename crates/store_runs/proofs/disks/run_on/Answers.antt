@@ -9,7 +9,7 @@ use Rattle.store_runs.specs.Endings.{IsStoreEnding, WriteCounts}
 use Rattle.store_runs.specs.Openings.{IsOpenedAt}
 use Rattle.store_runs.specs.Steps.{steps_of}
 use Rattle.store_runs.specs.Tidy.{LeavesTidy}
-use Rattle.store_runs.proofs.DiskLemmas.{fails_within, opened_here, opened_writes, opens_past, refused_ends, refused_writes, tidy_under}
+use Rattle.store_runs.proofs.DiskLemmas.{begins_within, fails_within, opened_here, opened_writes, opens_past, refused_ends, refused_writes, tidy_under}
 use Rattle.store_runs.proofs.EndLemmas.{limit_ends, refused_device, refused_done, refused_stays, refused_store}
 use Rattle.store_runs.proofs.disks.run_on.Goals as goal
 use Rattle.store_runs.proofs.disks.run_on.Goals.{In-Ok}
@@ -49,6 +49,9 @@ returns-in-Ok-clause-written g c = λ told.
     c.run_lines-ending.result (g.D.Disk.view c.run_lines-ending.new.agent.disk)
     steps before after c.in-Ok.ensures.powered c.in-Ok.ensures.others.faults
     (λ file is. record { stands = seen.2.3 file is; alone = λ d n means. seen.2.2 file d n is means }) cuts
+    (begins_within list start batch checkpoint old view agent base under.0 under.1 under.2 under.3
+    (c.in-Ok.ensures.tells ∙ told) seen.2.0 (g.met.D.Disk.lawful agent.disk)
+    (λ bytes contents. (c.in-Ok.ensures.calls bytes contents).most) c.in-Ok.ensures.any_moment)
     (c.run_lines-ending.ensures.written (opened_at start base) opened))
 
 pub returns-in-Ok-clause-refused : goal.returns-in-Ok-clause-refused

@@ -18,7 +18,7 @@ returns-in_ok-hold_all-in-Replies-clause-stepped g c =
     let l = action_of c.args.action.now in
     let told = Replies c.in-Replies.replies in
     stepped_as g.D.Disk.view old new _ (Acts l) (line_text l told) c.requires
-    (line_called g.D.Disk.view old new l told c.in-Replies.ensures.means c.in-Replies.ensures.device c.line.ensures.off)
+    (line_called g.D.Disk.view old new l told c.in-Replies.ensures.means c.in-Replies.ensures.device c.line.ensures.idle c.in-Replies.ensures.waits c.line.ensures.off)
     before c.hold_all.new.waiting.items
     (c.in_ok-hold_all-in-Replies.ensures.text ∙ ap (λ items. before ++ replies_text (map reply_of items)) c.deref.ensures.value)
 
@@ -27,7 +27,7 @@ returns-in_err-hold_all-in-Replies-clause-stops g c =
     let l = action_of c.args.action.now in
     let told = Replies c.in-Replies.replies in
     wanting_ran g.D.Disk.view c.args.agent.now c.line.new.self _ (Acts l) (line_text l told) c.requires
-    (line_called g.D.Disk.view c.args.agent.now c.line.new.self l told c.in-Replies.ensures.means c.in-Replies.ensures.device
+    (line_called g.D.Disk.view c.args.agent.now c.line.new.self l told c.in-Replies.ensures.means c.in-Replies.ensures.device c.line.ensures.idle c.in-Replies.ensures.waits
     c.line.ensures.off) c.from_residual.result c.from_residual.ensures.1
 
 pub returns-in-Held-clause-stepped : goal.returns-in-Held-clause-stepped
@@ -35,7 +35,7 @@ returns-in-Held-clause-stepped g c =
     let l = action_of c.args.action.now in
     let before = c.args.waiting.now.items in
     stepped_as g.D.Disk.view c.args.agent.now c.line.new.self _ (Acts l) [] c.requires
-    (line_called g.D.Disk.view c.args.agent.now c.line.new.self l Held c.in-Held.ensures.means c.in-Held.ensures.device
+    (line_called g.D.Disk.view c.args.agent.now c.line.new.self l Held c.in-Held.ensures.means c.in-Held.ensures.device c.line.ensures.idle c.in-Held.ensures.waits
     c.line.ensures.off) before before (sym (append-nil before))
 
 pub returns-in_ok-hold-in-Down-clause-stepped : goal.returns-in_ok-hold-in-Down-clause-stepped
@@ -45,7 +45,7 @@ returns-in_ok-hold-in-Down-clause-stepped g c =
     let before = c.args.waiting.now.items in
     let l = action_of c.args.action.now in
     stepped_as g.D.Disk.view old new _ (Acts l) (line_text l Down) c.requires
-    (line_called g.D.Disk.view old new l Down c.in-Down.ensures.means c.in-Down.ensures.device c.line.ensures.off) before
+    (line_called g.D.Disk.view old new l Down c.in-Down.ensures.means c.in-Down.ensures.device c.line.ensures.idle c.in-Down.ensures.waits c.line.ensures.off) before
     c.hold.new.waiting.items
     (c.in_ok-hold-in-Down.ensures.text ∙ ap (λ reply. before ++ reply_text reply)
     (c.down.ensures ∙ ap (λ step. printed (down_reply step)) c.requires))
@@ -54,7 +54,7 @@ pub returns-in_err-hold-in-Down-clause-stops : goal.returns-in_err-hold-in-Down-
 returns-in_err-hold-in-Down-clause-stops g c =
     let l = action_of c.args.action.now in
     wanting_ran g.D.Disk.view c.args.agent.now c.line.new.self _ (Acts l) (line_text l Down) c.requires
-    (line_called g.D.Disk.view c.args.agent.now c.line.new.self l Down c.in-Down.ensures.means c.in-Down.ensures.device
+    (line_called g.D.Disk.view c.args.agent.now c.line.new.self l Down c.in-Down.ensures.means c.in-Down.ensures.device c.line.ensures.idle c.in-Down.ensures.waits
     c.line.ensures.off) c.from_residual-in_err-hold-in-Down.result c.from_residual-in_err-hold-in-Down.ensures.1
 
 pub returns-in-NoMemory-clause-stops : goal.returns-in-NoMemory-clause-stops
@@ -62,5 +62,5 @@ returns-in-NoMemory-clause-stops g c =
     let l = action_of c.args.action.now in
     memory_stops g.D.Disk.view c.args.agent.now c.line.new.self _
     (line_called g.D.Disk.view c.args.agent.now c.line.new.self l NoMemory c.in-NoMemory.ensures.means
-    c.in-NoMemory.ensures.device
+    c.in-NoMemory.ensures.device c.line.ensures.idle c.in-NoMemory.ensures.waits
     c.line.ensures.off)

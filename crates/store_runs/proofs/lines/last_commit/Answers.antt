@@ -10,27 +10,27 @@ returns-in-Ok-clause-ends g c =
     let before = c.args.waiting.now.items in
     let now = c.hold_all.new.waiting.items in
     replies_end g.D.Disk.view c.args.agent.now c.flush.new.self (Replies c.in-Replies.replies)
-    c.in-Replies.ensures.means c.in-Replies.ensures.device c.flush.ensures.off before now c.in-Replies.replies refl
+    c.in-Replies.ensures.means c.in-Replies.ensures.device c.flush.ensures.idle c.in-Replies.ensures.tidy c.flush.ensures.off before now c.in-Replies.replies refl
     (c.in-Ok.ensures.text ∙ ap (λ items. before ++ replies_text (map reply_of items)) c.deref.ensures.value)
 
 pub returns-in-Replies-clause-ends : goal.returns-in-Replies-clause-ends
 returns-in-Replies-clause-ends g c =
     replies_lost g.D.Disk.view c.args.agent.now c.flush.new.self (Replies c.in-Replies.replies)
-    c.in-Replies.ensures.means c.in-Replies.ensures.device c.flush.ensures.off c.args.waiting.now.items
+    c.in-Replies.ensures.means c.in-Replies.ensures.device c.flush.ensures.idle c.in-Replies.ensures.tidy c.flush.ensures.off c.args.waiting.now.items
     c.hold_all.new.waiting.items c.in-Replies.replies refl (search rules)
 
 pub returns-in-Down-clause-ends : goal.returns-in-Down-clause-ends
 returns-in-Down-clause-ends g c =
     down_ends g.D.Disk.view c.args.agent.now c.flush.new.self Down c.in-Down.ensures.means
-    c.in-Down.ensures.device c.flush.ensures.off c.args.waiting.now.items c.args.waiting.now.items refl refl
+    c.in-Down.ensures.device c.flush.ensures.idle c.in-Down.ensures.tidy c.flush.ensures.off c.args.waiting.now.items c.args.waiting.now.items refl refl
 
 pub returns-in-Held-clause-ends : goal.returns-in-Held-clause-ends
 returns-in-Held-clause-ends g c = held_ends g.D.Disk.view c.args.agent.now c.flush.new.self Held
-    c.in-Held.ensures.means c.in-Held.ensures.device c.flush.ensures.off c.args.waiting.now.items c.args.waiting.now.items refl
+    c.in-Held.ensures.means c.in-Held.ensures.device c.flush.ensures.idle c.in-Held.ensures.tidy c.flush.ensures.off c.args.waiting.now.items c.args.waiting.now.items refl
 
 pub returns-clause-ends : goal.returns-clause-ends
 returns-clause-ends g c = memory_ends g.D.Disk.view c.args.agent.now c.flush.new.self NoMemory
-    c.in-NoMemory.ensures.means c.in-NoMemory.ensures.device c.flush.ensures.off c.args.waiting.now.items
+    c.in-NoMemory.ensures.means c.in-NoMemory.ensures.device c.flush.ensures.idle c.in-NoMemory.ensures.tidy c.flush.ensures.off c.args.waiting.now.items
     c.args.waiting.now.items refl refl
 
 pub returns-then-owes_checkpoint-clause-ends : goal.returns-then-owes_checkpoint-clause-ends

@@ -6,16 +6,16 @@ use Rattle.store_runs.proofs.lines.make_checkpoint.Goals as goal
 pub returns-in-Replies-clause-ends : goal.returns-in-Replies-clause-ends
 returns-in-Replies-clause-ends g c =
     checkpoint_ends g.D.Disk.view c.args.agent.now c.flush.new.self (Replies c.in-Replies._none)
-    c.in-Replies.ensures.means c.in-Replies.ensures.device c.flush.ensures.off [] [] c.in-Replies._none refl c.requires
+    c.in-Replies.ensures.means c.in-Replies.ensures.device c.flush.ensures.idle c.in-Replies.ensures.tidy c.flush.ensures.off [] [] c.in-Replies._none refl c.requires
 
 pub returns-in-Down-clause-ends : goal.returns-in-Down-clause-ends
 returns-in-Down-clause-ends g c = down_ends g.D.Disk.view c.args.agent.now c.flush.new.self Down
-    c.in-Down.ensures.means c.in-Down.ensures.device c.flush.ensures.off [] [] refl refl
+    c.in-Down.ensures.means c.in-Down.ensures.device c.flush.ensures.idle c.in-Down.ensures.tidy c.flush.ensures.off [] [] refl refl
 
 pub returns-in-Held-clause-ends : goal.returns-in-Held-clause-ends
 returns-in-Held-clause-ends g c = held_ends g.D.Disk.view c.args.agent.now c.flush.new.self Held
-    c.in-Held.ensures.means c.in-Held.ensures.device c.flush.ensures.off [] [] refl
+    c.in-Held.ensures.means c.in-Held.ensures.device c.flush.ensures.idle c.in-Held.ensures.tidy c.flush.ensures.off [] [] refl
 
 pub returns-in-NoMemory-clause-ends : goal.returns-in-NoMemory-clause-ends
 returns-in-NoMemory-clause-ends g c = memory_ends g.D.Disk.view c.args.agent.now c.flush.new.self NoMemory
-    c.in-NoMemory.ensures.means c.in-NoMemory.ensures.device c.flush.ensures.off [] [] refl refl
+    c.in-NoMemory.ensures.means c.in-NoMemory.ensures.device c.flush.ensures.idle c.in-NoMemory.ensures.tidy c.flush.ensures.off [] [] refl refl

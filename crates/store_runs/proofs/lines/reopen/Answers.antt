@@ -16,7 +16,7 @@ returns-in_ok-hold-in-Ok-clause-stepped g c =
     let new = c.restart.new.self in
     let before = c.args.waiting.now.items in
     stepped_as g.D.Disk.view old new _ Reopens (restart_text (Ok c.in-Ok.kept)) c.requires
-    (restart_called g.D.Disk.view old new (Ok c.in-Ok.kept) c.in-Ok.ensures.means c.in-Ok.ensures.device) before
+    (restart_called g.D.Disk.view old new (Ok c.in-Ok.kept) c.in-Ok.ensures.means c.in-Ok.ensures.device c.in-Ok.ensures.calls) before
     c.hold.new.waiting.items
     (c.in_ok-hold-in-Ok.ensures.text ∙ ap (λ reply. before ++ reply_text reply) c.restarted.ensures)
 
@@ -25,7 +25,7 @@ returns-in_err-hold-in-Ok-clause-stops g c =
     let old = c.args.agent.now in
     let new = c.restart.new.self in
     wanting_ran g.D.Disk.view old new _ Reopens (restart_text (Ok c.in-Ok.kept)) c.requires
-    (restart_called g.D.Disk.view old new (Ok c.in-Ok.kept) c.in-Ok.ensures.means c.in-Ok.ensures.device)
+    (restart_called g.D.Disk.view old new (Ok c.in-Ok.kept) c.in-Ok.ensures.means c.in-Ok.ensures.device c.in-Ok.ensures.calls)
     c.from_residual.result c.from_residual.ensures.1
 
 pub returns-in_ok-hold-in-DeviceFault-clause-stepped : goal.returns-in_ok-hold-in-DeviceFault-clause-stepped
@@ -36,7 +36,7 @@ returns-in_ok-hold-in-DeviceFault-clause-stepped g c =
     let met = Err fault.DeviceFault in
     stepped_as g.D.Disk.view old new _ Reopens (restart_text met) c.requires
     (restart_called g.D.Disk.view old new met (rw c.in-DeviceFault.is at c.in-Err.ensures.means)
-    (rw c.in-DeviceFault.is at c.in-Err.ensures.device))
+    (rw c.in-DeviceFault.is at c.in-Err.ensures.device) (rw c.in-DeviceFault.is at c.in-Err.ensures.calls))
     before c.hold-in-DeviceFault.new.waiting.items
     (c.in_ok-hold-in-DeviceFault.ensures.text
     ∙ ap (λ reply. before ++ reply_text reply) (c.down.ensures ∙ ap (λ step. printed (down_reply step)) c.requires))
@@ -48,7 +48,7 @@ returns-in_err-hold-in-DeviceFault-clause-stops g c =
     let met = Err fault.DeviceFault in
     wanting_ran g.D.Disk.view old new _ Reopens (restart_text met) c.requires
     (restart_called g.D.Disk.view old new met (rw c.in-DeviceFault.is at c.in-Err.ensures.means)
-    (rw c.in-DeviceFault.is at c.in-Err.ensures.device))
+    (rw c.in-DeviceFault.is at c.in-Err.ensures.device) (rw c.in-DeviceFault.is at c.in-Err.ensures.calls))
     c.from_residual-in_err-hold-in-DeviceFault.result c.from_residual-in_err-hold-in-DeviceFault.ensures.1
 
 pub returns-in_default-clause-stops : goal.returns-in_default-clause-stops
@@ -57,6 +57,6 @@ returns-in_default-clause-stops g c =
     let new = c.restart.new.self in
     let stops : Stops g.D.Disk.view old new Reopens (ending_of c.in-Err.why) =
     restart_stops g.D.Disk.view old new c.in-Err.why c.in_default.not-DeviceFault c.in-Err.ensures.means
-    c.in-Err.ensures.device in
+    c.in-Err.ensures.device c.in-Err.ensures.calls in
     subst (λ step. Stops g.D.Disk.view old new step c.refused.result) (sym c.requires)
     (subst (Stops g.D.Disk.view old new Reopens) (sym c.refused.ensures) stops)

@@ -29,10 +29,10 @@ loop-line-init g c =
             a,
             opened.seen,
             (λ none. (opens_up rules x, none.0, none.1)),
-            subst (OnCourse rules batch x a (may_of c.args.agent.now view) [] (over_run view view (Unit {0}))
-                out out) (sym c.new-waiting.ensures.items)
-                (course_begins rules batch x (over_run view view (Unit {0})) a (may_of c.args.agent.now view)
-                out (omega arith) (opens_up rules x) opened.batch refl opened.base),
+            subst (OnCourse rules batch x a (may_of c.args.agent.now view) []
+                (over_run g.D.Disk.view c.args.agent.now c.args.agent.now (Unit {0})) out out) (sym c.new-waiting.ensures.items)
+                (course_begins rules batch x (over_run g.D.Disk.view c.args.agent.now c.args.agent.now (Unit {0})) a
+                (may_of c.args.agent.now view) out (omega arith) refl (opens_up rules x) opened.batch refl opened.base),
           );
     }
 
@@ -222,14 +222,12 @@ returns-clause-device g c = λ x opened.
     c.last_checkpoint.ensures.closes ends.0 ends.1 (g.D.Disk.view first.disk).faults
     (ended_so (λ e. e ≡ Device → Rose (g.D.Disk.view first.disk).faults (g.D.Disk.view here.disk).faults)
     c.last_commit-ending.result c.end-ending.result _ _ _ _ c.deref-2.result.now
-    (ends_device first.memory.rules first.batch x (g.D.Disk.view first.disk)
-    (g.D.Disk.view c.loop-line.agent.disk) all.0 may steps (g.O.Sink.taken c.args.out.now)
+    (ends_device g.D.Disk.view first.memory.rules first.batch x first c.loop-line.agent all.0 may steps (g.O.Sink.taken c.args.out.now)
     (g.O.Sink.taken c.loop-line.out) c.loop-line.waiting.items all.3
     c.loop-line.agent.memory.rules ends.0 may' (g.D.Disk.view here.disk)
     c.last_commit-ending.result c.last_commit-ending.new.waiting.items ends.2 ends.3)
     (λ e. absurd (write_device e)) c.end-ending.ensures)
-    (λ done. ends_later first.memory.rules first.batch x (g.D.Disk.view first.disk)
-    (g.D.Disk.view c.loop-line.agent.disk) all.0 may steps (g.O.Sink.taken c.args.out.now)
+    (λ done. ends_later g.D.Disk.view first.memory.rules first.batch x first c.loop-line.agent all.0 may steps (g.O.Sink.taken c.args.out.now)
     (g.O.Sink.taken c.loop-line.out) c.loop-line.waiting.items all.3
     c.loop-line.agent.memory.rules ends.0 may' (g.D.Disk.view here.disk)
     c.last_commit-ending.result c.last_commit-ending.new.waiting.items ends.2 ends.3

@@ -4,4 +4,5 @@ pub mod CollectedLemmas
 pub mod TwinLemmas
 pub mod CountLemmas
 pub mod LoopLemmas
+pub mod GivenLemmas
 pub mod TwinFacts

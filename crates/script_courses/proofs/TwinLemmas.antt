@@ -101,7 +101,7 @@ tells_of_lines rules site x history =
 
 -- ---- one answer
 
-before_front : {A : Type 0} (xs : List A) (n i : ℕ) → i < n → slice_get (take n xs) i ≡ slice_get xs i
+pub before_front : {A : Type 0} (xs : List A) (n i : ℕ) → i < n → slice_get (take n xs) i ≡ slice_get xs i
 before_front [] zero i less = refl
 before_front [] (suc n) i less = refl
 before_front (x ∷ xs) zero i less = let none : ⊥ = omega (arith, less) in absurd none
@@ -153,17 +153,17 @@ prints_the_same law at first second lines is =
 before_last : (xs : List AgentItem) (x : AgentItem) → length (xs ++ x ∷ []) - 1 ≡ length xs
 before_last xs x = omega (arith, length-append xs (x ∷ []))
 
-entries_are : (items xs : List AgentItem) (x : AgentItem) → items ≡ xs ++ x ∷ [] → entries_of items ≡ xs
+pub entries_are : (items xs : List AgentItem) (x : AgentItem) → items ≡ xs ++ x ∷ [] → entries_of items ≡ xs
 entries_are items xs x is = ap entries_of is ∙ ap (λ n. take n (xs ++ x ∷ [])) (before_last xs x) ∙ take-append_seam xs (x ∷ [])
 
-end_is : (items xs : List AgentItem) (x : AgentItem) → items ≡ xs ++ x ∷ [] → end_of items ≡ x ∷ []
+pub end_is : (items xs : List AgentItem) (x : AgentItem) → items ≡ xs ++ x ∷ [] → end_of items ≡ x ∷ []
 end_is items xs x is = ap end_of is ∙ ap (λ n. drop n (xs ++ x ∷ [])) (before_last xs x) ∙ drop-append_seam xs (x ∷ [])
 
-same_one : (x y : AgentItem) → ◌≡◌ {A = List AgentItem} (x ∷ []) (y ∷ []) → x ≡ y
+pub same_one : (x y : AgentItem) → ◌≡◌ {A = List AgentItem} (x ∷ []) (y ∷ []) → x ≡ y
 same_one x y same = cc
 
 -- two local scripts with the same items are equal: each begins with nothing stored
-same_script : (at : TwinSetting) (first second : List PlainStep)
+pub same_script : (at : TwinSetting) (first second : List PlainStep)
     → (script_in at first).script.items ≡ (script_in at second).script.items → script_in at first ≡ script_in at second
 unfolding history_script
 same_script at first second same = λ i. record {

@@ -6,6 +6,7 @@
 //! that run has one history, and by [`twins`] two scripts have one answer at most.
 #![tactic(auto)]
 
+ghost use Rattle.script_courses.specs.GivenBy.{GivesByOne, KeepsEntries};
 ghost use Rattle.script_courses.specs.GoodHistories.{GivesGood, GivesTheOnly};
 ghost use Rattle.script_courses.specs.Laws.{BeginsWithNothing, EndsWithScript, GoesByOwnDomain};
 ghost use Rattle.script_courses.specs.Laws.{GrowsByCommit, GrowsByLine, GrowsByRestart, HoldsMore};
@@ -46,3 +47,10 @@ pub fn twins()
 {
     printed_histories_are_isolated();
 }
+
+/// Entries stay: a run of more lines gives a site those of a run of the first ones, and more behind
+/// them. So each entry is given by one line.
+pub fn entries()
+    ensures stay { KeepsEntries }
+    ensures line { GivesByOne }
+{}

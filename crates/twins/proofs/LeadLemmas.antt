@@ -36,7 +36,8 @@ use Rattle.agent_core.specs.declared.outcome.Outcome.TheVariants.{Replies, Held,
 use Rattle.store_runs.specs.Calls.{IsQuiet}
 use Rattle.twins.specs.Collectors.{collected_of}
 use Rattle.twins.specs.Collecting.{EndsAs, HasRun, IsBefore, Leads, MemAgent, StandsOnCourse, TakesLine}
-use Rattle.twins.specs.Scripts.{Compares, Gives, end_in, entries_in}
+use Rattle.twins.specs.Comparing.{Compares}
+use Rattle.twins.specs.Scripts.{Gives, end_in, entries_in}
 use Rattle.twins.specs.declared.before.Before.{Before}
 use Rattle.twins.specs.declared.collector.Collector.{Collector}
 use Rattle.twins.specs.declared.scripts.LocalScript.{LocalScript}

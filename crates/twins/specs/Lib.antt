@@ -1,7 +1,8 @@
 -- What contracts cite.
 pub mod Plain
 pub mod Settings
+pub mod Scripts
+pub mod Comparing
 -- What private functions make. No public clause rests on it.
 pub mod Collectors
 pub mod Collecting
-pub mod Scripts

@@ -1,12 +1,10 @@
--- Local scripts that were collected, and how two of them compare.
+-- The local script of one script as contracts see it.
 -- Source: none; these are the words of the promise.
-use Rattle.std.specs.Prelude.{◌≡◌, ◌≢◌, ◌⊎◌, ◌<◌, ◌^◌, List, ◌++◌, ◌∷◌, [], length, map}
+use Rattle.std.specs.Prelude.{◌<◌, ◌^◌, List, ◌++◌, ◌∷◌, [], map}
 use Rattle.script_actions.specs.Action.{PlainStep}
-use Rattle.local_scripts.specs.Difference.{DifferAt}
 use Rattle.local_scripts.specs.Items.{AgentItem, item_of}
 use Rattle.local_scripts.specs.declared.item.Item.TheVariants as item
-use Rattle.script_courses.specs.Twins.{Equal, HasItems, LocalDiffer, Twin, TwinSetting}
-use Rattle.script_courses.specs.Twins.{acknowledged_in}
+use Rattle.script_courses.specs.Twins.{HasItems, TwinSetting, acknowledged_in}
 use Rattle.twins.specs.declared.scripts.LocalScript.{LocalScript}
 
 -- the entries
@@ -26,14 +24,3 @@ abbrev pub Gives : TwinSetting → List PlainStep → LocalScript → Type 0
 Gives at steps script =
     HasItems at steps (entries_in script) (end_in script)
     × (acknowledged_in (items_of script) < 2 ^ 64)
-
--- how two local scripts compare: their entries first differ at this one, or only their ends do; or
--- they are equal, and so many replies were acknowledged
-abbrev pub Compares : (one other : LocalScript) → Twin → Type 0
-Compares one other (LocalDiffer entry) =
-    DifferAt (entries_in one) (entries_in other) entry
-    ⊎ ((entries_in one ≡ entries_in other) × (end_in one ≢ end_in other)
-    × (entry ≡ length (entries_in one)))
-Compares one other (Equal lines) =
-    (entries_in one ≡ entries_in other) × (end_in one ≡ end_in other)
-    × (lines ≡ acknowledged_in (items_of one))

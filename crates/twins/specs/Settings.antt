@@ -1,7 +1,7 @@
 -- How a script is run, as contracts see it.
 -- Source: none; it says how contracts see types of other crates.
--- Our own choice: when a checkpoint is due is left out. None is made, and one would change nothing
--- that a site is given.
+-- Our own choice: when a checkpoint is due is left out. A checkpoint changes nothing that a site is
+-- given.
 use Rattle.suffix_list.specs.ListText.{RuleList}
 use Rattle.origin_site.specs.Site.{PlainSite}
 use Rattle.agent_core.specs.declared.agent.Options.{Options}

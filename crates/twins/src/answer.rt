@@ -2,7 +2,8 @@
 ghost use Rattle.std.specs.Prelude.{◌<◌, ◌^◌};
 ghost use Rattle.script_courses.specs.Twins.{acknowledged_in};
 ghost use Rattle.twins.specs.Plain.{plain_twin};
-ghost use Rattle.twins.specs.Scripts.{Compares, items_of};
+ghost use Rattle.twins.specs.Comparing.{Compares};
+ghost use Rattle.twins.specs.Scripts.{items_of};
 
 use crate::counts::acknowledged;
 use crate::scripts::LocalScript;

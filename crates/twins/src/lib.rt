@@ -1,7 +1,7 @@
-//! Whether two scripts give a site the same local script.
+//! The local script that a script gives a site, and whether two scripts give it the same.
 //!
-//! [`twin`] runs each over a new store in memory, collects the items of the site's local script
-//! line by line, and compares them.
+//! [`local_script`] runs a script over a new store in memory, and collects the items of the site's
+//! local script line by line. [`twin`] does so with two, and compares them.
 #![tactic(auto)]
 
 mod answer;
@@ -13,5 +13,7 @@ mod present;
 mod scripts;
 mod two_scripts;
 
-pub use answer::Twin;
+pub use answer::{Twin, compare};
+pub use lines::local_script;
+pub use scripts::LocalScript;
 pub use two_scripts::twin;

@@ -26,8 +26,9 @@ use script_actions::{Action, Line, Step};
 use std::alloc::Global;
 use suffix_list::SuffixList;
 
-/// The local script that some lines give a site, run over a new store in memory.
-pub fn collect(
+/// The local script that some lines give a site, run over a new store in memory. When a checkpoint
+/// is due changes nothing of it.
+pub fn local_script(
     alloc: Global,
     list: &SuffixList,
     site: &Site,

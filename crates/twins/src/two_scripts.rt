@@ -10,7 +10,7 @@ ghost use Rattle.twins.specs.Settings.{setting};
 
 use crate::Twin;
 use crate::answer::compare;
-use crate::lines::collect;
+use crate::lines::local_script;
 use agent_base::NoMemory;
 use agent_core::Options;
 use origin_site::Site;
@@ -40,7 +40,7 @@ pub fn twin(
         batch: options.batch,
         checkpoint: 0,
     };
-    let one = collect(alloc, list, site, first, options)?;
-    let other = collect(alloc, list, site, second, options)?;
+    let one = local_script(alloc, list, site, first, options)?;
+    let other = local_script(alloc, list, site, second, options)?;
     Ok(compare(&one, &other))
 }

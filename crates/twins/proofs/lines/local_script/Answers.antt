@@ -8,7 +8,7 @@ use Rattle.store_runs.proofs.LoopLemmas.{steps_fit, steps_more}
 use Rattle.twins.specs.Collecting.{Collects, EndsAs, StandsOnCourse}
 use Rattle.twins.specs.Scripts.{Gives}
 use Rattle.twins.specs.Settings.{setting}
-use Rattle.twins.proofs.lines.collect.Goals as goal
+use Rattle.twins.proofs.lines.local_script.Goals as goal
 
 pub loop-line-init : goal.loop-line-init
 loop-line-init c =

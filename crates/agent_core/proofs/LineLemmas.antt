@@ -14,7 +14,6 @@ use Rattle.suffix_list.specs.Suffix.{Rule}
 use Rattle.script_actions.specs.Action.{PlainAction}
 use Rattle.reply_lines.specs.Reply.{PlainReply}
 use Rattle.agent_model.specs.Isolation.{printed}
-use Rattle.agent_base.specs.Seconds.{last_moment}
 use Rattle.agent_model.specs.TheMachine.{machine}
 use Rattle.durable_model.specs.Keeping.{AgentDurable, keeping}
 use Rattle.durable_model.specs.Laws.{LinesAreValid, LinesKeep}
@@ -57,14 +56,12 @@ ready_still j k v w roomier ready = record {
   rests = roomier.rests ready.rests;
 }
 
-pub still_standing : (list : RuleList) (m m' : AgentState) (now later : ℕ) (b b' : PlainBatch)
+pub still_standing : (list : RuleList) (m m' : AgentState) (b b' : PlainBatch)
     (power : Power) (j j' : JournalView) (v w : View) → m'.rules ≡ m.rules → b'.size ≡ b.size
-    → later ≤ last_moment → IsRoomier j j' v w → IsStanding list m now b power j v
-    → IsStanding list m' later b' power j' w
-still_standing list m m' now later b b' power j j' v w rules size in_time roomier standing = record {
+    → IsRoomier j j' v w → IsStanding list m b power j v → IsStanding list m' b' power j' w
+still_standing list m m' b b' power j j' v w rules size roomier standing = record {
   rules = rules ∙ standing.rules;
   digest = ap (λ (i : JournalView). i.digest) roomier.journal ∙ standing.digest;
-  in_time = in_time;
   least = omega (arith, size, standing.least);
   most = omega (arith, size, standing.most);
   ready = λ up. ready_still j j' v w roomier (standing.ready up);
@@ -73,26 +70,24 @@ still_standing list m m' now later b b' power j j' v w rules size in_time roomie
 down_not_up : Down ≡ Up → ⊥
 down_not_up e = cc
 
-pub after_fault_standing : (list : RuleList) (m : AgentState) (now : ℕ) (b : PlainBatch)
-    (power : Power) (j j' : JournalView) (v w : View) → j'.digest ≡ j.digest
-    → IsStanding list m now b power j v → IsStanding list m now b Down j' w
-after_fault_standing list m now b power j j' v w digest standing = record {
+pub after_fault_standing : (list : RuleList) (m : AgentState) (b : PlainBatch) (power : Power)
+    (j j' : JournalView) (v w : View) → j'.digest ≡ j.digest
+    → IsStanding list m b power j v → IsStanding list m b Down j' w
+after_fault_standing list m b power j j' v w digest standing = record {
   rules = standing.rules;
   digest = digest ∙ standing.digest;
-  in_time = standing.in_time;
   least = standing.least;
   most = standing.most;
   ready = λ up. absurd (down_not_up up);
 }
 
-pub after_commit_standing : (list : RuleList) (m : AgentState) (now later : ℕ)
-    (b b' : PlainBatch) (power : Power) (j j' : JournalView) (v w : View)
-    → j'.digest ≡ j.digest → b'.size ≡ b.size → later ≤ last_moment → IsReady j' w
-    → IsStanding list m now b power j v → IsStanding list m later b' power j' w
-after_commit_standing list m now later b b' power j j' v w digest size in_time ready standing = record {
+pub after_commit_standing : (list : RuleList) (m : AgentState) (b b' : PlainBatch)
+    (power : Power) (j j' : JournalView) (v w : View)
+    → j'.digest ≡ j.digest → b'.size ≡ b.size → IsReady j' w
+    → IsStanding list m b power j v → IsStanding list m b' power j' w
+after_commit_standing list m b b' power j j' v w digest size ready standing = record {
   rules = standing.rules;
   digest = digest ∙ standing.digest;
-  in_time = in_time;
   least = omega (arith, size, standing.least);
   most = omega (arith, size, standing.most);
   ready = λ _. ready;

@@ -11,7 +11,6 @@ use Rattle.suffix_list.specs.ListText.{RuleList}
 use Rattle.suffix_list.specs.Suffix.{Rule}
 use Rattle.reply_lines.specs.Plain.{reply_of}
 use Rattle.agent_model.specs.Isolation.{printed}
-use Rattle.agent_base.specs.Seconds.{last_moment}
 use Rattle.durable_model.specs.Keeping.{AgentDurable, durable_of}
 use Rattle.durable_model.specs.Saved.{Saved}
 use Rattle.row_store.specs.Kept.{kept_of}
@@ -27,13 +26,12 @@ use Rattle.agent_core.specs.declared.agent.Power.TheVariants.{Down, Spoilt, Up}
 use Rattle.agent_core.specs.declared.outcome.Outcome.{Outcome}
 use Rattle.agent_core.specs.declared.outcome.Outcome.TheVariants as outcome
 
--- its memory and its store are under its list, its clock is in time, and its batches have at least
--- one line and not too many; where it is up a call of its store may follow
-pub record IsStanding (list : RuleList) (memory : AgentState) (now : ℕ) (batch : PlainBatch)
-    (power : Power) (journal : JournalView) (view : View) : Type 0 where
+-- its memory and its store are under its list, and its batches have at least one line and not too
+-- many; where it is up a call of its store may follow
+pub record IsStanding (list : RuleList) (memory : AgentState) (batch : PlainBatch) (power : Power)
+    (journal : JournalView) (view : View) : Type 0 where
   pub rules : memory.rules ≡ list.rules
   pub digest : journal.digest ≡ list.digest
-  pub in_time : now ≤ last_moment
   pub least : 1 ≤ batch.size
   pub most : batch.size ≤ longest_batch
   pub ready : power ≡ Up → IsReady journal view

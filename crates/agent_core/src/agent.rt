@@ -34,7 +34,7 @@ use crate::open_batch::OpenBatch;
 use crate::opening::{Opened, open, reopen};
 use crate::outcome::Outcome;
 use crate::running::run_line;
-use agent_base::NoMemory;
+use agent_base::{NoMemory, Seconds};
 use agent_memory::Memory;
 use disk_model::Disk;
 use durable_model::lines_keep_durable_states;
@@ -60,8 +60,8 @@ pub enum Power {
 /// How an agent begins.
 #[derive(Clone, Copy, Debug)]
 pub struct Options {
-    /// The clock at the first line, in seconds since 1970.
-    pub start: u64,
+    /// The clock at the first line.
+    pub start: Seconds,
     /// How many lines are committed together, from 1 to 256.
     pub batch: u16,
     /// After so many durable changes since the last snapshot a checkpoint is due; 0 is never.
@@ -80,7 +80,7 @@ pub struct Refused<D: Disk + Drop> {
 pub struct Agent<'l, D: Disk + Drop> {
     pub(crate) alloc: Global,
     list: &'l SuffixList,
-    now: u64,
+    now: Seconds,
     pub(crate) memory: Memory<'l>,
     pub(crate) batch: OpenBatch,
     pub(crate) opened: u64,
@@ -109,17 +109,24 @@ impl<'l, D: Disk + Drop> Model for Agent<'l, D> {
       disk = a.store.disk;
     } };
 
-    ghost invariant = { λ a. IsStanding a.list.now a.memory a.now a.batch a.power
+    ghost invariant = { λ a. IsStanding a.list.now a.memory a.batch a.power
         a.store.journal (D.view a.store.disk) };
 }
 
 // Memory that goes on with what is durable.
-fn resume<'l>(alloc: Global, list: &'l SuffixList, now: u64, parts: Parts) -> Memory<'l>
-    requires now { now ≤ last_moment }
+fn resume<'l>(alloc: Global, list: &'l SuffixList, now: Seconds, parts: Parts) -> Memory<'l>
     requires sessions { HasNoSession parts.storage }
+    ensures in_time { now ≤ last_moment }
     ensures state { result ≡ resumed list.now.rules now parts.storage parts.cookies parts.grants }
 {
-    Memory::resume(alloc, list, now, parts.storage, parts.cookies, parts.grants)
+    Memory::resume(
+        alloc,
+        list,
+        now.number(),
+        parts.storage,
+        parts.cookies,
+        parts.grants,
+    )
 }
 
 // Whether an agent is up after such a refusal: it never is.
@@ -143,7 +150,6 @@ fn begin<'l, D: Disk + Drop>(
     options: Options,
     opened: Opened,
 ) -> Agent<'l, D>
-    requires start { options.start ≤ last_moment }
     requires batch { (1 ≤ options.batch) × (options.batch ≤ longest_batch) }
     requires opened { IsOpened list.now opened.journal (D.view disk) opened.parts }
     ensures seen { let at : Rest = record { now = options.start; places = no_places } in
@@ -182,7 +188,6 @@ impl<'l, D: Disk + Drop> Agent<'l, D> {
         list: &'l SuffixList,
         options: Options,
     ) -> Result<Agent<'l, D>, Refused<D>>
-        requires start { options.start ≤ last_moment }
         requires batch { (1 ≤ options.batch) × (options.batch ≤ longest_batch) }
 
         // It stands for the world that a restart opens with what the store stands for.
@@ -405,7 +410,7 @@ impl<'l, D: Disk + Drop> Agent<'l, D> {
                 if self.batch.is_full() {
                     return self.finish();
                 }
-                self.now = self.memory.now();
+                self.now = Seconds::new(self.memory.now());
                 Outcome::Held
             }
         }
@@ -459,7 +464,7 @@ impl<'l, D: Disk + Drop> Agent<'l, D> {
                 Outcome::Down
             }
             Ok(()) => {
-                self.now = self.memory.now();
+                self.now = Seconds::new(self.memory.now());
                 Outcome::Replies(self.batch.give())
             }
         }
@@ -484,7 +489,7 @@ impl<'l, D: Disk + Drop> Agent<'l, D> {
     pub fn now(&self) -> u64
         ensures { result ≡ self.entry.now.now }
     {
-        self.now
+        self.now.number()
     }
 
     /// Hands the disk back.

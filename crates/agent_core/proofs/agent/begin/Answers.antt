@@ -10,7 +10,7 @@ returns-clause-seen g c =
     c.args.options.start c.changes-changes.result
     c.args.options.checkpoint Up c.args.disk (g.D.Disk.view c.args.disk)
     c.args.opened.parts c.lines_keep_durable_states.ensures.opens c.lines_have_spellings.ensures.opens
-    c.resume.ensures.state c.requires.start
+    c.resume.ensures.state c.resume.ensures.in_time
     (omega (arith, c.changes-changes.ensures, c.changes-changes.type_inv))
     c.changes-changes.ensures c.requires.opened c.new.ensures.body c.new.ensures.changes
     c.new.ensures.held (omega (arith, c.new.ensures.size, c.requires.batch.0)) refl

@@ -17,7 +17,7 @@ commit-requires-clause-room g c =
 
 pub invariant_of-self : goal.invariant_of-self
 invariant_of-self g c =
-    after_fault_standing c.self.inside.list.now c.self.inside.memory c.self.inside.now
+    after_fault_standing c.self.inside.list.now c.self.inside.memory
     c.self.inside.batch c.self.inside.power c.self.inside.store.journal
     c.commit.new.self.journal (g.D.Disk.view c.self.inside.store.disk)
     (g.D.Disk.view c.commit.new.self.disk) c.in-Err.ensures.digest c.self.invariant
@@ -52,15 +52,15 @@ returns-in-Err-clause-device g c = rw (← c.self.view_is)
 
 pub invariant_of-self-in-Ok : goal.invariant_of-self-in-Ok
 invariant_of-self-in-Ok g c =
-    after_commit_standing c.self.inside.list.now c.self.inside.memory c.self.inside.now
-    c.now-self-inside.result c.self.inside.batch c.give.new.self c.self.inside.power
+    after_commit_standing c.self.inside.list.now c.self.inside.memory
+    c.self.inside.batch c.give.new.self c.self.inside.power
     c.self.inside.store.journal c.commit.new.self.journal
     (g.D.Disk.view c.self.inside.store.disk) (g.D.Disk.view c.commit.new.self.disk)
-    c.in-Ok.ensures.digest c.give.ensures.size c.now-self-inside.ensures.in_time c.in-Ok.ensures.ready
+    c.in-Ok.ensures.digest c.give.ensures.size c.in-Ok.ensures.ready
     c.self.invariant
 
 pub returns-in-Ok-clause-finishes : goal.returns-in-Ok-clause-finishes
-returns-in-Ok-clause-finishes g c = rw (← c.self.view_is, c.now-self-inside.ensures.now) (λ ran up.
+returns-in-Ok-clause-finishes g c = rw (← c.self.view_is, c.new-self-inside.ensures.moment ∙ c.now.ensures.now) (λ ran up.
     finish_gave c.self.inside.memory c.self.inside.now c.self.inside.batch
     c.self.inside.store.journal c.commit.new.self.journal c.self.inside.opened c.self.inside.checkpoint
     c.self.inside.power c.self.inside.store.disk c.commit.new.self.disk

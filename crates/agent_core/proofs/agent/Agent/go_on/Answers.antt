@@ -8,7 +8,7 @@ returns-clause-seen g c =
     gone_on g.D.Disk.view _ c.args.self.now c.self.inside.list.now.rules c.resume.result
     c.clear.new.self c.args.opened.journal c.changes-changes.result c.args.opened.parts
     c.self.view_is c.self.invariant.rules c.lines_keep_durable_states.ensures.opens
-    c.lines_have_spellings.ensures.opens c.resume.ensures.state c.self.invariant.in_time
+    c.lines_have_spellings.ensures.opens c.resume.ensures.state c.resume.ensures.in_time
     (omega (arith, c.changes-changes.ensures, c.changes-changes.type_inv))
     c.changes-changes.ensures c.requires.opened c.clear.ensures.body
     c.clear.ensures.changes c.clear.ensures.held

@@ -10,9 +10,8 @@ use Rattle.agent_core.proofs.agent.Agent.run.Goals as goal
 
 pub invariant_of-self : goal.invariant_of-self
 invariant_of-self g c =
-    still_standing _ _ _ _ _ _ _ _ _ _ _ _ c.in-Err.ensures.unchanged.rules c.in-Err.ensures.unchanged.size
-    c.self.invariant.in_time c.in-Err.ensures.roomier
-    c.self.invariant
+    still_standing _ _ _ _ _ _ _ _ _ _ c.in-Err.ensures.unchanged.rules c.in-Err.ensures.unchanged.size
+    c.in-Err.ensures.roomier c.self.invariant
 
 pub returns-in-Err : goal.returns-in-Err
 returns-in-Err g c =
@@ -31,9 +30,8 @@ returns-in-Err g c =
 
 pub invariant_of-self-then-is_full : goal.invariant_of-self-then-is_full
 invariant_of-self-then-is_full g c =
-    still_standing _ _ _ _ _ _ _ _ _ _ _ _ c.in-Ok.ensures.ran.rules c.in-Ok.ensures.ran.size
-    c.self.invariant.in_time c.in-Ok.ensures.roomier
-    c.self.invariant
+    still_standing _ _ _ _ _ _ _ _ _ _ c.in-Ok.ensures.ran.rules c.in-Ok.ensures.ran.size
+    c.in-Ok.ensures.roomier c.self.invariant
 
 pub finish-requires-clause-up : goal.finish-requires-clause-up
 finish-requires-clause-up g c = power_is _ _ c.self.view_is c.requires.up
@@ -100,14 +98,13 @@ returns-then-is_full g c =
 
 pub invariant_of-self-in-Ok : goal.invariant_of-self-in-Ok
 invariant_of-self-in-Ok g c =
-    still_standing _ _ _ _ _ _ _ _ _ _ _ _ c.in-Ok.ensures.ran.rules c.in-Ok.ensures.ran.size
-    c.now-self-inside.ensures.in_time c.in-Ok.ensures.roomier
-    c.self.invariant
+    still_standing _ _ _ _ _ _ _ _ _ _ c.in-Ok.ensures.ran.rules c.in-Ok.ensures.ran.size
+    c.in-Ok.ensures.roomier c.self.invariant
 
 pub returns-else-is_full : goal.returns-else-is_full
 returns-else-is_full g c =
     let ran = c.in-Ok.ensures.ran in
-    rw (← c.self.view_is, c.now-self-inside.ensures.now) (record {
+    rw (← c.self.view_is, c.new-self-inside.ensures.moment ∙ c.now.ensures.now) (record {
       runs =
           line_stays _ c.run_line.new.memory c.self.inside.batch c.run_line.new.batch _ _ _ _ _ _ _
           _ _ _ _ _ _ (g.met.D.Disk.lawful c.self.inside.store.disk) c.in-Ok.ensures.roomier

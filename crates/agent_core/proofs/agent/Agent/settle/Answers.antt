@@ -12,8 +12,7 @@ use Rattle.agent_core.proofs.agent.Agent.settle.Goals as goal
 
 pub invariant_of-self : goal.invariant_of-self
 invariant_of-self g c =
-    still_standing _ _ _ _ _ _ _ _ _ _ _ _ refl refl
-    c.self.invariant.in_time c.in-Err.ensures.roomier c.self.invariant
+    still_standing _ _ _ _ _ _ _ _ _ _ refl refl c.in-Err.ensures.roomier c.self.invariant
 
 pub returns-in-Err-clause-flushes : goal.returns-in-Err-clause-flushes
 returns-in-Err-clause-flushes g c = rw (← c.self.view_is)
@@ -23,8 +22,7 @@ returns-in-Err-clause-flushes g c = rw (← c.self.view_is)
 
 pub invariant_of-self-in-Ok : goal.invariant_of-self-in-Ok
 invariant_of-self-in-Ok g c =
-    still_standing _ _ _ _ _ _ _ _ _ _ _ _ refl refl
-    c.self.invariant.in_time c.in-Ok.ensures.roomier c.self.invariant
+    still_standing _ _ _ _ _ _ _ _ _ _ refl refl c.in-Ok.ensures.roomier c.self.invariant
 
 pub finish-requires-clause-up : goal.finish-requires-clause-up
 finish-requires-clause-up g c = power_is _ _ c.self.view_is c.requires.up

@@ -4,7 +4,6 @@ ghost use Rattle.std.specs.Prelude.{true};
 ghost use Rattle.agent_base.specs.Counts.{Rose};
 ghost use Rattle.agent_base.specs.Streams.{Takes};
 ghost use Rattle.agent_core.specs.AgentView.{longest_batch};
-ghost use Rattle.agent_base.specs.Seconds.{last_moment};
 ghost use Rattle.disk_model.specs.Schedule.{AreFrom};
 ghost use Rattle.durable_model.specs.Saved.{nothing_saved};
 ghost use Rattle.journal.specs.Opening.{IsOfFile, IsOver, IsRefusal};
@@ -42,7 +41,6 @@ pub fn run_on<D: Disk + Drop, O: Sink>(
     lines: &[Line],
     out: &mut O,
 ) -> Finished<D>
-    requires start { options.start ≤ last_moment }
     requires batch { (1 ≤ options.batch) × (options.batch ≤ longest_batch) }
     requires fits { length lines.now + 2 < 2 ^ 64 }
     ensures written { (D.view disk).tells ≡ true
@@ -95,7 +93,6 @@ pub fn run_in_memory<O: Sink>(
     lines: &[Line],
     out: &mut O,
 ) -> Ending
-    requires start { options.start ≤ last_moment }
     requires batch { (1 ≤ options.batch) × (options.batch ≤ longest_batch) }
     requires cuts { AreFrom 1 cuts.items }
     requires fits { length lines.now + 2 < 2 ^ 64 }

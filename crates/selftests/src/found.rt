@@ -14,7 +14,7 @@ ghost use Rattle.selftests.specs.Runs.{RanAnew};
 ghost use Rattle.selftests.specs.Store.{IsStoreLength, day_checkpoint};
 
 use crate::ends::{TextSink, empty_list};
-use agent_base::NoMemory;
+use agent_base::{NoMemory, Seconds};
 use agent_core::Options;
 use disk_model::{Disk, MemDisk};
 use generated_day::generated_day;
@@ -100,7 +100,7 @@ fn run_anew(
 {
     let disk = MemDisk::new(alloc, Vec::new(alloc), Vec::new(alloc), Vec::new(alloc));
     let options = Options {
-        start: START,
+        start: Seconds::new(START),
         batch: BATCH,
         checkpoint: CHECKPOINT,
     };

@@ -5,7 +5,6 @@ ghost use Rattle.unwinding.specs.Admissible.{Acts, Reopens};
 ghost use Rattle.origin_site.specs.Plain.{plain_site};
 ghost use Rattle.origin_site.specs.Site.{PlainSite};
 ghost use Rattle.script_actions.specs.Plain.{action_of, step_of};
-ghost use Rattle.agent_base.specs.Seconds.{last_moment};
 ghost use Rattle.script_courses.specs.Collected.{nothing_collected};
 ghost use Rattle.agent_core.specs.AgentView.{longest_batch};
 ghost use Rattle.store_runs.specs.Steps.{steps_of};
@@ -35,7 +34,6 @@ pub fn local_script(
     lines: &[Line],
     options: Options,
 ) -> Result<LocalScript, NoMemory>
-    requires start { options.start ≤ last_moment }
     requires batch { (1 ≤ options.batch) × (options.batch ≤ longest_batch) }
     requires fits { length lines.now + 2 < 2 ^ 64 }
     ensures given { let at = setting list.now (plain_site site.now) options in
@@ -55,7 +53,6 @@ fn open<'l>(
     list: &'l SuffixList,
     options: Options,
 ) -> Result<Agent<'l, MemDisk>, NoMemory>
-    requires start { options.start ≤ last_moment }
     requires batch { (1 ≤ options.batch) × (options.batch ≤ longest_batch) }
     ensures opened { IfOk result (λ agent. (site : PlainSite)
         → StandsOnCourse (setting list.now site options) agent [] nothing_collected) }

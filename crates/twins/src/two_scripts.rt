@@ -1,7 +1,6 @@
 //! Two scripts, run and compared.
 ghost use Rattle.std.specs.Prelude.{◌≤◌, ◌<◌, ◌+◌, ◌^◌, IfOk, length};
 ghost use Rattle.origin_site.specs.Plain.{plain_site};
-ghost use Rattle.agent_base.specs.Seconds.{last_moment};
 ghost use Rattle.script_courses.specs.Twins.{IsTwin};
 ghost use Rattle.agent_core.specs.AgentView.{longest_batch};
 ghost use Rattle.store_runs.specs.Steps.{steps_of};
@@ -28,19 +27,17 @@ pub fn twin(
     second: &[Line],
     options: Options,
 ) -> Result<Twin, NoMemory>
-    requires start { options.start ≤ last_moment }
     requires batch { (1 ≤ options.batch) × (options.batch ≤ longest_batch) }
     requires first { length first.now + 2 < 2 ^ 64 }
     requires second { length second.now + 2 < 2 ^ 64 }
     ensures answer { let at = setting list.now (plain_site site.now) options in
         IfOk result (λ t. IsTwin at (steps_of first.now) (steps_of second.now) (plain_twin t)) }
 {
-    let options = Options {
-        start: options.start,
-        batch: options.batch,
+    let options = &Options {
         checkpoint: 0,
+        ..options
     };
-    let one = local_script(alloc, list, site, first, options)?;
-    let other = local_script(alloc, list, site, second, options)?;
+    let one = local_script(alloc, list, site, first, *options)?;
+    let other = local_script(alloc, list, site, second, *options)?;
     Ok(compare(&one, &other))
 }

@@ -3,7 +3,6 @@ ghost use Rattle.std.specs.Prelude.{◌≡◌, ◌≤◌, ◌<◌, ◌+◌, ◌^
 ghost use Rattle.agent_base.specs.Counts.{HasCause};
 ghost use Rattle.agent_base.specs.Streams.{Takes, TakesPrefix};
 ghost use Rattle.agent_core.specs.AgentView.{longest_batch};
-ghost use Rattle.agent_base.specs.Seconds.{last_moment};
 ghost use Rattle.command_line.specs.Words as words;
 ghost use Rattle.origin_site.specs.Plain.{plain_site};
 ghost use Rattle.script_lines.specs.Plain.{script_of};
@@ -40,7 +39,6 @@ pub fn write_twin<H: Host, I: Source, O: Sink>(
     script: &mut I,
     out: &mut O,
 ) -> Status
-    requires start { options.start ≤ last_moment }
     requires batch { (1 ≤ options.batch) × (options.batch ≤ longest_batch) }
     requires closed { H.store_out host.old ≡ None }
     ensures { let start = options.start in
@@ -67,7 +65,6 @@ fn compare<I: Source, O: Sink>(
     script: &mut I,
     out: &mut O,
 ) -> Status
-    requires start { options.start ≤ last_moment }
     requires batch { (1 ≤ options.batch) × (options.batch ≤ longest_batch) }
     ensures text { WritesLine result (from_to (O.taken out.old) (O.taken out.new))
         (IsAnswer list.now (plain_site site.now) options.start options.batch

@@ -1,5 +1,6 @@
 //! The run of a command.
 ghost use Rattle.std.specs.Prelude.{◌≡◌, ◌≤◌, ◌⊎◌, map, Some, None, string_bytes};
+ghost use Rattle.agent_base.specs.Seconds.{last_moment};
 ghost use Rattle.command_line.specs.Words.{Help, command_of};
 ghost use Rattle.printed_model.specs.Histories.{HasOneText, HasSameLines, HasSiteLines};
 ghost use Rattle.replay.specs.BeforeAfter.{from_to};
@@ -21,7 +22,7 @@ use crate::scripts::replay;
 use crate::seeds::write_selftest;
 use crate::told::USAGE;
 use crate::{Status, tell};
-use agent_base::{NoMemory, Sink, Source, write_all};
+use agent_base::{NoMemory, Seconds, Sink, Source, write_all};
 use agent_core::Options;
 use command_line::{Command, read_words};
 use hosts::Host;
@@ -159,11 +160,13 @@ fn command<H: Host, I: Source, O: Sink>(
     }
 }
 
+// How an agent begins, by the numbers of a command.
 fn options(start: u64, batch: u16, checkpoint: u32) -> Options
+    requires { start ≤ last_moment }
     ensures { result ≡ record { start = start; batch = batch; checkpoint = checkpoint } }
 {
     Options {
-        start,
+        start: Seconds::new(start),
         batch,
         checkpoint,
     }

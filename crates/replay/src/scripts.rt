@@ -2,7 +2,6 @@
 ghost use Rattle.std.specs.Prelude.{◌≡◌, ◌≤◌, ◌<◌, ◌+◌, ◌^◌, IfErr, IfOk, None, OnErr, OnOk, Some};
 ghost use Rattle.std.specs.Prelude.{length, option_map, true, false};
 ghost use Rattle.agent_core.specs.AgentView.{longest_batch};
-ghost use Rattle.agent_base.specs.Seconds.{last_moment};
 ghost use Rattle.command_line.specs.Words.{Replay};
 ghost use Rattle.disk_model.specs.Schedule.{AreFrom};
 ghost use Rattle.replay.specs.BeforeAfter.{from_to};
@@ -39,7 +38,6 @@ pub fn replay<H: Host, I: Source, O: Sink>(
     script: &mut I,
     out: &mut O,
 ) -> Status
-    requires start { options.start ≤ last_moment }
     requires batch { (1 ≤ options.batch) × (options.batch ≤ longest_batch) }
     requires closed { H.store_out host.old ≡ None }
     ensures { let path = option_map (λ path. path.now) store.entry in
@@ -64,7 +62,6 @@ fn run_in_new<I: Source, O: Sink>(
     script: &mut I,
     out: &mut O,
 ) -> Status
-    requires start { options.start ≤ last_moment }
     requires batch { (1 ≤ options.batch) × (options.batch ≤ longest_batch) }
     ensures text { Written result (TakesNone (from_to (O.taken out.old) (O.taken out.new)))
         (λ ended. (read : ScriptRead true (from_to (I.left script.old) (I.left script.new)))
@@ -95,7 +92,6 @@ fn run_stored<H: Host, I: Source, O: Sink>(
     script: &mut I,
     out: &mut O,
 ) -> Status
-    requires start { options.start ≤ last_moment }
     requires batch { (1 ≤ options.batch) × (options.batch ≤ longest_batch) }
     requires closed { H.store_out host.old ≡ None }
     ensures text { Written result (LeftAlone (from_to (O.taken out.old) (O.taken out.new))
@@ -135,7 +131,6 @@ fn run_over<H: Host, O: Sink>(
     lines: &[Line],
     out: &mut O,
 ) -> Status
-    requires start { options.start ≤ last_moment }
     requires batch { (1 ≤ options.batch) × (options.batch ≤ longest_batch) }
     requires fits { length lines.now + 2 < 2 ^ 64 }
     requires closed { H.store_out host.old ≡ None }

@@ -1,10 +1,9 @@
 //! Lists, lines, cuts, outputs and runs of the tests.
 ghost use Rattle.std.specs.Prelude.{◌≤◌, IfOk};
 ghost use Rattle.agent_core.specs.AgentView.{longest_batch};
-ghost use Rattle.agent_base.specs.Seconds.{last_moment};
 ghost use Rattle.disk_model.specs.Schedule.{AreFrom};
 
-use agent_base::{MemSink, MemSource, NoMemory};
+use agent_base::{MemSink, MemSource, NoMemory, Seconds};
 use agent_core::Options;
 use disk_model::{Cut, MemDisk};
 use script_actions::Line;
@@ -30,11 +29,10 @@ pub const STORED: &[&str] = &[
 /// Batches of so many lines, and a checkpoint after so many durable changes, from a moment of the
 /// year 2001 on.
 pub fn options(batch: u16, checkpoint: u32) -> Options
-    ensures start { result.start ≤ last_moment }
     ensures batch { (1 ≤ result.batch) × (result.batch ≤ longest_batch) }
 {
     Options {
-        start: 1_000_000_000,
+        start: Seconds::new(1_000_000_000),
         batch: batch.max(1).min(256),
         checkpoint,
     }

@@ -27,6 +27,39 @@ const WRITES: Row = Row {
     ..WRITE
 };
 
+const ANSWER: Row = Row {
+    name: "an answer whose second write fails",
+    words: &["twin", "https://a.test", "LIST"],
+    script: r#"{"do":"open","tab":1,"url":"https://a.test/"}
+{"do":"set","tab":1,"key":"k","value":"v"}
+{"do":"get","tab":1,"key":"k"}
+===
+{"do":"open","tab":2,"url":"https://b.test/"}
+{"do":"open","tab":1,"url":"https://a.test/"}
+{"do":"set","tab":2,"key":"k","value":"z"}
+{"do":"set","tab":1,"key":"k","value":"v"}
+{"do":"get","tab":1,"key":"k"}
+"#,
+    out: "{\"equal\":",
+    ..WRITE
+};
+
+const UNREAD: Row = Row {
+    name: "scripts whose first read fails",
+    out: "",
+    err: "read fault\n",
+    status: 6,
+    ..ANSWER
+};
+
+const SELFTEST: Row = Row {
+    name: "the line of the self-test, whose first write fails",
+    words: &["selftest", "7"],
+    list: "..",
+    script: "x",
+    ..WRITE
+};
+
 const FAULTS: &[(Row, Fails)] = &[
     (
         READ,
@@ -61,6 +94,27 @@ const FAULTS: &[(Row, Fails)] = &[
         Fails {
             out: &[1],
             err: &[1],
+            ..NO_FAILS
+        },
+    ),
+    (
+        ANSWER,
+        Fails {
+            out: &[2],
+            ..NO_FAILS
+        },
+    ),
+    (
+        UNREAD,
+        Fails {
+            script: &[1],
+            ..NO_FAILS
+        },
+    ),
+    (
+        SELFTEST,
+        Fails {
+            out: &[1],
             ..NO_FAILS
         },
     ),

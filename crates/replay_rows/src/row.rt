@@ -65,7 +65,7 @@ pub const NO_FAILS: Fails = Fails {
 };
 
 /// Room for the replies of a row, and for a fault line.
-pub const ROOM: usize = 100_000;
+const ROOM: usize = 100_000;
 
 /// How a run ended, and what it wrote.
 #[derive(Drop)]
@@ -163,20 +163,9 @@ fn wrong_in(alloc: Global, row: &Row, fails: &Fails) -> Result<&'static str, Fai
     Ok(wrong_part(&ended, row))
 }
 
-/// Runs a row, and names it where it fails.
-pub fn check(rt: &impl Abort, alloc: Global, row: &Row) -> Result<(), Fail> {
-    check_failing(rt, alloc, row, &NO_FAILS)
-}
-
-/// Runs a row some of whose calls fail.
+/// Runs a row some of whose calls fail, and names it where it ends otherwise.
 pub fn check_failing(rt: &impl Abort, alloc: Global, row: &Row, fails: &Fails) -> Result<(), Fail> {
     let wrong = wrong_in(alloc, row, fails)?;
     assert!(rt; wrong.is_empty(), "{wrong} of: {}", row.name);
     Ok(())
-}
-
-/// Whether a script under the empty list ends well, and prints these replies in so much room.
-pub fn prints(alloc: Global, script: &str, room: usize, replies: &str) -> Result<bool, Fail> {
-    let ended = run_texts(alloc, REPLAY, ("", script), room, &NO_FAILS)?;
-    Ok(ended.status == 0 && ended.out.bytes() == replies.as_bytes())
 }

@@ -1,5 +1,4 @@
-//! Tests of runs over stores on disks in memory, by the public calls of `store_runs` and
-//! `selftests`, and of two scripts, by that of `twins`.
+//! Tests of runs over stores on disks in memory, by the public calls of `store_runs` and `agent_core`.
 //!
 //! They stand apart from these libraries, so that each is proved once.
 #![tactic(auto)]
@@ -10,11 +9,5 @@ mod checkpoints;
 mod disks;
 #[cfg(test)]
 mod listing;
-#[cfg(test)]
-mod pairs;
-#[cfg(test)]
-mod runs;
-#[cfg(test)]
-mod seeds;
 #[cfg(test)]
 mod shared;

@@ -76,8 +76,8 @@ pub fn lines_of(alloc: Global, texts: &[&str]) -> Result<Vec<Line>, Fail> {
     Ok(lines)
 }
 
-/// The cut of a case, in a call and with a pick that a disk can have.
-pub fn cuts_of(alloc: Global, cut: Option<Cut>) -> Result<Vec<Cut>, Fail>
+// The cut of a case, in a call and with a pick that a disk can have.
+fn cuts_of(alloc: Global, cut: Option<Cut>) -> Result<Vec<Cut>, Fail>
     ensures { IfOk result (λ cuts. AreFrom 1 cuts.items) }
 {
     let mut cuts = Vec::new(alloc);
@@ -89,8 +89,8 @@ pub fn cuts_of(alloc: Global, cut: Option<Cut>) -> Result<Vec<Cut>, Fail>
     Ok(cuts)
 }
 
-/// An output with room for 10,000 bytes.
-pub fn sink(alloc: Global) -> Result<MemSink, Fail> {
+// An output with room for 10,000 bytes.
+fn sink(alloc: Global) -> Result<MemSink, Fail> {
     match MemSink::new(alloc, 10_000, Vec::new(alloc)) {
         Ok(sink) => Ok(sink),
         Err(NoMemory) => Err(Fail::from(AllocError)),

@@ -119,14 +119,8 @@ fn resume<'l>(alloc: Global, list: &'l SuffixList, now: Seconds, parts: Parts) -
     ensures in_time { now ≤ last_moment }
     ensures state { result ≡ resumed list.now.rules now parts.storage parts.cookies parts.grants }
 {
-    Memory::resume(
-        alloc,
-        list,
-        now.number(),
-        parts.storage,
-        parts.cookies,
-        parts.grants,
-    )
+    let now = now.number();
+    Memory::resume(alloc, list, now, parts.storage, parts.cookies, parts.grants)
 }
 
 // Whether an agent is up after such a refusal: it never is.

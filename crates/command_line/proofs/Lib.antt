@@ -10,3 +10,4 @@ pub mod TwinLemmas
 pub mod DumpLemmas
 pub mod SelftestLemmas
 pub mod ConfirmLemmas
+pub mod ShowLemmas

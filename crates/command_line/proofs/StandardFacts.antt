@@ -2,7 +2,10 @@
 use Rattle.std.proofs.Common.{◌≡◌, refl, [], ◌∷◌, Some, None, arith}
 use Rattle.std.specs.Prelude.{codes}
 use Rattle.command_line.specs.Options.{have_distinct_names, number_of, pairs_of}
+use Rattle.command_line.specs.Shows.{IsShowInRange, Shows, show_of}
+use Rattle.command_line.specs.Shows as show
 use Rattle.command_line.specs.Words.{Dump, Help, IsInRange, Replay, Selftest, TakesMemory, Twin, command_of}
+use Rattle.command_line.specs.declared.shows.Shown.TheVariants.{Difference, Script}
 
 alone : command_of (codes "replay" ∷ codes "l" ∷ []) ≡ Some (Replay (codes "l") None 1 1000 1767225600)
 unfolding pairs_of have_distinct_names
@@ -163,3 +166,42 @@ help_takes_no_memory is = is
 
 selftest_takes_memory : TakesMemory (Selftest 7)
 selftest_takes_memory = tt
+
+-- ---- the program that shows what scripts give a site
+
+shown : show_of (codes "show" ∷ codes "https://a.test" ∷ codes "l" ∷ []) ≡ Some (Shows Script (codes "https://a.test") (codes "l") 1 1000 1767225600)
+unfolding pairs_of have_distinct_names
+shown = refl
+
+shown_of_two : show_of (codes "differ" ∷ codes "s" ∷ codes "l" ∷ codes "--start" ∷ codes "5" ∷ codes "--checkpoint" ∷ codes "0" ∷ codes "--batch" ∷ codes "256" ∷ []) ≡ Some (Shows Difference (codes "s") (codes "l") 256 0 5)
+unfolding pairs_of have_distinct_names
+shown_of_two = refl
+
+shown_over_a_store : show_of (codes "show" ∷ codes "s" ∷ codes "l" ∷ codes "--store" ∷ codes "p" ∷ []) ≡ None
+unfolding pairs_of have_distinct_names
+shown_over_a_store = refl
+
+shown_in_too_long_a_batch : show_of (codes "differ" ∷ codes "s" ∷ codes "l" ∷ codes "--batch" ∷ codes "257" ∷ []) ≡ None
+unfolding pairs_of have_distinct_names
+shown_in_too_long_a_batch = refl
+
+shown_under_no_list : show_of (codes "show" ∷ codes "s" ∷ []) ≡ None
+shown_under_no_list = refl
+
+shown_for_an_option : show_of (codes "show" ∷ codes "--batch" ∷ codes "l" ∷ []) ≡ None
+shown_for_an_option = refl
+
+command_of_the_other_program : show_of (codes "twin" ∷ codes "s" ∷ codes "l" ∷ []) ≡ None
+command_of_the_other_program = refl
+
+no_word : show_of [] ≡ None
+no_word = refl
+
+show_help : show_of (codes "--help" ∷ []) ≡ Some show.Help
+show_help = refl
+
+show_help_and_more : show_of (codes "--help" ∷ codes "s" ∷ codes "l" ∷ []) ≡ None
+show_help_and_more = refl
+
+shown_too_late : IsShowInRange (Shows Script (codes "s") (codes "l") 1 0 253402300800) → ⊥
+shown_too_late is = omega (arith, is.3)

@@ -136,7 +136,8 @@ fn replay<'a>(list: &'a str, rest: &'a [String]) -> Option<Command<'a>>
     })
 }
 
-fn twin<'a>(site: &'a str, rest: &'a [String]) -> Option<Command<'a>>
+/// The comparison of a site's word and the words behind it.
+pub fn twin<'a>(site: &'a str, rest: &'a [String]) -> Option<Command<'a>>
     ensures { option_map plain_command result ≡ spec.twin_of site.now (map string_bytes rest.now) }
 {
     match rest {

@@ -1,5 +1,6 @@
 pub mod CountLemmas
 pub mod LeadLemmas
 pub mod LineLemmas
+pub mod NumberLemmas
 pub mod PresentLemmas
 pub mod RunLemmas

@@ -47,8 +47,8 @@ pub fn local_script(
     close(&mut agent, site, found)
 }
 
-// An agent over a new store. No call of its disk can fail.
-fn open<'l>(
+/// An agent over a new store. No call of its disk can fail.
+pub fn open<'l>(
     alloc: Global,
     list: &'l SuffixList,
     options: Options,
@@ -67,8 +67,8 @@ fn open<'l>(
     }
 }
 
-// Runs one line, and collects what it gives the site.
-fn step(
+/// Runs one line, and collects what it gives the site.
+pub fn step(
     alloc: Global,
     agent: &mut Agent<'_, MemDisk>,
     site: &Site,

@@ -18,15 +18,11 @@ use Rattle.store_runs.specs.Runs.{HasNoCuts, WritesLines}
 use Rattle.store_runs.specs.Steps.{steps_of}
 use Rattle.store_runs.specs.declared.ending.Ending.{Ending}
 use Rattle.store_runs.proofs.StopLemmas.{writes_other}
+use Rattle.twins.proofs.NumberLemmas.{steps_are}
 use Rattle.replay.specs.BeforeAfter.{BeforeAfter}
 use Rattle.replay.specs.Runs.{RanInMemory, steps_in}
 use Rattle.replay.specs.Openings.{Images, Unopened}
 use Rattle.replay.specs.Stores.{IsMeantBy, LeavesStore}
-
--- the steps of lines, as they stand in the script
-pub steps_are : (lines : List Line) → map (λ line. line.step) (map line_of lines) ≡ steps_of lines
-steps_are [] = refl
-steps_are (line ∷ lines) = ap (λ rest. (line_of line).step ∷ rest) (steps_are lines)
 
 -- the same of a script that was read
 pub steps_read : (script : PlainScript) (cuts : List Cut) (lines : List Line) → script ≡ record { cuts = cuts; lines = map line_of lines } → steps_in script ≡ steps_of lines

@@ -11,6 +11,7 @@ use Rattle.suffix_list.specs.ListText.{RuleList}
 use Rattle.script_actions.specs.declared.step.Line.{Line}
 use Rattle.script_lines.specs.TwoScripts.{two_of_bytes}
 use Rattle.script_lines.specs.Plain.{fault_of, script_of}
+use Rattle.script_lines.specs.Script.{PlainFault}
 use Rattle.script_lines.specs.declared.script.Script.{Script}
 use Rattle.script_lines.specs.declared.script.ScriptFault.{ScriptFault}
 use Rattle.script_lines.specs.declared.script.ScriptFault.TheVariants as fault
@@ -22,7 +23,7 @@ use Rattle.replay.specs.BeforeAfter.{BeforeAfter, from_to}
 use Rattle.replay.specs.Causes.{ReadsNoScript, ScriptCauseOf, ScriptFaulty, WriteCounts}
 use Rattle.replay.specs.Endings.{IsOfTwoScripts, TwinCanEnd}
 use Rattle.replay.specs.Commands.{HasCompared, IsAfterList, IsAnswer, Obeys, told_of}
-use Rattle.replay.specs.Readings.{IsListOf, ScriptCounts, ScriptRefusal, refusal_status}
+use Rattle.replay.specs.Readings.{HasScripts, IsListOf, ScriptCounts, ScriptRefusal, refusal_status}
 use Rattle.replay.specs.Runs.{WritesLine, steps_in}
 use Rattle.replay.specs.Twins.{IsAnswered, ScriptsRead, setting_of, twin_line}
 use Rattle.replay.specs.Words.{IsNoSite, IsSite}
@@ -89,7 +90,7 @@ answered list site start batch left scripts first second answer one other ones o
 -- ---- the line
 
 -- what follows of the line that is written
-line_weaker : (status : Status) (taken : BeforeAfter (Option (List ℕ))) (P Q : List ℕ → Type 0) → ((line : List ℕ) → P line → Q line) → WritesLine status taken P → WritesLine status taken Q
+pub line_weaker : (status : Status) (taken : BeforeAfter (Option (List ℕ))) (P Q : List ℕ → Type 0) → ((line : List ℕ) → P line → Q line) → WritesLine status taken P → WritesLine status taken Q
 line_weaker Done taken P Q how (line, is, takes) = (line, how line is, takes)
 line_weaker Write taken P Q how (line, is, takes) = (line, how line is, takes)
 line_weaker Usage taken P Q how takes = takes
@@ -102,26 +103,26 @@ line_weaker Memory taken P Q how takes = takes
 
 -- ---- the status
 
--- a status of two scripts that were read, or were to be
-by_compared : (P : Status → Type 0) → P Done → P Read → P Write → P Memory → ((why : ScriptFault) → IsOfTwoScripts (fault_of why) → P (status.Script why)) → (status : Status) → HasCompared status → P status
-by_compared P done read write memory script Done compared = done
-by_compared P done read write memory script Read compared = read
-by_compared P done read write memory script Write compared = write
-by_compared P done read write memory script Memory compared = memory
-by_compared P done read write memory script (status.Script why) compared = script why compared
-by_compared P done read write memory script Usage compared = absurd compared
-by_compared P done read write memory script (ListStatus why) compared = absurd compared
-by_compared P done read write memory script (Store why) compared = absurd compared
-by_compared P done read write memory script Device compared = absurd compared
+-- a status of scripts that were read, or were to be
+pub by_scripts : (IsOf : PlainFault → Type 0) (P : Status → Type 0) → P Done → P Read → P Write → P Memory → ((why : ScriptFault) → IsOf (fault_of why) → P (status.Script why)) → (status : Status) → HasScripts IsOf status → P status
+by_scripts IsOf P done read write memory script Done has = done
+by_scripts IsOf P done read write memory script Read has = read
+by_scripts IsOf P done read write memory script Write has = write
+by_scripts IsOf P done read write memory script Memory has = memory
+by_scripts IsOf P done read write memory script (status.Script why) has = script why has
+by_scripts IsOf P done read write memory script Usage has = absurd has
+by_scripts IsOf P done read write memory script (ListStatus why) has = absurd has
+by_scripts IsOf P done read write memory script (Store why) has = absurd has
+by_scripts IsOf P done read write memory script Device has = absurd has
 
 -- ---- the site
 
 -- a word that was read as a site is the text of one
-is_site : (word : List ℕ) (site : PlainSite) → site_of_text word ≡ Ok site → IsSite word
+pub is_site : (word : List ℕ) (site : PlainSite) → site_of_text word ≡ Ok site → IsSite word
 is_site word site named = subst IsOk (sym named) refl
 
 -- and of none it is not
-never : {T : Type 0} (word : List ℕ) (site : PlainSite) → site_of_text word ≡ Ok site → IsNoSite word → T
+pub never : {T : Type 0} (word : List ℕ) (site : PlainSite) → site_of_text word ≡ Ok site → IsNoSite word → T
 never word site named not = absurd (false≢true (subst IsOk not (is_site word site named)))
 
 -- ---- the command
@@ -140,17 +141,17 @@ module _ {Hosts Lists Stores Scripts Outs : Type 0} (H : HostTells Hosts Lists S
       record {
         text = line_weaker status (told_of O.taken out) (IsAnswer list site start batch left) (IsAnswered word start batch told left)
             (λ line (scripts, answer, twin, is). record { site = site; named = named; list = list_read list told read; scripts = scripts; answer = answer; twin = twin; is = is }) text;
-        usage = no_usage status (by_compared IsNotUsage tt tt tt tt (λ why of. tt) status compared);
+        usage = no_usage status (by_scripts IsOfTwoScripts IsNotUsage tt tt tt tt (λ why of. tt) status compared);
         no_command = never word site named;
-        ends = by_compared (TwinCanEnd word) (is_site word site named) (is_site word site named) (is_site word site named) tt (λ why of. (is_site word site named, of)) status compared;
+        ends = by_scripts IsOfTwoScripts (TwinCanEnd word) (is_site word site named) (is_site word site named) (is_site word site named) tt (λ why of. (is_site word site named, of)) status compared;
         refused = cause;
-        list = later_list status told (by_compared IsAfterList tt tt tt tt (λ why of. tt) status compared) fine;
+        list = later_list status told (by_scripts IsOfTwoScripts IsAfterList tt tt tt tt (λ why of. tt) status compared) fine;
         read = script_read_counts status (told_of H.faults (from_to old mid)) (told_of H.store_faults (from_to old mid)) (told_of I.faults script) still none script_counts;
         read_told = script_read_cause (Some (words.Twin word path batch checkpoint start)) told (I.left script.before) (told_of H.faults (from_to old mid)) (told_of H.reads (from_to old mid)) (told_of I.faults script) status fine script_counts;
         device = tt;
         write = write;
         untouched = never word site named;
-        unread = by_compared (λ s. ReadsNoScript (Some (words.Twin word path batch checkpoint start)) s → script.after ≡ script.before) (never word site named) (never word site named) (never word site named) (never word site named) (λ why of. never word site named) status compared;
+        unread = by_scripts IsOfTwoScripts (λ s. ReadsNoScript (Some (words.Twin word path batch checkpoint start)) s → script.after ≡ script.before) (never word site named) (never word site named) (never word site named) (never word site named) (λ why of. never word site named) status compared;
         list_failed = never_failed (told_of H.reads (from_to old mid)) reads;
         lists = lists;
         closed = closed;

@@ -6,7 +6,6 @@ use Rattle.agent_base.specs.declared.sink.Sink.{Ghosts as SinkTells}
 use Rattle.agent_base.specs.declared.source.Source.{Ghosts as SourceTells}
 use Rattle.suffix_list.specs.ListText.{RuleList}
 use Rattle.origin_site.specs.Site.{PlainSite}
-use Rattle.script_lines.specs.Plain.{fault_of}
 use Rattle.script_courses.specs.Twins.{IsTwin, Twin}
 use Rattle.store_dumps.specs.declared.fault.DumpFault.{DumpFault}
 use Rattle.store_dumps.specs.declared.fault.DumpFault.TheVariants.{Open}
@@ -29,6 +28,7 @@ use Rattle.replay.specs.Endings.{CanEnd}
 use Rattle.replay.specs.Causes.{LeavesListsBut, ListFailed, OpensNoList, ReadsNoScript}
 use Rattle.replay.specs.Endings.{IsOfTwoScripts}
 use Rattle.replay.specs.Causes.{RoseByStore, WriteCounts}
+use Rattle.replay.specs.Readings.{HasScripts}
 use Rattle.replay.specs.declared.status.Status.{Status}
 use Rattle.replay.specs.declared.status.Status.TheVariants.{Done, Usage, Script, List as ListStatus}
 use Rattle.replay.specs.declared.status.Status.TheVariants.{Store, Read, Write, Device, Memory}
@@ -84,12 +84,7 @@ IsAnswer list site start batch left line =
 
 -- a status that comes after a site and a list were read
 abbrev pub HasCompared : Status → Type 0
-HasCompared Done = Unit {0}
-HasCompared (Script why) = IsOfTwoScripts (fault_of why)
-HasCompared Read = Unit {0}
-HasCompared Write = Unit {0}
-HasCompared Memory = Unit {0}
-HasCompared status = ⊥
+HasCompared status = HasScripts IsOfTwoScripts status
 
 -- ---- lines
 

@@ -9,8 +9,8 @@ pub mod Stores
 pub mod Dumps
 pub mod Endings
 pub mod Causes
+pub mod Readings
 -- What private functions compute. No public clause rests on it.
 pub mod LineParts
-pub mod Readings
 pub mod Kinds
 pub mod Commands

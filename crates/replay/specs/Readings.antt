@@ -1,5 +1,6 @@
--- Why list and scripts are not read: what only private functions answer.
+-- Why list and scripts are not read.
 -- Source: none.
+-- Our own choice: the statuses.
 use Rattle.std.specs.Prelude.{◌≡◌, ◌⊎◌, ℕ, false, List, Option, Some, IfSome, Ok, Err}
 use Rattle.agent_base.specs.Counts.{Rose}
 use Rattle.suffix_list.specs.ListText.{RuleList, list_of}
@@ -13,7 +14,8 @@ use Rattle.replay.specs.BeforeAfter.{BeforeAfter}
 use Rattle.replay.specs.Causes.{GrammarOf, ScriptFaulty, ScriptFine}
 use Rattle.replay.specs.Endings.{IsOfList}
 use Rattle.replay.specs.declared.status.Status.{Status}
-use Rattle.replay.specs.declared.status.Status.TheVariants.{Script, List as ListStatus, Read, Memory}
+use Rattle.replay.specs.declared.status.Status.TheVariants.{Done, Script, List as ListStatus}
+use Rattle.replay.specs.declared.status.Status.TheVariants.{Memory, Read, Write}
 
 -- ---- the list
 
@@ -67,3 +69,12 @@ StoreReadCause _ told host script = Unit {0}
 abbrev pub ScriptCounts : Status → (script : BeforeAfter ℕ) → Type 0
 ScriptCounts Read script = Rose script.before script.after
 ScriptCounts _ script = script.after ≡ script.before
+
+-- a status that comes after a site and a list were read, where scripts may have these faults
+abbrev pub HasScripts : (IsOf : PlainFault → Type 0) → Status → Type 0
+HasScripts IsOf Done = Unit {0}
+HasScripts IsOf (Script why) = IsOf (fault_of why)
+HasScripts IsOf Read = Unit {0}
+HasScripts IsOf Write = Unit {0}
+HasScripts IsOf Memory = Unit {0}
+HasScripts IsOf status = ⊥

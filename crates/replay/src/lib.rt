@@ -16,7 +16,10 @@ mod status;
 mod system;
 mod told;
 
-pub use runs::run;
+pub use lists::read_list;
+pub use pairs::{read_scripts, write_answer};
+pub use runs::{options, run};
+pub use scripts::read_script;
 pub use status::Status;
-pub use system::program;
+pub use system::{begin, program};
 pub use told::tell;

@@ -88,8 +88,8 @@ fn compare<I: Source, O: Sink>(
     }
 }
 
-// Reads the two scripts to their end.
-fn read_scripts<I: Source>(alloc: Global, script: &mut I) -> Result<(Script, Script), Status>
+/// Reads the two scripts of a source to its end. Each has so few lines that all can be run.
+pub fn read_scripts<I: Source>(alloc: Global, script: &mut I) -> Result<(Script, Script), Status>
     ensures read { IfOk result (λ s.
         (read : ScriptsRead (from_to (I.left script.old) (I.left script.new)))
         × (read.first ≡ script_of s.0) × (read.second ≡ script_of s.1)) }
@@ -116,8 +116,8 @@ fn refusal(why: ScriptFault) -> Status
     }
 }
 
-// Writes the line of an answer.
-fn write_answer<O: Sink>(answer: Twin, out: &mut O) -> Result<(), Failed>
+/// Writes the line of an answer. Takes no memory.
+pub fn write_answer<O: Sink>(answer: Twin, out: &mut O) -> Result<(), Failed>
     ensures all { OnOk result
         (Takes (O.taken out.old) (O.taken out.new) (twin_line (plain_twin answer))) }
     ensures prefix { OnErr result

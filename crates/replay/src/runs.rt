@@ -160,8 +160,8 @@ fn command<H: Host, I: Source, O: Sink>(
     }
 }
 
-// How an agent begins, by the numbers of a command.
-fn options(start: u64, batch: u16, checkpoint: u32) -> Options
+/// How an agent begins, by the numbers of a command.
+pub fn options(start: u64, batch: u16, checkpoint: u32) -> Options
     requires { start ≤ last_moment }
     ensures { result ≡ record { start = start; batch = batch; checkpoint = checkpoint } }
 {

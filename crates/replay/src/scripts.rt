@@ -160,8 +160,8 @@ fn run_over<H: Host, O: Sink>(
     }
 }
 
-// Reads the script to its end.
-fn read_script<I: Source>(
+/// Reads the script of a source to its end. It has so few lines that all can be run.
+pub fn read_script<I: Source>(
     alloc: Global,
     script: &mut I,
     cuts_allowed: bool,

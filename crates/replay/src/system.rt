@@ -32,9 +32,9 @@ pub fn program(rt: HostRuntime) -> ExitCode {
     ExitCode::from(status.code())
 }
 
-// What stands in the place of standard streams that were closed, before any other file is opened,
-// and the words.
-fn begin(rt: &HostRuntime) -> Result<(HeldStreams<File>, Vec<String>), Status> {
+/// What stands in the place of standard streams that were closed, before any other file is opened,
+/// and the words of the command line.
+pub fn begin(rt: &HostRuntime) -> Result<(HeldStreams<File>, Vec<String>), Status> {
     match hold_streams(rt) {
         Ok(held) => Ok((held, words_of(rt)?)),
         Err(Failed) => Err(Status::Read),

@@ -1,0 +1,5 @@
+pub mod StandardFacts
+pub mod TextLemmas
+pub mod ApartLemmas
+pub mod PlaceLemmas
+pub mod ShownLemmas

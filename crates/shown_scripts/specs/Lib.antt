@@ -1,0 +1,5 @@
+-- What contracts cite.
+pub mod Lines
+pub mod Shown
+pub mod Differ
+pub mod Laws

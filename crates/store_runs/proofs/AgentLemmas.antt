@@ -28,7 +28,7 @@ use Rattle.agent_core.specs.declared.outcome.Outcome.{Outcome}
 use Rattle.agent_core.specs.declared.outcome.Outcome.TheVariants.{Replies, Held, Down, NoMemory}
 use Rattle.store_runs.specs.Courses.{Steps}
 use Rattle.store_runs.specs.CutCourses.{moment_of}
-use Rattle.store_runs.specs.Calls.{BreaksOff, Called, FailsAgain, IsQuiet, OpensAgain, Pays, StaysOrRose, Stepped, Stops, over_call, spent}
+use Rattle.store_runs.specs.Calls.{BreaksOff, Called, FailsAgain, IsQuiet, OpensAgain, Pays, StaysOrRose, Stepped, Stops, ToldAt, over_call, spent}
 use Rattle.store_runs.specs.Closing.{Ends}
 use Rattle.printed_model.specs.Histories.{down_reply, restart_reply}
 use Rattle.store_runs.specs.Waiting.{replies_text}
@@ -69,10 +69,10 @@ is_down Down = Unit {0}
 is_down NoMemory = ⊥
 
 -- replies are none
-replies_down : (given : Vec Reply Global) → Replies given ≡ Down → ⊥
+pub replies_down : (given : Vec Reply Global) → Replies given ≡ Down → ⊥
 replies_down given e = cc
 
-not_down : (o : Outcome) → (is_down o → ⊥) → o ≡ Down → ⊥
+pub not_down : (o : Outcome) → (is_down o → ⊥) → o ≡ Down → ⊥
 not_down o other same = other (subst is_down (sym same) tt)
 
 -- ---- what an answer says of lines and of their text
@@ -358,7 +358,8 @@ module _ {D : Type 0} (tell : D → View) (old new : AgentView D) where
       → ((a : AgentSeen) → IsSeen old (tell old.disk) a → (after_line old.memory.rules a l).pending ≡ []
       → IsIdle old (tell old.disk) new (tell new.disk))
       → (outcome ≡ Held → IsIdle old (tell old.disk) new (tell new.disk))
-      → ((old.power ≡ Up → ⊥) → new ≡ old) → Called tell old new (goes_on outcome) (line_ran l outcome) (line_text l outcome)
+      → ((old.power ≡ Up → ⊥) → new ≡ old)
+      → Called tell old new (Unit {0}) (goes_on outcome) (line_ran l outcome) (line_text l outcome)
   line_called l (Replies given) means device idle waits off told some a seen fits =
       let all = means a seen fits in
       let b = all.0 in
@@ -427,7 +428,7 @@ module _ {D : Type 0} (tell : D → View) (old new : AgentView D) where
       → RestartDevice result (tell old.disk) (tell new.disk)
       → ((tell old.disk).tells ≡ true → (a : AgentSeen) → IsSeen old (tell old.disk) a
       → Makes 1 result (tell old.disk) (tell new.disk))
-      → Called tell old new (restart_goes_on result) (restart_ran result) (restart_text result)
+      → Called tell old new ((tell old.disk).tells ≡ true) (restart_goes_on result) (restart_ran result) (restart_text result)
   restart_called (Ok kept) means device makes told some a seen fits =
       let all = means told a seen in
       let b = all.0 in
@@ -466,7 +467,8 @@ module _ {D : Type 0} (tell : D → View) (old new : AgentView D) where
   restart_called (Err (fault.TooLarge len)) means device makes told some a seen fits = absurd (means told a seen).2
 
   -- no line ran
-  pub memory_stops : (step : PlainStep) → Called tell old new ⊥ [] [] → Stops tell old new step Memory
+  pub memory_stops : (step : PlainStep) → Called tell old new (ToldAt step (tell old.disk)) ⊥ [] []
+      → Stops tell old new step Memory
   memory_stops step called = ([], inl refl, ([], called))
 
   -- a restart that was refused stops the run
@@ -484,8 +486,8 @@ module _ {D : Type 0} (tell : D → View) (old new : AgentView D) where
   restart_stops (fault.TooLarge len) other means device makes = (tt, λ told a seen. (means told a seen).2)
 
   -- a line ran, and its text has no room to wait
-  stops_ran : (step : PlainStep) (text : List ℕ) → Called tell old new (Unit {0}) (step ∷ []) text
-      → Stops tell old new step Memory
+  stops_ran : (step : PlainStep) (text : List ℕ)
+      → Called tell old new (ToldAt step (tell old.disk)) (Unit {0}) (step ∷ []) text → Stops tell old new step Memory
   stops_ran step text called = (
     step ∷ [],
     inr refl,
@@ -504,7 +506,7 @@ module _ {D : Type 0} (tell : D → View) (old new : AgentView D) where
 
   -- a call that stepped, and one whose text has no room to wait, of the step that is asked for
   module _ (asked step : PlainStep) (text : List ℕ) (same : asked ≡ step)
-      (called : Called tell old new (Unit {0}) (step ∷ []) text) where
+      (called : Called tell old new (ToldAt step (tell old.disk)) (Unit {0}) (step ∷ []) text) where
     pub stepped_as : (before now : List ℕ) → now ≡ before ++ text → Stepped tell old new asked before now
     stepped_as before now shows =
         subst (λ s. Stepped tell old new s before now) (sym same) (text, shows, called)
@@ -645,7 +647,7 @@ owed_ends tell v before owed a seen =
 -- ---- between two lines
 
 -- where no call is made
-pub nothing_called : {D : Type 0} (tell : D → View) (v : AgentView D) → Called tell v v (Unit {0}) [] []
+pub nothing_called : {D : Type 0} (tell : D → View) (v : AgentView D) → Called tell v v (Unit {0}) (Unit {0}) [] []
 nothing_called tell v told some a seen fits = (
   a,
   seen,
@@ -657,7 +659,7 @@ nothing_called tell v told some a seen fits = (
 module _ {D : Type 0} (tell : D → View) (old new : AgentView D) (owed : owes old ≡ true) where
   -- a checkpoint was made or failed
   pub checkpoint_called : (ending : Ending) → Ends tell old new ending [] [] → (ending ≡ Memory → ⊥)
-      → Called tell old new (Unit {0}) [] []
+      → Called tell old new (Unit {0}) (Unit {0}) [] []
   checkpoint_called Done ends other told some a seen fits =
       let all = ends a seen in
       let is = owing_seen old (tell old.disk) a owed seen in (
@@ -681,7 +683,7 @@ module _ {D : Type 0} (tell : D → View) (old new : AgentView D) (owed : owes o
   checkpoint_called (Store why) ends other told some a seen fits = absurd (ends a seen).2
 
   -- or memory was wanting
-  pub checkpoint_wants : Ends tell old new Memory [] [] → Called tell old new ⊥ [] []
+  pub checkpoint_wants : Ends tell old new Memory [] [] → Called tell old new (Unit {0}) ⊥ [] []
   checkpoint_wants ends told some a seen fits =
       let all = ends a seen in
       let is = owing_seen old (tell old.disk) a owed seen in

@@ -86,12 +86,6 @@ no_fault_more [] l = omega arith
 no_fault_more (Acts j ∷ ds) l = omega (arith, restarts_acts ds l)
 no_fault_more (Reopens ∷ ds) l = omega (arith, restarts_acts ds l)
 
--- where the agent is down, there is a fault
-pub some_fault : (ds : List PlainStep) → 1 ≤ epoch_faults ds + unshown false ds
-some_fault [] = omega arith
-some_fault (Acts j ∷ ds) = omega arith
-some_fault (Reopens ∷ ds) = omega arith
-
 -- ---- the faults of closed epochs, and of the last one
 
 -- a closed epoch more

@@ -32,7 +32,8 @@ use Rattle.journal.proofs.Unique.{store_unique}
 use Rattle.store_runs.specs.CutBounds.{MeetsCuts, fault_places}
 use Rattle.store_runs.specs.Disks.{BeginsWithin, CutsOpening, IsMeantBy, IsRefusedOn, IsUnopened, LeavesDisk, OpensByCuts, WritesInMemory, WritesOn}
 use Rattle.store_runs.specs.Endings.{ending_of}
-use Rattle.store_runs.specs.Openings.{IsOpenedAt, calls_before, just_opened, list_of}
+use Rattle.store_runs.specs.Fronts.{LeavesCount, WritesFirst, WritesFromOpening}
+use Rattle.store_runs.specs.Openings.{IsJustOpened, calls_before, just_opened, list_of}
 use Rattle.store_runs.specs.Faults.{RoseBy, faults_of}
 use Rattle.store_runs.specs.Runs.{HasNoCuts, WritesLines}
 use Rattle.store_runs.specs.Tidy.{LeavesTidy}
@@ -41,6 +42,7 @@ use Rattle.store_runs.specs.declared.ending.Ending.TheVariants.{Device, Memory, 
 use Rattle.store_runs.proofs.AgentLemmas.{due_few}
 use Rattle.store_runs.proofs.CutLemmas.{meets_later}
 use Rattle.store_runs.proofs.EndLemmas.{refused_exactly}
+use Rattle.store_runs.proofs.FrontLemmas.{first_other}
 use Rattle.store_runs.proofs.LoopLemmas.{opens_up}
 use Rattle.store_runs.proofs.StopLemmas.{writes_other}
 use Rattle.store_runs.proofs.TidyLemmas.{since_is, store_of}
@@ -160,12 +162,10 @@ module _ {D : Type 0} (list : RuleList) (start batch checkpoint : ℕ) (old view
     (is_digest : agent.journal.digest ≡ list.digest) (is_batch : agent.batch ≡ batch)
     (is_checkpoint : agent.checkpoint ≡ checkpoint) where
   -- an agent was opened over the disk
-  pub opened_here : view.tells ≡ true → 1 ≤ batch → IsSeen agent view
-      (just_opened list.rules (opened_at start base))
+  pub just_here : 1 ≤ batch → IsSeen agent view (just_opened list.rules (opened_at start base))
       → AtBase (just_opened list.rules (opened_at start base)).base (may_of agent view)
-      → IsOpenedAt agent view (opened_at start base)
-  opened_here told some seen at = record {
-    tells = told;
+      → IsJustOpened agent view (opened_at start base)
+  just_here some seen at = record {
     batch = omega (arith, some, is_batch);
     seen = subst (λ rs. IsSeen agent view (just_opened rs (opened_at start base))) (sym is_rules) seen;
     base = subst (λ rs. AtBase (just_opened rs (opened_at start base)).base (may_of agent view)) (sym is_rules) at;
@@ -197,7 +197,7 @@ module _ {D : Type 0} (list : RuleList) (start batch checkpoint : ℕ) (old view
   opened_writes valid ending new steps before after powered faults means cuts begins written =
       let calls = calls_before agent view in
       let x : AgentOpening = opened_at start base in
-      let left : History PlainAction → Type 0 = LeavesDisk ending list batch x calls view new in
+      let left : List PlainStep → History PlainAction → Type 0 = LeavesDisk ending list batch x calls view new in
       let in_batches : WritesLines ending agent.memory.rules batch checkpoint x (HasNoCuts view)
       steps before after (LeavesDisk ending (list_of agent) batch x calls view new) =
       subst (λ n. WritesLines ending agent.memory.rules batch n x (HasNoCuts view) steps before after
@@ -217,11 +217,36 @@ module _ {D : Type 0} (list : RuleList) (start batch checkpoint : ℕ) (old view
         begins,
         writes_other list.rules batch checkpoint x (HasNoCuts old) (HasNoCuts view) left
             (LeavesDisk ending list batch x calls old new) (λ none. (powered.after, powered.cuts ∙ none.1))
-            (λ history l. (
+            (λ rest history l. (
               l.0,
               subst (λ n. RoseBy (faults_of ending history) n new.faults) faults l.1,
               λ numbers told on. l.2 numbers (powered.cuts ∙ told) powered.after,
             ))
+            before after ending steps under,
+      )
+
+  -- up to the first restart, whatever the disk tells
+  pub opened_first : IsValid base → (ending : Ending) (new : View) (steps : List PlainStep)
+      (before after : Option (List ℕ)) → IsPowered old view → view.faults ≡ old.faults
+      → WritesFirst ending agent.memory.rules agent.batch agent.checkpoint (opened_at start base)
+      (HasNoCuts view) steps before after (LeavesCount ending view new)
+      → WritesFromOpening ending list start batch checkpoint old steps before after new
+  opened_first valid ending new steps before after powered faults written =
+      let x : AgentOpening = opened_at start base in
+      let under : WritesFirst ending list.rules batch checkpoint x (HasNoCuts view) steps before after
+      (LeavesCount ending view new) =
+      subst (λ rs. WritesFirst ending rs batch checkpoint x (HasNoCuts view) steps before after
+      (LeavesCount ending view new)) is_rules
+      (subst (λ n. WritesFirst ending agent.memory.rules batch n x (HasNoCuts view) steps before after
+      (LeavesCount ending view new)) is_checkpoint
+      (subst (λ n. WritesFirst ending agent.memory.rules n agent.checkpoint x (HasNoCuts view) steps before after
+      (LeavesCount ending view new)) is_batch written)) in
+      inr (
+        base,
+        valid,
+        first_other list.rules batch checkpoint x (HasNoCuts old) (HasNoCuts view) (LeavesCount ending view new)
+            (LeavesCount ending old new) (λ none. (powered.after, powered.cuts ∙ none.1))
+            (λ rest history l. subst (λ n. RoseBy (faults_of ending history) n new.faults) faults l)
             before after ending steps under,
       )
 
@@ -269,8 +294,8 @@ module _ (cuts : List Cut) (old : View) (empty : old.contents ≡ Some []) (on :
       few len is less = omega (arith, is, less)
 
   -- its faults are met by the cuts
-  abbrev MeetsNumbers : Ending → List Rule → ℕ → AgentOpening → History PlainAction → Type 0
-  MeetsNumbers ending rules batch opening history =
+  abbrev MeetsNumbers : Ending → List Rule → ℕ → AgentOpening → (rest : List PlainStep) → History PlainAction → Type 0
+  MeetsNumbers ending rules batch opening rest history =
       MeetsCuts (opening_calls []) (numbers_of cuts) (fault_places rules batch ending opening history)
 
   -- a run over an empty disk
@@ -288,7 +313,7 @@ module _ (cuts : List Cut) (old : View) (empty : old.contents ≡ Some []) (on :
       writes_other list.rules batch checkpoint (opened_at start base) (cuts ≡ []) (HasNoCuts old)
       (LeavesDisk ending list batch (opened_at start base) calls old new)
       (MeetsNumbers ending list.rules batch (opened_at start base)) no_cuts
-      (λ history l. meets_later calls (opening_calls []) few (numbers_of cuts)
+      (λ rest history l. meets_later calls (opening_calls []) few (numbers_of cuts)
       (fault_places list.rules batch ending (opened_at start base) history) (l.2 (numbers_of cuts) told on))
       before after ending steps written in
       inr (

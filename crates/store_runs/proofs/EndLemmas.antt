@@ -9,27 +9,21 @@ use Rattle.journal.specs.declared.open_fault.OpenFault.{OpenFault}
 use Rattle.journal.specs.declared.open_fault.OpenFault.TheVariants as fault
 use Rattle.script_actions.specs.Action.{PlainStep}
 use Rattle.suffix_list.specs.Suffix.{Rule}
-use Rattle.durable_model.specs.Histories.{AgentOpening}
 use Rattle.unwinding.specs.CourseSteps.{committed}
 use Rattle.agent_core.specs.AgentView.{AgentView, may_of, owes}
 use Rattle.agent_core.specs.Means.{AgentMay, after_commit}
 use Rattle.agent_core.specs.Seen.{AgentSeen, IsSeen}
 use Rattle.agent_core.specs.declared.agent.Power.{Power}
 use Rattle.agent_core.specs.declared.agent.Power.TheVariants.{Up}
-use Rattle.store_runs.specs.Calls.{StaysOrRose, Stops, Unsettled, over_run}
+use Rattle.store_runs.specs.Calls.{Stops, Unsettled}
 use Rattle.store_runs.specs.Closing.{Closes, EndsWith, HoldsNone, IsEnd}
-use Rattle.store_runs.specs.Courses.{OnCourse}
-use Rattle.store_runs.specs.CutCourses.{faults_on}
-use Rattle.store_runs.specs.Faults.{RoseBy}
 use Rattle.store_runs.specs.Endings.{IsLimitEnding, IsStoreEnding, TellsPower, WriteCounts, ending_of}
 use Rattle.store_runs.specs.Tidy.{IsTidyAt}
 use Rattle.store_runs.specs.Waiting.{Ended}
 use Rattle.store_runs.specs.declared.ending.Ending.{Ending}
 use Rattle.store_runs.specs.declared.ending.Ending.TheVariants.{Done, Device, Store, Write, Memory}
 use Rattle.store_runs.proofs.AgentLemmas.{holds_none, none_due}
-use Rattle.store_runs.proofs.CountLemmas.{rose_by_rose, rose_by_stays}
 use Rattle.store_runs.proofs.CourseLemmas.{up_after_commit}
-use Rattle.store_runs.proofs.LoopLemmas.{device_rose}
 use Rattle.store_runs.proofs.TidyLemmas.{tidy_files}
 
 pub write_done : Write ≡ Done → ⊥
@@ -181,27 +175,6 @@ ends_power rules a b may may' old new Memory before now power up is_up ends = tt
 ends_power rules a b may may' old new Write before now power up is_up ends = absurd ends
 ends_power rules a b may may' old new (Store why) before now power up is_up ends = absurd ends
 
--- the count of the disk's faults after it
-module _ {D : Type 0} (tell : D → View) (rules : List Rule) (batch : ℕ) (x : AgentOpening) (begin here : AgentView D)
-    (a : AgentSeen) (may : AgentMay) (steps : List PlainStep) (first out : Option (List ℕ)) (waiting : List ℕ)
-    (on : OnCourse rules batch x a may steps (over_run tell begin here (Unit {0})) first out waiting) where
-  pub ends_device : (mine : List Rule) (b : AgentSeen) (may' : AgentMay) (new : View) (ending : Ending)
-      (now : List ℕ) → EndsWith mine a b may may' (tell here.disk) new ending waiting now
-      → StaysOrRose (tell here.disk).faults new.faults → ending ≡ Device → Rose (tell begin.disk).faults new.faults
-  ends_device mine b may' new ending now ends stays is =
-      let failed = subst (λ e. EndsWith mine a b may may' (tell here.disk) new e waiting now) is ends in
-      device_rose rules batch x (over_run tell begin here (Unit {0})) a may steps first out waiting on new.faults tt stays failed.3
-
-  -- and did not fall before
-  pub ends_later : (mine : List Rule) (b : AgentSeen) (may' : AgentMay) (new : View) (ending : Ending)
-      (now : List ℕ) → EndsWith mine a b may may' (tell here.disk) new ending waiting now
-      → StaysOrRose (tell here.disk).faults new.faults → ending ≡ Done
-      → (b.up ≡ true) × RoseBy 0 (tell begin.disk).faults new.faults
-  ends_later mine b may' new ending now ends stays is = (
-    holds_up mine a b may may' (subst (λ e. EndsWith mine a b may may' (tell here.disk) new e waiting now) is ends).0,
-    rose_by_stays (faults_on on.course) 0 (tell begin.disk).faults (tell here.disk).faults new.faults (omega arith) stays on.faults,
-  )
-
 -- ---- the checkpoint behind the last commit
 
 module _ {D : Type 0} (tell : D → View) (here new : AgentView D) (asked answered : Ending)
@@ -225,20 +198,6 @@ module _ {D : Type 0} (tell : D → View) (here new : AgentView D) (asked answer
         let more = last.3 b seen in
         ends_power here.memory.rules b more.0 (may_of here (tell here.disk)) (may_of new (tell new.disk))
         (tell here.disk) (tell new.disk) answered [] [] new.power more.1.up.0 more.1.up.1 more.2)
-        closes
-
-    -- the count of the disk's faults
-    pub closes_device : (first : ℕ) → (asked ≡ Device → Rose first (tell here.disk).faults)
-        → (asked ≡ Done → (b.up ≡ true) × RoseBy 0 first (tell here.disk).faults) → answered ≡ Device
-        → Rose first (tell new.disk).faults
-    closes_device first fell done is = ⊎_elim
-        (λ same. subst (λ v. Rose first (tell v.disk).faults) (sym same.1) (fell (sym same.0 ∙ is)))
-        (λ last.
-        let more = last.3 b seen in
-        let failed = subst (λ e. EndsWith here.memory.rules b more.0 (may_of here (tell here.disk))
-        (may_of new (tell new.disk)) (tell here.disk) (tell new.disk) e [] []) is more.2 in
-        rose_by_rose 0 1 first (tell here.disk).faults (tell new.disk).faults (omega arith)
-        (failed.3 (done last.0).0) (done last.0).1)
         closes
 
     -- at `Done` no checkpoint is due

@@ -10,3 +10,5 @@ pub mod TidyLemmas
 pub mod CutLemmas
 pub mod KeepLemmas
 mod CutFacts
+pub mod PowerLemmas
+pub mod FrontLemmas

@@ -6,7 +6,7 @@ use Rattle.agent_base.specs.Counts.{Rose}
 use Rattle.unwinding.specs.Admissible.{History}
 use Rattle.unwinding.specs.Course.{AtBase, IsAt, answer_all, empty_course, executed_lines}
 use Rattle.unwinding.specs.CourseSteps.{base_of, committed, forward, history_of, last_opening, reopened}
-use Rattle.unwinding.proofs.CourseRestarts.{ends_answered, ends_lost}
+use Rattle.unwinding.proofs.CourseRestarts.{admissible_stretch, ends_answered, ends_lost}
 use Rattle.unwinding.proofs.CourseScript.{steps_answered}
 use Rattle.unwinding.proofs.CourseSums.{base_is, committed_stands, forward_append}
 use Rattle.agent_base.specs.Streams.{Takes, TakesPrefix}
@@ -17,26 +17,28 @@ use Rattle.script_actions.specs.declared.step.Line.{Line}
 use Rattle.agent_model.specs.Isolation.{text_of}
 use Rattle.agent_model.specs.TheMachine.{machine}
 use Rattle.durable_model.specs.Histories.{AgentOpening, history_replies}
-use Rattle.durable_model.specs.Keeping.{keeping}
+use Rattle.durable_model.specs.Keeping.{AgentDurable, keeping}
 use Rattle.disk_model.specs.Disk.{View}
 use Rattle.agent_core.specs.Means.{AgentMay, Fails, Fits, Same, after_commit}
 use Rattle.agent_core.specs.Seen.{AgentSeen}
 use Rattle.printed_model.specs.Histories.{EndsUp, IsHistoryOf, history_text}
-use Rattle.printed_model.proofs.LeftLemmas.{left_of_answered, left_of_executed, left_of_kept}
+use Rattle.printed_model.proofs.LeftLemmas.{left_of_answered, left_of_executed}
+use Rattle.printed_model.specs.Left.{IsLeft}
 use Rattle.store_runs.specs.Calls.{Breaks, BreaksOff, IsQuiet, Pays, StaysOrRose}
 use Rattle.store_runs.specs.Closing.{Commits, EndsWith, HoldsNone, Spends}
 use Rattle.store_runs.specs.Courses.{Leaves, Marks, On, OnCourse, Steps, Watch, downs_on, text_on}
 use Rattle.store_runs.specs.CutCourses.{KeepsCuts, Moment, busy_on, faults_on, met_on, places_on, unshown}
 use Rattle.store_runs.specs.CutBounds.{MeetsCuts, MeetsToldCuts, fault_places}
 use Rattle.store_runs.specs.Faults.{RoseBy, epoch_faults, faults_of, last_faults}
+use Rattle.store_runs.specs.Fronts.{Began}
 use Rattle.store_runs.specs.Openings.{just_opened}
-use Rattle.store_runs.specs.Runs.{Ran, Stopped, WritesLines}
+use Rattle.store_runs.specs.Runs.{IsLeftWith, Ran, Stopped, WritesLines}
 use Rattle.store_runs.specs.Steps.{steps_of}
 use Rattle.store_runs.specs.Waiting.{Ended}
 use Rattle.waiting_lines.specs.Waiting.{TakesFront}
 use Rattle.store_runs.specs.declared.ending.Ending.{Ending}
 use Rattle.store_runs.specs.declared.ending.Ending.TheVariants.{Done, Device, Store, Write, Memory}
-use Rattle.store_runs.proofs.CountLemmas.{last_fault_met, last_fault_more, rose_by_fewer, rose_by_none, rose_by_rose, rose_by_stays, rose_later, some_fault, stays_more, unshown_up}
+use Rattle.store_runs.proofs.CountLemmas.{last_fault_met, last_fault_more, rose_by_fewer, rose_by_none, rose_by_rose, rose_by_stays, rose_later, stays_more, unshown_up}
 use Rattle.store_runs.proofs.CutLemmas.{keeps_begun, keeps_last, keeps_shown, places_still}
 use Rattle.store_runs.proofs.KeepLemmas.{keeps_answered, keeps_broken, keeps_failed}
 use Rattle.store_runs.proofs.CourseLemmas.{nothing_held, nothing_printed, on_begun, on_fits, on_up, text_answered, up_after_commit}
@@ -190,6 +192,17 @@ module _ (rules : List Rule) (batch : ℕ) (x : AgentOpening) (watch : Watch) wh
     unfolding history_replies text_on
     lost_text = refl
 
+    -- so it ends where a line opens the store again, and of its text the front was written
+    pub course_began : Began rules batch x watch.Quiet steps (λ text. TakesFront first out text waiting)
+    course_began = record {
+      history = lost;
+      «is» = lost_is;
+      lost = refl;
+      more = [];
+      text = subst (λ t. TakesFront first out t waiting)
+          (sym (append-nil (history_text rules x lost) ∙ lost_text)) on.text;
+    }
+
     -- the faults that it shows
     lost_faults : (ending : Ending) (now : ℕ) → last_faults ending on.course.downs ≤ epoch_faults
         on.course.downs → StaysOrRose watch.now now → RoseBy (faults_of ending lost) watch.before now
@@ -204,16 +217,6 @@ module _ (rules : List Rule) (batch : ℕ) (x : AgentOpening) (watch : Watch) wh
         (λ up. rose_by_rose _ _ watch.before watch.now now (omega (arith, last_fault_more on.course.downs)) (fell up) on.faults)
         (λ down. rose_by_stays _ _ watch.before watch.now now
         (omega (arith, last_fault_met on.course.downs, ap (λ up. unshown up on.course.downs) down)) stays (on.met goes))
-        (cases_Bool a.up)
-
-    -- so the count rose
-    pub device_rose : (now : ℕ) → watch.GoesOn → StaysOrRose watch.now now
-        → (a.up ≡ true → Rose watch.now now) → Rose watch.before now
-    unfolding faults_on met_on
-    device_rose now goes stays fell = ⊎_elim
-        (λ up. rose_by_rose (faults_on on.course) 1 watch.before watch.now now (omega arith) (fell up) on.faults)
-        (λ down. rose_by_stays (met_on a on.course) 1 watch.before watch.now now
-        (omega (arith, some_fault on.course.downs, ap (λ up. unshown up on.course.downs) down)) stays (on.met goes))
         (cases_Bool a.up)
 
     -- and the checkpoint behind the last commit met one
@@ -243,9 +246,20 @@ module _ (rules : List Rule) (batch : ℕ) (x : AgentOpening) (watch : Watch) wh
         keeps_last rules batch x before cuts b on.course false last down
         (keeps_failed rules batch x on.course a may on.on b watch.to last before cuts (on.cut goes cuts told powered) down breaks)
 
-    lost_leaves : Leaves rules batch x may lost
+    -- where no line is left
+    none_left : (history : History PlainAction) (d : AgentDurable) → IsLeft rules batch x history d → IsLeftWith rules batch x [] history d
+    none_left history d left = record { left = left; whole = λ some. absurd (some refl) }
+
+    lost_leaves : (rest : List PlainStep) → Leaves rules batch x may rest lost
     unfolding On
-    lost_leaves d n left = left_of_kept rules batch x on.course on.on.batches on.on.whole on.on.short d n (on.on.images d n left)
+    lost_leaves rest d n left =
+        let o = last_opening (machine rules) keeping x on.course in
+        let kept = admissible_stretch (machine rules) keeping batch x o on.course on.on.batches on.on.whole on.on.short d n
+        (on.on.images d n left) in
+        record {
+          left = record { kept = n; may = ⊎_elim (λ k. inl k) (λ t. inr (inl t)) kept.0.2; state = kept.1 };
+          whole = λ some. kept.0.2;
+        }
 
     -- or it was committed
     abbrev answered : History PlainAction
@@ -307,10 +321,10 @@ module _ (rules : List Rule) (batch : ℕ) (x : AgentOpening) (watch : Watch) wh
     abbrev IsStored : AgentMay → Type 0
     IsStored may' = (a.up ≡ true) × AtBase (after_commit rules a).base may'
 
-    answered_leaves : (may' : AgentMay) → IsStored may' → Leaves rules batch x may' answered
-    answered_leaves may' stored d n left = left_of_answered rules batch x on.course d n
+    answered_leaves : (may' : AgentMay) → IsStored may' → Leaves rules batch x may' [] answered
+    answered_leaves may' stored d n left = none_left answered d (left_of_answered rules batch x on.course d n
         (on_up rules batch x on.course a may on.on stored.0).0
-        (subst (λ base. IsAt base d n) (committed_base stored.0) (stored.1 d n left))
+        (subst (λ base. IsAt base d n) (committed_base stored.0) (stored.1 d n left)))
 
     commits_stored : (b : AgentSeen) (may' : AgentMay) → Commits rules a b may' → IsStored may'
     commits_stored b may' done = (done.0, λ d n left. subst (λ base. IsAt base d n) (ap (λ s. s.base) done.1) (done.2 d n left))
@@ -336,11 +350,11 @@ module _ (rules : List Rule) (batch : ℕ) (x : AgentOpening) (watch : Watch) wh
           (goes.images d n left),
     )
 
-    tried_leaves : (b : AgentSeen) (may' : AgentMay) → Fails rules a a b may may' (a.up ≡ true) → Leaves rules batch x may' lost
-    tried_leaves b may' goes d n left = ⊎_elim (lost_leaves d n)
-        (λ tried. left_of_executed rules batch x on.course d n
+    tried_leaves : (b : AgentSeen) (may' : AgentMay) → Fails rules a a b may may' (a.up ≡ true) → Leaves rules batch x may' [] lost
+    tried_leaves b may' goes d n left = ⊎_elim (lost_leaves [] d n)
+        (λ tried. none_left lost d (left_of_executed rules batch x on.course d n
         (on_up rules batch x on.course a may on.on tried.0).0
-        (subst (λ base. IsAt base d n) (committed_base tried.0) tried.1))
+        (subst (λ base. IsAt base d n) (committed_base tried.0) tried.1)))
         (goes.images d n left)
 
     -- what a run wrote and left that ended so
@@ -351,7 +365,7 @@ module _ (rules : List Rule) (batch : ℕ) (x : AgentOpening) (watch : Watch) wh
     -- the run was stopped after these lines, and a part of what waits was written
     stopped : (all rest : List PlainStep) (later : Option (List ℕ)) (ending : Ending) (may' : AgentMay)
         (now : ℕ) → all ≡ steps ++ rest → TakesPrefix out later waiting
-        → Marks rules batch x may' ending watch.before now watch.from lost
+        → Marks rules batch x may' ending watch.before now watch.from rest lost
         → Stopped rules batch x watch.Quiet all first later (Marks rules batch x may' ending watch.before now watch.from)
     stopped all rest later ending may' now parts took left = record {
       front = steps;
@@ -371,7 +385,7 @@ module _ (rules : List Rule) (batch : ℕ) (x : AgentOpening) (watch : Watch) wh
     pub course_stopped : (checkpoint : ℕ) (all rest : List PlainStep) (later : Option (List ℕ))
         → all ≡ steps ++ rest → TakesPrefix out later waiting → Writes checkpoint all later may watch.now Write
     course_stopped checkpoint all rest later parts took =
-        stopped all rest later Write may watch.now parts took (lost_leaves, lost_faults Write watch.now (omega arith) same_faults, lost_cuts Write tt)
+        stopped all rest later Write may watch.now parts took (lost_leaves rest, lost_faults Write watch.now (omega arith) same_faults, lost_cuts Write tt)
 
     -- memory was wanting, and a part of what should wait does
     pub course_memory : (checkpoint : ℕ) (all rest : List PlainStep) (later : Option (List ℕ))
@@ -382,7 +396,7 @@ module _ (rules : List Rule) (batch : ℕ) (x : AgentOpening) (watch : Watch) wh
         (λ ok. subst (Writes checkpoint all later may watch.now) (sym ok.0)
         (stopped all rest later Memory may watch.now parts
         (subst (TakesPrefix out later) (sym is) (prefix_front out later shown more ok.1.0))
-        (lost_leaves, lost_faults Memory watch.now (omega arith) same_faults, lost_cuts Memory tt)))
+        (lost_leaves rest, lost_faults Memory watch.now (omega arith) same_faults, lost_cuts Memory tt)))
         (λ fault. subst (Writes checkpoint all later may watch.now) (sym fault.0)
         (course_stopped checkpoint all rest later parts
         (subst (TakesPrefix out later) (sym is) (prefix_longer out later shown more fault.1.0))))
@@ -395,7 +409,7 @@ module _ (rules : List Rule) (batch : ℕ) (x : AgentOpening) (watch : Watch) wh
     module _ (checkpoint : ℕ) (may' : AgentMay) (now : ℕ) (stays : StaysOrRose watch.now now) where
       -- the lines that waited were committed
       answered_marks : (ending : Ending) → IsUsual ending → last_faults ending on.course.downs ≤ epoch_faults on.course.downs
-          → IsStored may' → Marks rules batch x may' ending watch.before now watch.from answered
+          → IsStored may' → Marks rules batch x may' ending watch.before now watch.from [] answered
       answered_marks ending usual few stored =
           (answered_leaves may' stored, lost_faults ending now few stays, answered_cuts ending usual stored.0)
 
@@ -421,7 +435,7 @@ module _ (rules : List Rule) (batch : ℕ) (x : AgentOpening) (watch : Watch) wh
 
       -- or all of it was
       abbrev answered_ran : (ending : Ending) (later : Option (List ℕ)) → IsStored may'
-          → Takes out later (waiting ++ text_of a.held) → Marks rules batch x may' ending watch.before now watch.from answered
+          → Takes out later (waiting ++ text_of a.held) → Marks rules batch x may' ending watch.before now watch.from [] answered
           → Ran rules batch x watch.Quiet steps first later (Marks rules batch x may' ending watch.before now watch.from)
       answered_ran ending later stored took marks = record {
         history = answered;
@@ -502,7 +516,7 @@ module _ (rules : List Rule) (batch : ℕ) (x : AgentOpening) (watch : Watch) wh
       same_memory : (b : AgentSeen) (ending : Ending) (later : Option (List ℕ)) (count rose : ℕ)
           → Same a may b may' → Ended Memory ending out later count rose waiting → Writes checkpoint steps later may' now ending
       same_memory b ending later count rose same ended =
-          let leaves : Leaves rules batch x may' lost = λ d n left. lost_leaves d n (same.1 d n left) in
+          let leaves : Leaves rules batch x may' [] lost = λ d n left. lost_leaves [] d n (same.1 d n left) in
           ⊎_elim
           (λ ok. subst (Writes checkpoint steps later may' now) (sym ok.0)
           (stopped steps [] later Memory may' now no_rest (prefix_all out later waiting ok.1.0)

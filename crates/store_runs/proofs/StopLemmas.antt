@@ -1,5 +1,5 @@
 -- What a run writes and leaves, where it ends or stops over an agent on a disk.
-use Rattle.std.proofs.Common.{◌≡◌, ◌≢◌, ◌⊎◌, inl, inr, ⊎_elim, ℕ, ◌+◌, ◌<◌, ◌^◌, true, List, [], ◌∷◌, ◌++◌, Option, take, drop, length, get_or, append-nil, refl, sym, ap, subst, ◌∙◌, arith}
+use Rattle.std.proofs.Common.{◌≡◌, ◌≢◌, ◌⊎◌, inl, inr, ⊎_elim, ℕ, ◌+◌, ◌<◌, ◌^◌, true, List, [], ◌∷◌, ◌++◌, Option, take, drop, length, get_or, append-nil, append_assoc, refl, sym, ap, subst, ◌∙◌, arith}
 use Rattle.agent_base.proofs.Pieces.{takes_none}
 use Rattle.unwinding.specs.Admissible.{History}
 use Rattle.disk_model.specs.Disk.{View}
@@ -19,12 +19,15 @@ use Rattle.agent_core.specs.Means.{AgentMay}
 use Rattle.agent_core.specs.Seen.{AgentSeen, IsSeen}
 use Rattle.printed_model.specs.Histories.{IsHistoryOf}
 use Rattle.agent_base.specs.Streams.{TakesPrefix}
-use Rattle.store_runs.specs.Calls.{Called, IsQuiet, Settled, Stepped, Stops, Unsettled, over_call, over_run}
+use Rattle.store_runs.specs.Calls.{Called, IsQuiet, Settled, Stepped, Stops, ToldAt, Unsettled, over_call, over_run}
 use Rattle.store_runs.specs.Closing.{Closes, Ends, EndsWith, Spends}
 use Rattle.store_runs.specs.Courses.{Leaves, Marks, OnCourse, Steps, Watch}
+use Rattle.store_runs.specs.CutBounds.{MeetsToldCuts, fault_places}
 use Rattle.store_runs.specs.CutCourses.{moment_of}
 use Rattle.store_runs.specs.Disks.{LeavesDisk}
-use Rattle.store_runs.specs.Openings.{GoesOn, IsOpenedAt, calls_before, list_of}
+use Rattle.store_runs.specs.Faults.{RoseBy, faults_of}
+use Rattle.store_runs.specs.Fronts.{LeavesCount}
+use Rattle.store_runs.specs.Openings.{GoesOn, IsJustOpened, calls_before, list_of}
 use Rattle.store_runs.specs.Runs.{HasNoCuts, LeavesHistory, Ran, Stopped, WritesLines}
 use Rattle.store_runs.specs.Steps.{steps_of}
 use Rattle.store_runs.specs.Waiting.{Ended}
@@ -38,7 +41,8 @@ use Rattle.store_runs.proofs.EndLemmas.{ended_done}
 -- ---- the same run by other words for a disk without cuts, and for what is left
 
 module _ (rules : List Rule) (batch checkpoint : ℕ) (x : AgentOpening) (P Q : Type 0)
-    (L M : History PlainAction → Type 0) (how : P → Q) (left : (h : History PlainAction) → L h → M h)
+    (L M : List PlainStep → History PlainAction → Type 0) (how : P → Q)
+    (left : (rest : List PlainStep) (h : History PlainAction) → L rest h → M rest h)
     (before after : Option (List ℕ)) where
   quieter : (steps : List PlainStep) (history : History PlainAction)
       → IsHistoryOf rules batch x Q steps history → IsHistoryOf rules batch x P steps history
@@ -51,7 +55,7 @@ module _ (rules : List Rule) (batch checkpoint : ℕ) (x : AgentOpening) (P Q : 
     «is» = quieter steps ran.history ran.«is»;
     text =
         ran.text;
-    left = left ran.history ran.left;
+    left = left [] ran.history ran.left;
   }
 
   other_stopped : (steps : List PlainStep) → Stopped rules batch x Q steps before after L
@@ -64,7 +68,7 @@ module _ (rules : List Rule) (batch checkpoint : ℕ) (x : AgentOpening) (P Q : 
     «is» = quieter ran.front ran.history ran.«is»;
     whole = ran.whole;
     text = ran.text;
-    left = left ran.history ran.left;
+    left = left ran.rest ran.history ran.left;
   }
 
   pub writes_other : (ending : Ending) (steps : List PlainStep)
@@ -80,11 +84,11 @@ module _ (rules : List Rule) (batch checkpoint : ℕ) (x : AgentOpening) (P Q : 
 
 -- what a cut leaves of the disk is a store for a state that the history leaves
 left_files : {D : Type 0} (v : AgentView D) (view : View) (b : AgentSeen) (list : RuleList) (batch : ℕ)
-    (x : AgentOpening) (history : History PlainAction) → view.tells ≡ true → IsSeen v view b
+    (x : AgentOpening) (rest : List PlainStep) (history : History PlainAction) → view.tells ≡ true → IsSeen v view b
     → v.memory.rules ≡ list.rules → v.journal.digest ≡ list.digest
-    → Leaves list.rules batch x (may_of v view) history → LeavesHistory list batch x view.may_leave history
+    → Leaves list.rules batch x (may_of v view) rest history → LeavesHistory list batch x view.may_leave rest history
 unfolding may_find
-left_files v view b list batch x history told seen is_rules is_digest leaves file image =
+left_files v view b list batch x rest history told seen is_rules is_digest leaves file image =
     let store = seen.stores told file image in (
       store.0,
       store.1,
@@ -93,23 +97,31 @@ left_files v view b list batch x history told seen is_rules is_digest leaves fil
       leaves (durable_of store.0) (since_opening store.1 v.opened) (file, image, store.0, store.1, store.2, refl, refl),
     )
 
+-- what a run leaves of its disk, whose images are known where it tells its contents
+abbrev pub LeavesIfTold : Ending → RuleList → (batch : ℕ) → AgentOpening → (before : ℕ)
+    → (old new : View) → (rest : List PlainStep) → History PlainAction → Type 0
+LeavesIfTold ending list batch x before old new rest history =
+    (new.tells ≡ true → LeavesHistory list batch x new.may_leave rest history)
+    × RoseBy (faults_of ending history) old.faults new.faults
+    × MeetsToldCuts before old.cuts old.off (fault_places list.rules batch ending x history)
+
 -- so a run leaves what it leaves to a restart, and the count of its disk
 pub writes_files : {D : Type 0} (v : AgentView D) (old view : View) (b : AgentSeen) (list : RuleList)
     (batch checkpoint : ℕ) (x : AgentOpening) (calls due : ℕ) (Quiet : Type 0) (steps : List PlainStep)
     (before after : Option (List ℕ)) (ending : Ending)
-    → view.tells ≡ true → IsSeen v view b → v.memory.rules ≡ list.rules → v.journal.digest ≡ list.digest
+    → IsSeen v view b → v.memory.rules ≡ list.rules → v.journal.digest ≡ list.digest
     → WritesLines ending list.rules batch checkpoint x Quiet steps before after
     (Marks list.rules batch x (may_of v view) ending old.faults view.faults
     (record { cuts = old.cuts; calls = calls; off = old.off; due = due }))
     → WritesLines ending list.rules batch checkpoint x Quiet steps before after
-    (LeavesDisk ending list batch x (calls + due) old view)
-writes_files v old view b list batch checkpoint x calls due Quiet steps before after ending told seen is_rules is_digest written =
+    (LeavesIfTold ending list batch x (calls + due) old view)
+writes_files v old view b list batch checkpoint x calls due Quiet steps before after ending seen is_rules is_digest written =
     writes_other list.rules batch checkpoint x Quiet Quiet
     (Marks list.rules batch x (may_of v view) ending old.faults view.faults
     (record { cuts = old.cuts; calls = calls; off = old.off; due = due }))
-    (LeavesDisk ending list batch x (calls + due) old view) (λ q. q)
-    (λ history marks. (
-      left_files v view b list batch x history told seen is_rules is_digest marks.0,
+    (LeavesIfTold ending list batch x (calls + due) old view) (λ q. q)
+    (λ rest history marks. (
+      (λ told. left_files v view b list batch x rest history told seen is_rules is_digest marks.0),
       marks.1,
       marks.2,
     )) before after ending steps written
@@ -125,20 +137,20 @@ steps_under rules mine batch size ran watch a may b may' text is_rules is_batch 
     (subst (λ rs. Steps rs size ran watch a may b may' text) is_rules steps)
 
 -- the lines that ran and the rest, where a run stopped at a line
-stop_parts : (lines : List Line) (i : ℕ) (item : Line) (ran : List PlainStep) → i < length lines
-    → item ≡ get_or lines i item → (ran ≡ []) ⊎ (ran ≡ step_of item.step ∷ [])
-    → (rest : List PlainStep) × (steps_of lines ≡ (steps_of (take i lines) ++ ran) ++ rest)
-stop_parts lines i item ran within is_item (inl none) = (
-  steps_of (drop i lines),
-  steps_parts lines i ∙ ap (λ ss. ss ++ steps_of (drop i lines))
-      (sym (append-nil (steps_of (take i lines))) ∙ ap (λ rs. steps_of (take i lines) ++ rs) (sym none)),
+stop_parts : (all before left ran : List PlainStep) (step : PlainStep) → all ≡ (before ++ step ∷ []) ++ left
+    → (ran ≡ []) ⊎ (ran ≡ step ∷ []) → (rest : List PlainStep) × (all ≡ (before ++ ran) ++ rest)
+stop_parts all before left ran step parts (inl none) = (
+  step ∷ left,
+  parts ∙ append_assoc before (step ∷ []) left
+      ∙ ap (λ ss. ss ++ step ∷ left) (sym (append-nil before) ∙ ap (λ rs. before ++ rs) (sym none)),
 )
-stop_parts lines i item ran within is_item (inr one) = (
-  steps_of (drop (i + 1) lines),
-  steps_parts lines (i + 1) ∙ ap (λ ss. ss ++ steps_of (drop (i + 1) lines))
-      (steps_more lines i item within ∙ ap (λ (l : Line). steps_of (take i lines) ++ step_of l.step ∷ [])
-      (sym is_item) ∙ ap (λ rs. steps_of (take i lines) ++ rs) (sym one)),
-)
+stop_parts all before left ran step parts (inr one) = (left, parts ∙ ap (λ rs. (before ++ rs) ++ left) (sym one))
+
+-- a line and those in front of it
+pub steps_with : (lines : List Line) (i : ℕ) (item : Line) → i < length lines → item ≡ get_or lines i item
+    → steps_of (take (i + 1) lines) ≡ steps_of (take i lines) ++ step_of item.step ∷ []
+steps_with lines i item within is_item = steps_more lines i item within
+    ∙ ap (λ (l : Line). steps_of (take i lines) ++ step_of l.step ∷ []) (sym is_item)
 
 -- what a run changes neither in one part of it nor in the next
 pub goes_then : {D : Type 0} (tell : D → View) (first old new : AgentView D) → GoesOn tell first old
@@ -167,10 +179,32 @@ module _ {D : Type 0} (tell : D → View) (agent : AgentView D) (x : AgentOpenin
   abbrev pub Wrote : List PlainStep → Ending → Option (List ℕ) → AgentView D → Type 0
   Wrote all ending later v =
       WritesLines ending agent.memory.rules agent.batch agent.checkpoint x (HasNoCuts (tell agent.disk))
-      all first later (LeavesDisk ending (list_of agent) agent.batch x (calls_before agent (tell agent.disk))
+      all first later (LeavesIfTold ending (list_of agent) agent.batch x (calls_before agent (tell agent.disk))
       (tell agent.disk) (tell v.disk))
 
-  module _ (opened : IsOpenedAt agent (tell agent.disk) x) where
+  -- where the disk tells its contents
+  pub told_wrote : (all : List PlainStep) (ending : Ending) (later : Option (List ℕ)) (v : AgentView D)
+      → (tell v.disk).tells ≡ true → Wrote all ending later v
+      → WritesLines ending agent.memory.rules agent.batch agent.checkpoint x (HasNoCuts (tell agent.disk))
+      all first later (LeavesDisk ending (list_of agent) agent.batch x (calls_before agent (tell agent.disk))
+      (tell agent.disk) (tell v.disk))
+  told_wrote all ending later v told wrote =
+      writes_other agent.memory.rules agent.batch agent.checkpoint x (HasNoCuts (tell agent.disk)) (HasNoCuts (tell agent.disk))
+      (LeavesIfTold ending (list_of agent) agent.batch x (calls_before agent (tell agent.disk)) (tell agent.disk) (tell v.disk))
+      (LeavesDisk ending (list_of agent) agent.batch x (calls_before agent (tell agent.disk)) (tell agent.disk) (tell v.disk))
+      (λ q. q) (λ rest history left. (left.0 told, left.1, left.2)) first later ending all wrote
+
+  -- and where it may tell nothing
+  pub count_wrote : (all : List PlainStep) (ending : Ending) (later : Option (List ℕ)) (v : AgentView D)
+      → Wrote all ending later v
+      → WritesLines ending agent.memory.rules agent.batch agent.checkpoint x (HasNoCuts (tell agent.disk))
+      all first later (LeavesCount ending (tell agent.disk) (tell v.disk))
+  count_wrote all ending later v wrote =
+      writes_other agent.memory.rules agent.batch agent.checkpoint x (HasNoCuts (tell agent.disk)) (HasNoCuts (tell agent.disk))
+      (LeavesIfTold ending (list_of agent) agent.batch x (calls_before agent (tell agent.disk)) (tell agent.disk) (tell v.disk))
+      (LeavesCount ending (tell agent.disk) (tell v.disk)) (λ q. q) (λ rest history left. left.1) first later ending all wrote
+
+  module _ (opened : IsJustOpened agent (tell agent.disk) x) where
     -- by what it leaves to a restart
     pub files_written : (v : AgentView D) → GoesOn tell agent v → (b : AgentSeen) → IsSeen v (tell v.disk) b
         → (all : List PlainStep) (ending : Ending) (later : Option (List ℕ))
@@ -180,7 +214,7 @@ module _ {D : Type 0} (tell : D → View) (agent : AgentView D) (x : AgentOpenin
     files_written v goes b seen all ending later written =
         writes_files v (tell agent.disk) (tell v.disk) b (list_of agent) agent.batch agent.checkpoint x
         (tell agent.disk).changing (checkpoint_calls agent)
-        (HasNoCuts (tell agent.disk)) all first later ending (goes.tells ∙ opened.tells) seen goes.rules goes.digest written
+        (HasNoCuts (tell agent.disk)) all first later ending seen goes.rules goes.digest written
 
     module _ (old : AgentView D) (was : GoesOn tell agent old) (ran : List PlainStep)
         (few : length ran + 1 < 2 ^ 64) (out : Option (List ℕ)) (waiting : List ℕ) (stands : StandsOn old ran out waiting) where
@@ -188,17 +222,17 @@ module _ {D : Type 0} (tell : D → View) (agent : AgentView D) (x : AgentOpenin
       some_lines = subst (λ n. 0 < n) (sym was.batch) opened.batch
 
       -- it goes on by a call
-      called_on : (new : AgentView D) (GoesOn : Type 0) (more : List PlainStep) (text : List ℕ)
-          → Called tell old new GoesOn more text
+      called_on : (new : AgentView D) (Told GoesOn : Type 0) (more : List PlainStep) (text : List ℕ)
+          → Told → Called tell old new Told GoesOn more text
           → (b : AgentSeen) × IsSeen new (tell new.disk) b × (GoesOn → HasNoCuts (tell agent.disk) → IsQuiet b (tell new.disk))
           × OnCourse agent.memory.rules agent.batch x b (may_of new (tell new.disk)) (ran ++ more)
           (watched new GoesOn) first out (waiting ++ text)
-      called_on new GoesOn more text called =
+      called_on new Told GoesOn more text told called =
           let a = stands.0 in
           let may = may_of old (tell old.disk) in
           let fits = course_fits agent.memory.rules agent.batch x (watched old (Unit {0}))
           a may ran first out waiting stands.3 few in
-          let all = called (was.tells ∙ opened.tells) some_lines a stands.1 fits in
+          let all = called told some_lines a stands.1 fits in
           let line = steps_under agent.memory.rules old.memory.rules agent.batch old.batch more
           (over_call tell a old new GoesOn) a may all.0 (may_of new (tell new.disk))
           text was.rules was.batch all.2 in (
@@ -229,12 +263,12 @@ module _ {D : Type 0} (tell : D → View) (agent : AgentView D) (x : AgentOpenin
           (may_of old (tell old.disk)) ran first out waiting stands.3 agent.checkpoint all rest later parts took)
 
       -- the run stopped for want of memory
-      memory_stopped : (new : AgentView D) → GoesOn tell old new → (more : List PlainStep) (text : List ℕ)
-          → Called tell old new ⊥ more text → (all rest : List PlainStep) (later : Option (List ℕ))
+      memory_stopped : (new : AgentView D) → GoesOn tell old new → (Told : Type 0) (more : List PlainStep) (text : List ℕ)
+          → Told → Called tell old new Told ⊥ more text → (all rest : List PlainStep) (later : Option (List ℕ))
           (answered : Ending) (count rose : ℕ) → all ≡ (ran ++ more) ++ rest
           → Ended Memory answered out later count rose waiting → Wrote all answered later new
-      memory_stopped new goes more text called all rest later answered count rose parts ended =
-          let on = called_on new ⊥ more text called in
+      memory_stopped new goes Told more text told called all rest later answered count rose parts ended =
+          let on = called_on new Told ⊥ more text told called in
           files_written new (goes_then tell agent old new was goes) on.0 on.1 all answered later
           (course_memory agent.memory.rules agent.batch x (watched new ⊥) on.0 (may_of new (tell new.disk))
           (ran ++ more) first out (waiting ++ text)
@@ -245,16 +279,16 @@ module _ {D : Type 0} (tell : D → View) (agent : AgentView D) (x : AgentOpenin
     module _ (old new : AgentView D) (was : GoesOn tell agent old) (goes : GoesOn tell old new)
         (lines : List Line) (fits : length lines + 2 < 2 ^ 64) (i : ℕ) (item : Line)
         (within : i < length lines) (is_item : item ≡ get_or lines i item)
-        (out : Option (List ℕ)) (waiting : List ℕ) (stands : StandsOn old (steps_of (take i lines)) out waiting) where
+        (told : ToldAt (step_of item.step) (tell old.disk)) (out : Option (List ℕ)) (waiting : List ℕ) (stands : StandsOn old (steps_of (take i lines)) out waiting) where
       -- it ran
       pub stepped_on : (now : List ℕ) → Stepped tell old new (step_of item.step) waiting now
           → StandsOn new (steps_of (take (i + 1) lines)) out now
       stepped_on now (text, waits, called) =
           let on = called_on old was (steps_of (take i lines))
-          (steps_fit lines i (omega (arith, within)) fits) out waiting stands new (Unit {0})
-          (step_of item.step ∷ []) text called in
+          (steps_fit lines i (omega (arith, within)) fits) out waiting stands new
+          (ToldAt (step_of item.step) (tell old.disk)) (Unit {0}) (step_of item.step ∷ []) text told called in
           let steps : steps_of (take i lines) ++ step_of item.step ∷ [] ≡ steps_of (take (i + 1) lines) =
-          ap (λ (l : Line). steps_of (take i lines) ++ step_of l.step ∷ []) is_item ∙ sym (steps_more lines i item within) in (
+          sym (steps_with lines i item within is_item) in (
             on.0,
             on.1,
             on.2 tt,
@@ -264,19 +298,21 @@ module _ {D : Type 0} (tell : D → View) (agent : AgentView D) (x : AgentOpenin
                 (steps_of (take i lines) ++ step_of item.step ∷ []) (watched new (Unit {0})) first out) (sym waits) on.3),
           )
 
-      -- the run stops at it
-      pub stops_writes : (asked answered : Ending) (later : Option (List ℕ)) (count rose : ℕ)
+      -- the run stops at it, of lines with more behind it or without
+      pub stops_writes : (all left : List PlainStep) → all ≡ (steps_of (take i lines) ++ step_of item.step ∷ []) ++ left
+          → (asked answered : Ending) (later : Option (List ℕ)) (count rose : ℕ)
           → Stops tell old new (step_of item.step) asked → Ended asked answered out later count rose waiting
-          → Wrote (steps_of lines) answered later new
-      stops_writes Memory answered later count rose (ran, one, (text, called)) ended =
-          let parts = stop_parts lines i item ran within is_item one in
+          → Wrote all answered later new
+      stops_writes all left parts Memory answered later count rose (ran, one, (text, called)) ended =
+          let ran_parts = stop_parts all (steps_of (take i lines)) left ran (step_of item.step) parts one in
           memory_stopped old was (steps_of (take i lines)) (steps_fit lines i (omega (arith, within)) fits)
-          out waiting stands new goes ran text called (steps_of lines) parts.0 later answered count rose parts.1 ended
-      stops_writes (Store why) answered later count rose stops ended =
-          absurd (stops.1 (was.tells ∙ opened.tells) stands.0 stands.1)
-      stops_writes Done answered later count rose stops ended = absurd stops
-      stops_writes Device answered later count rose stops ended = absurd stops
-      stops_writes Write answered later count rose stops ended = absurd stops
+          out waiting stands new goes (ToldAt (step_of item.step) (tell old.disk)) ran text told called
+          all ran_parts.0 later answered count rose ran_parts.1 ended
+      stops_writes all left parts (Store why) answered later count rose stops ended =
+          absurd (stops.1 told stands.0 stands.1)
+      stops_writes all left parts Done answered later count rose stops ended = absurd stops
+      stops_writes all left parts Device answered later count rose stops ended = absurd stops
+      stops_writes all left parts Write answered later count rose stops ended = absurd stops
 
     -- ---- between two lines
 
@@ -287,7 +323,7 @@ module _ {D : Type 0} (tell : D → View) (agent : AgentView D) (x : AgentOpenin
       pub settled_on : (rest : List ℕ) → Settled tell old new out later count rose waiting rest → StandsOn new ran later rest
       settled_on rest (took, same, called) =
           let on = called_on old was ran few later rest
-          (written_on old was ran few out waiting stands later rest took) new (Unit {0}) [] [] called in (
+          (written_on old was ran few out waiting stands later rest took) new (Unit {0}) (Unit {0}) [] [] tt called in (
             on.0,
             on.1,
             on.2 tt,
@@ -305,7 +341,7 @@ module _ {D : Type 0} (tell : D → View) (agent : AgentView D) (x : AgentOpenin
       unsettled_writes all rest parts Memory (took, same, called) =
           let front : TakesFront out later waiting [] = (waiting, (took, sym (append-nil waiting))) in
           memory_stopped old was ran few later [] (written_on old was ran few out waiting stands later []
-          front) new goes [] [] called all rest later Memory count rose
+          front) new goes (Unit {0}) [] [] tt called all rest later Memory count rose
           (parts ∙ ap (λ ss. ss ++ rest) (sym (append-nil ran))) (inl (refl, (takes_none later, same)))
       unsettled_writes all rest parts Done stops = absurd stops
       unsettled_writes all rest parts Device stops = absurd stops

@@ -6,6 +6,7 @@ use Rattle.std.specs.Prelude.{◌∷◌, ◌++◌, Option, Some}
 use Rattle.agent_base.specs.Counts.{Rose}
 use Rattle.agent_base.specs.Streams.{Takes, TakesPrefix}
 use Rattle.disk_model.specs.Disk.{IsNextCut, View}
+use Rattle.unwinding.specs.Admissible.{Acts, Reopens}
 use Rattle.journal.specs.Opening.{IsOfFile}
 use Rattle.script_actions.specs.Action.{PlainStep}
 use Rattle.agent_core.specs.AgentView.{AgentView, may_of}
@@ -88,12 +89,17 @@ pub record FailsAgain (from to : Moment) : Type 0 where
 abbrev pub Breaks : (up : Bool) → (changes : ℕ) → (from to : Moment) → Type 0
 Breaks up changes from to = (up ≡ true → BreaksOff changes from to) × (up ≡ false → to ≡ from)
 
--- a call of an agent whose disk tells its contents ran these lines, whose text is this; and it goes
--- on, or the run stops
-abbrev pub Called : {D : Type 0} → (tell : D → View) → (old new : AgentView D) → (GoesOn : Type 0)
-    → List PlainStep → List ℕ → Type 0
-Called tell old new GoesOn ran text =
-    (tell old.disk).tells ≡ true → 0 < old.batch
+-- what a step is known of: a restart over a disk that tells its contents alone
+abbrev pub ToldAt : PlainStep → View → Type 0
+ToldAt (Acts l) view = Unit {0}
+ToldAt Reopens view = view.tells ≡ true
+
+-- where this is told, a call of an agent ran these lines, whose text is this; and it goes on, or
+-- the run stops
+abbrev pub Called : {D : Type 0} → (tell : D → View) → (old new : AgentView D) → (Told : Type 0)
+    → (GoesOn : Type 0) → List PlainStep → List ℕ → Type 0
+Called tell old new Told GoesOn ran text =
+    Told → 0 < old.batch
     → (a : AgentSeen) → IsSeen old (tell old.disk) a → Fits a
     → (b : AgentSeen) × IsSeen new (tell new.disk) b
     × Steps old.memory.rules old.batch ran (over_call tell a old new GoesOn)
@@ -104,18 +110,20 @@ Called tell old new GoesOn ran text =
 abbrev pub Stepped : {D : Type 0} → (tell : D → View) → (old new : AgentView D) → PlainStep
     → (before now : List ℕ) → Type 0
 Stepped tell old new step before now =
-    (text : List ℕ) × (now ≡ before ++ text) × Called tell old new (Unit {0}) (step ∷ []) text
+    (text : List ℕ) × (now ≡ before ++ text)
+    × Called tell old new (ToldAt step (tell old.disk)) (Unit {0}) (step ∷ []) text
 
 -- The run stops at a line. Where memory was wanting, the line may have run, and its text does not
--- wait. A disk that tells its contents has never a store that is refused.
+-- wait. A disk that tells its contents has never a store that is refused, and a line that acts
+-- opens none.
 abbrev pub Stops : {D : Type 0} → (tell : D → View) → (old new : AgentView D) → PlainStep → Ending
     → Type 0
 Stops tell old new step Memory =
     (ran : List PlainStep) × ((ran ≡ []) ⊎ (ran ≡ step ∷ []))
-    × ((text : List ℕ) × Called tell old new ⊥ ran text)
+    × ((text : List ℕ) × Called tell old new (ToldAt step (tell old.disk)) ⊥ ran text)
 Stops tell old new step (Store why) =
     IsOfFile why
-    × ((tell old.disk).tells ≡ true → (a : AgentSeen) → IsSeen old (tell old.disk) a → ⊥)
+    × (ToldAt step (tell old.disk) → (a : AgentSeen) → IsSeen old (tell old.disk) a → ⊥)
 Stops tell old new step other = ⊥
 
 -- ---- between two lines
@@ -126,7 +134,7 @@ abbrev pub Settled : {D : Type 0} → (tell : D → View) → (old new : AgentVi
     → (before after : Option (List ℕ)) → (count later : ℕ) → (waiting rest : List ℕ) → Type 0
 Settled tell old new before after count later waiting rest =
     TakesFront before after waiting rest × (later ≡ count)
-    × Called tell old new (Unit {0}) [] []
+    × Called tell old new (Unit {0}) (Unit {0}) [] []
 
 -- The run stops between two lines. Writing what waited failed, and the agent is as it was; or all
 -- of it was written, and memory was wanting for a checkpoint.
@@ -135,5 +143,5 @@ abbrev pub Unsettled : {D : Type 0} → (tell : D → View) → (old new : Agent
 Unsettled tell old new before after count later waiting Write =
     TakesPrefix before after waiting × Rose count later × (new ≡ old)
 Unsettled tell old new before after count later waiting Memory =
-    Takes before after waiting × (later ≡ count) × Called tell old new ⊥ [] []
+    Takes before after waiting × (later ≡ count) × Called tell old new (Unit {0}) ⊥ [] []
 Unsettled tell old new before after count later waiting other = ⊥

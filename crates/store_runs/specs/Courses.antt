@@ -13,11 +13,11 @@ use Rattle.durable_model.specs.Keeping.{AgentDurable, keeping}
 use Rattle.agent_core.specs.Means.{AgentMay}
 use Rattle.agent_core.specs.Seen.{AgentSeen}
 use Rattle.printed_model.specs.Histories.{closed_downs, down_reply, restart_reply}
-use Rattle.printed_model.specs.Left.{IsLeft}
 use Rattle.waiting_lines.specs.Waiting.{TakesFront}
 use Rattle.store_runs.specs.CutBounds.{MeetsCuts, MeetsToldCuts, fault_places}
 use Rattle.store_runs.specs.CutCourses.{KeepsCuts, Moment, faults_on, met_on, places_on}
 use Rattle.store_runs.specs.Faults.{RoseBy, faults_of}
+use Rattle.store_runs.specs.Runs.{IsLeftWith}
 use Rattle.store_runs.specs.declared.ending.Ending.{Ending}
 
 -- ---- courses
@@ -76,16 +76,17 @@ Steps rules batch ran watch a may b may' text =
     × Adds rules batch x a b r q ran watch text
 
 -- a restart may find what a history leaves, and nothing else
-abbrev pub Leaves : List Rule → ℕ → AgentOpening → AgentMay → History PlainAction → Type 0
-Leaves rules batch x may history =
-    (d : AgentDurable) (n : ℕ) → may d n → IsLeft rules batch x history d
+abbrev pub Leaves : List Rule → ℕ → AgentOpening → AgentMay → (rest : List PlainStep)
+    → History PlainAction → Type 0
+Leaves rules batch x may rest history =
+    (d : AgentDurable) (n : ℕ) → may d n → IsLeftWith rules batch x rest history d
 
 -- and the disk's count rose by the faults of a run that ended so, and each of these was a cut in
 -- time, since this was told first
 abbrev pub Marks : List Rule → ℕ → AgentOpening → AgentMay → Ending → (before now : ℕ)
-    → (from : Moment) → History PlainAction → Type 0
-Marks rules batch x may ending before now from history =
-    Leaves rules batch x may history × RoseBy (faults_of ending history) before now
+    → (from : Moment) → (rest : List PlainStep) → History PlainAction → Type 0
+Marks rules batch x may ending before now from rest history =
+    Leaves rules batch x may rest history × RoseBy (faults_of ending history) before now
     × MeetsToldCuts (from.calls + from.due) from.cuts from.off
     (fault_places rules batch ending x history)
 

@@ -35,9 +35,9 @@ use Rattle.store_runs.specs.declared.ending.Ending.TheVariants.{Device, Memory}
 -- tells its cuts and its power was on, the faults are at most as many, and each comes in time; so
 -- many changing calls were made, or are due, before the first line.
 abbrev pub LeavesDisk : Ending → RuleList → (batch : ℕ) → AgentOpening → (before : ℕ)
-    → (old new : View) → History PlainAction → Type 0
-LeavesDisk ending list batch opening before old new history =
-    LeavesHistory list batch opening new.may_leave history
+    → (old new : View) → (rest : List PlainStep) → History PlainAction → Type 0
+LeavesDisk ending list batch opening before old new rest history =
+    LeavesHistory list batch opening new.may_leave rest history
     × RoseBy (faults_of ending history) old.faults new.faults
     × MeetsToldCuts before old.cuts old.off (fault_places list.rules batch ending opening history)
 
@@ -116,5 +116,5 @@ WritesInMemory ending rules start batch checkpoint cuts steps before after =
     (IsUnopened ending cuts × Takes before after [])
     ⊎ ((CutsOpening cuts → ⊥)
     × WritesLines ending rules batch checkpoint (begins_at start) (cuts ≡ []) steps before after
-    (λ history. MeetsCuts (opening_calls []) (numbers_of cuts)
+    (λ rest history. MeetsCuts (opening_calls []) (numbers_of cuts)
     (fault_places rules batch ending (begins_at start) history)))

@@ -5,11 +5,13 @@ pub mod Openings
 pub mod Runs
 pub mod Faults
 pub mod CutBounds
+pub mod Fronts
 pub mod Tidy
 pub mod Disks
 -- What private functions compute. No public clause rests on it.
 pub mod Waiting
 pub mod CutCourses
 pub mod Courses
+pub mod FaultCounts
 pub mod Calls
 pub mod Closing

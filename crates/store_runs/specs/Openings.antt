@@ -17,14 +17,18 @@ use Rattle.agent_core.specs.Seen.{AgentSeen, IsSeen}
 abbrev pub just_opened : List Rule → AgentOpening → AgentSeen
 just_opened rules opening = reopened (machine rules) keeping opening.rest opening.state
 
--- an agent was just opened so, over a disk that tells its contents: a restart would find what it
--- was opened with
-pub record IsOpenedAt {D : Type 0} (agent : AgentView D) (view : View) (opening : AgentOpening)
+-- an agent was just opened so: a restart would find what it was opened with
+pub record IsJustOpened {D : Type 0} (agent : AgentView D) (view : View) (opening : AgentOpening)
     : Type 0 where
-  pub tells : view.tells ≡ true
   pub batch : 0 < agent.batch
   pub seen : IsSeen agent view (just_opened agent.memory.rules opening)
   pub base : AtBase (just_opened agent.memory.rules opening).base (may_of agent view)
+
+-- the same over a disk that tells its contents
+pub record IsOpenedAt {D : Type 0} (agent : AgentView D) (view : View) (opening : AgentOpening)
+    : Type 0 where
+  pub tells : view.tells ≡ true
+  pub just : IsJustOpened agent view opening
 
 -- how many changing calls were made, or are due, when an agent was just opened
 abbrev pub calls_before : {D : Type 0} → AgentView D → View → ℕ

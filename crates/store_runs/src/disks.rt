@@ -12,6 +12,7 @@ ghost use Rattle.row_store.specs.Bodies.{Refuses};
 ghost use Rattle.row_store.specs.Bodies as bodies;
 ghost use Rattle.store_runs.specs.Disks.{WritesInMemory, WritesOn};
 ghost use Rattle.store_runs.specs.Endings.{IsLimitEnding, IsStoreEnding, WriteCounts};
+ghost use Rattle.store_runs.specs.Fronts.{WritesFromOpening};
 ghost use Rattle.store_runs.specs.Steps.{steps_of};
 ghost use Rattle.store_runs.specs.Tidy.{LeavesTidy};
 
@@ -47,6 +48,10 @@ pub fn run_on<D: Disk + Drop, O: Sink>(
         → WritesOn result.ending list.now options.start options.batch options.checkpoint
         (D.view disk) (steps_of lines.now) (O.taken out.old) (O.taken out.new)
         (D.view result.disk) }
+    // Over any disk, up to the first line that opens the store again.
+    ensures first { WritesFromOpening result.ending list.now options.start options.batch
+        options.checkpoint (D.view disk) (steps_of lines.now) (O.taken out.old) (O.taken out.new)
+        (D.view result.disk) }
     // A file that is no store of this list is refused, whatever the lines are.
     ensures refused { (why : OpenFault) (c : List ℕ) → (D.view disk).contents ≡ Some c
         → IsOfFile why
@@ -63,7 +68,7 @@ pub fn run_on<D: Disk + Drop, O: Sink>(
         → LeavesTidy options.checkpoint list.now.digest (D.view result.disk).may_leave }
     ensures store { IsStoreEnding result.ending }
     // A call of the disk failed.
-    ensures device { (D.view disk).tells ≡ true → result.ending ≡ Ending.Device
+    ensures device { result.ending ≡ Ending.Device
         → Rose (D.view disk).faults (D.view result.disk).faults }
     ensures tells { (D.view result.disk).tells ≡ (D.view disk).tells }
     ensures write { WriteCounts result.ending (O.faults out.old) (O.faults out.new) }

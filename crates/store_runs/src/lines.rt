@@ -6,16 +6,20 @@ ghost use Rattle.agent_base.specs.Counts.{Rose};
 ghost use Rattle.durable_model.specs.Histories.{AgentOpening};
 ghost use Rattle.script_actions.specs.Plain.{action_of, step_of};
 ghost use Rattle.agent_core.specs.AgentView.{owes};
+ghost use Rattle.agent_core.specs.declared.agent.Power.TheVariants as power;
+ghost use Rattle.store_runs.specs.FaultCounts.{KeepsCount};
 ghost use Rattle.store_runs.specs.Calls.{Settled, Stepped, Stops, Unsettled};
 ghost use Rattle.store_runs.specs.Closing.{Closes, Ends, IsEnd};
 ghost use Rattle.store_runs.specs.Endings.{IsStoreEnding, TellsPower, WriteCounts};
-ghost use Rattle.store_runs.specs.Openings.{GoesOn, IsOpenedAt, calls_before};
+ghost use Rattle.store_runs.specs.Fronts.{LeavesCount, WritesFirst};
+ghost use Rattle.store_runs.specs.Openings.{GoesOn, IsJustOpened, IsOpenedAt, calls_before};
 ghost use Rattle.store_runs.specs.Disks.{LeavesDisk};
 ghost use Rattle.store_runs.specs.Runs.{HasNoCuts};
 ghost use Rattle.store_runs.specs.Openings.{list_of};
 ghost use Rattle.store_runs.specs.Runs.{WritesLines};
 ghost use Rattle.store_runs.specs.Steps.{steps_of};
 ghost use Rattle.store_runs.specs.Tidy.{IsTidyAt};
+ghost use Rattle.store_runs.specs.Waiting.{Lengthens};
 
 use crate::Ending;
 use crate::ending::refused;
@@ -52,11 +56,18 @@ pub fn run_lines<D: Disk + Drop, O: Sink>(
         (LeavesDisk result (list_of agent.old) agent.old.batch opening
         (calls_before agent.old (D.view agent.old.disk))
         (D.view agent.old.disk) (D.view agent.new.disk)) }
+    // Over any disk, up to the first line that opens the store again.
+    ensures first { (opening : AgentOpening)
+        → IsJustOpened agent.old (D.view agent.old.disk) opening
+        → WritesFirst result agent.old.memory.rules agent.old.batch agent.old.checkpoint opening
+        (HasNoCuts (D.view agent.old.disk)) (steps_of lines.now)
+        (O.taken out.old) (O.taken out.new)
+        (LeavesCount result (D.view agent.old.disk) (D.view agent.new.disk)) }
     ensures power { (opening : AgentOpening)
         → IsOpenedAt agent.old (D.view agent.old.disk) opening
         → TellsPower result agent.new.power }
-    ensures device { (opening : AgentOpening)
-        → IsOpenedAt agent.old (D.view agent.old.disk) opening → result ≡ Ending.Device
+    // A call of the disk failed.
+    ensures device { agent.old.power ≡ power.Up → result ≡ Ending.Device
         → Rose (D.view agent.old.disk).faults (D.view agent.new.disk).faults }
     // At `Done` no checkpoint is due for the store that is left.
     ensures tidy { (opening : AgentOpening)
@@ -94,6 +105,7 @@ fn step<D: Disk + Drop>(
         waiting.old.items waiting.new.items) }
     ensures stops { IfErr result (Stops D.view agent.old agent.new (step_of step.now)) }
     ensures goes_on { GoesOn D.view agent.old agent.new }
+    ensures counts { KeepsCount D.view agent.old agent.new }
     ensures unchanged { OnErr result (waiting.new.items ≡ waiting.old.items) }
 {
     match step {
@@ -115,6 +127,7 @@ fn act<D: Disk + Drop>(
         waiting.old.items waiting.new.items) }
     ensures stops { IfErr result (Stops D.view agent.old agent.new (step_of step.now)) }
     ensures goes_on { GoesOn D.view agent.old agent.new }
+    ensures counts { KeepsCount D.view agent.old agent.new }
     ensures unchanged { OnErr result (waiting.new.items ≡ waiting.old.items) }
 {
     match agent.line(action) {
@@ -138,6 +151,7 @@ fn reopen<D: Disk + Drop>(
         waiting.old.items waiting.new.items) }
     ensures stops { IfErr result (Stops D.view agent.old agent.new (step_of step.now)) }
     ensures goes_on { GoesOn D.view agent.old agent.new }
+    ensures counts { KeepsCount D.view agent.old agent.new }
     ensures unchanged { OnErr result (waiting.new.items ≡ waiting.old.items) }
 {
     match agent.restart() {
@@ -164,6 +178,7 @@ fn settle<D: Disk + Drop, O: Sink>(
         (O.taken out.old) (O.taken out.new) (O.faults out.old) (O.faults out.new)
         waiting.old.items) }
     ensures goes_on { GoesOn D.view agent.old agent.new }
+    ensures counts { KeepsCount D.view agent.old agent.new }
 {
     match step {
         Step::Act(_) if agent.owes_checkpoint() => write_and_checkpoint(agent, out, waiting),
@@ -189,6 +204,7 @@ fn write_and_checkpoint<D: Disk + Drop, O: Sink>(
         (O.taken out.old) (O.taken out.new) (O.faults out.old) (O.faults out.new)
         waiting.old.items) }
     ensures goes_on { GoesOn D.view agent.old agent.new }
+    ensures counts { KeepsCount D.view agent.old agent.new }
 {
     match write_all(out, waiting) {
         Ok(()) => waiting.clear(),
@@ -206,6 +222,8 @@ fn make_checkpoint<D: Disk + Drop>(agent: &mut Agent<'_, D>) -> Ending
     ensures ends { Ends D.view agent.old agent.new result [] [] }
     ensures tidy { result ≡ Ending.Done → owes agent.new ≡ false }
     ensures goes_on { GoesOn D.view agent.old agent.new }
+    ensures counts { KeepsCount D.view agent.old agent.new }
+    ensures fell { result ≡ Ending.Device → agent.new.power ≡ power.Down }
     ensures ending { IsEnd result }
 {
     match agent.flush() {
@@ -224,7 +242,10 @@ fn last_commit<D: Disk + Drop>(
     waiting: &mut Vec<u8>,
 ) -> Ending
     ensures ends { Ends D.view agent.old agent.new result waiting.old.items waiting.new.items }
+    ensures lengthens { Lengthens waiting.old.items waiting.new.items }
     ensures goes_on { GoesOn D.view agent.old agent.new }
+    ensures counts { KeepsCount D.view agent.old agent.new }
+    ensures fell { result ≡ Ending.Device → agent.new.power ≡ power.Down }
     ensures ending { IsEnd result }
 {
     if agent.owes_checkpoint() {
@@ -246,6 +267,9 @@ fn last_checkpoint<D: Disk + Drop>(agent: &mut Agent<'_, D>, ending: Ending) -> 
     ensures closes { Closes D.view agent.old agent.new ending result }
     ensures tidy { result ≡ Ending.Done → owes agent.new ≡ false }
     ensures goes_on { GoesOn D.view agent.old agent.new }
+    ensures counts { KeepsCount D.view agent.old agent.new }
+    ensures fell { (ending ≡ Ending.Device → agent.old.power ≡ power.Down)
+        → result ≡ Ending.Device → agent.new.power ≡ power.Down }
 {
     match ending {
         Ending::Done if agent.owes_checkpoint() => make_checkpoint(agent),

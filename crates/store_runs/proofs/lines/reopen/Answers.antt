@@ -8,6 +8,7 @@ use Rattle.printed_model.specs.Histories.{down_reply}
 use Rattle.store_runs.specs.Calls.{Stops}
 use Rattle.store_runs.specs.Endings.{ending_of}
 use Rattle.store_runs.proofs.AgentLemmas.{restart_called, restart_stops, restart_text, stepped_as, wanting_ran}
+use Rattle.store_runs.proofs.PowerLemmas.{restart_counts_on}
 use Rattle.store_runs.proofs.lines.reopen.Goals as goal
 
 pub returns-in_ok-hold-in-Ok-clause-stepped : goal.returns-in_ok-hold-in-Ok-clause-stepped
@@ -60,3 +61,25 @@ returns-in_default-clause-stops g c =
     c.in-Err.ensures.device c.in-Err.ensures.calls in
     subst (λ step. Stops g.D.Disk.view old new step c.refused.result) (sym c.requires)
     (subst (Stops g.D.Disk.view old new Reopens) (sym c.refused.ensures) stops)
+
+-- ---- the count of faults
+
+pub returns-in_ok-hold-in-Ok-clause-counts : goal.returns-in_ok-hold-in-Ok-clause-counts
+returns-in_ok-hold-in-Ok-clause-counts g c =
+    restart_counts_on g.D.Disk.view c.args.agent.now c.restart.new.self (Ok c.in-Ok.kept) c.in-Ok.ensures.device c.in-Ok.ensures.power
+
+pub returns-in_err-hold-in-Ok-clause-counts : goal.returns-in_err-hold-in-Ok-clause-counts
+returns-in_err-hold-in-Ok-clause-counts g c =
+    restart_counts_on g.D.Disk.view c.args.agent.now c.restart.new.self (Ok c.in-Ok.kept) c.in-Ok.ensures.device c.in-Ok.ensures.power
+
+pub returns-in_ok-hold-in-DeviceFault-clause-counts : goal.returns-in_ok-hold-in-DeviceFault-clause-counts
+returns-in_ok-hold-in-DeviceFault-clause-counts g c =
+    restart_counts_on g.D.Disk.view c.args.agent.now c.restart.new.self (Err c.in-Err.why) c.in-Err.ensures.device c.in-Err.ensures.power
+
+pub returns-in_err-hold-in-DeviceFault-clause-counts : goal.returns-in_err-hold-in-DeviceFault-clause-counts
+returns-in_err-hold-in-DeviceFault-clause-counts g c =
+    restart_counts_on g.D.Disk.view c.args.agent.now c.restart.new.self (Err c.in-Err.why) c.in-Err.ensures.device c.in-Err.ensures.power
+
+pub returns-in_default-clause-counts : goal.returns-in_default-clause-counts
+returns-in_default-clause-counts g c =
+    restart_counts_on g.D.Disk.view c.args.agent.now c.restart.new.self (Err c.in-Err.why) c.in-Err.ensures.device c.in-Err.ensures.power

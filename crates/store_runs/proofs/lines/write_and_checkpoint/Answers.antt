@@ -24,4 +24,5 @@ returns-in_default g c =
       );
       stops = tt;
       goes_on = c.make_checkpoint.ensures.goes_on;
+      counts = c.make_checkpoint.ensures.counts;
     }

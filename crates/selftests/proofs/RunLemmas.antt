@@ -52,7 +52,7 @@ module _ (list : RuleList) (old new : View) (steps : List PlainStep) (before aft
       steps before after (LeavesHistory list day_batch (opened_at day_start d) new.may_leave)) nothing
       (writes_other list.rules day_batch day_checkpoint x (Unit {0}) (HasNoCuts old)
       (LeavesDisk Done list day_batch x calls old new) (LeavesHistory list day_batch x new.may_leave)
-      (λ any. (on, told)) (λ history left. left.0) before after Done steps written)
+      (λ any. (on, told)) (λ rest history left. left.0) before after Done steps written)
 
   ran_anew : (ending : Ending) → WritesOn ending list day_start day_batch day_checkpoint old steps before
       after new → WritesInMemory ending list.rules day_start day_batch day_checkpoint [] steps before after
@@ -113,7 +113,7 @@ module _ (list : RuleList) (is : list ≡ no_rules) (steps : List PlainStep) (im
           state = stands.0;
           last = stands.1;
           stands = stands.2;
-          left = stands.3;
+          left = stands.3.left;
           tidy = subst (λ (l : RuleList). LeavesTidy day_checkpoint l.digest images) is tidy file image;
         },
       )

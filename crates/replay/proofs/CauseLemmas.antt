@@ -91,27 +91,27 @@ script_read_cause command list script host reads scripts status fine counts =
     read_cause command list script host reads scripts status fine (λ is. inl (subst (λ s. ScriptCounts s scripts) is counts))
 
 -- the store of a path
-pub replay_device : (list store : List ℕ) (batch checkpoint start : ℕ) (tells : Bool) (stores : BeforeAfter ℕ) (status : Status) → (tells ≡ true → StoreCounts status stores) → DeviceCounts (Some (Replay list (Some store) batch checkpoint start)) tells status stores
-replay_device list store batch checkpoint start tells stores Done rose = tt
-replay_device list store batch checkpoint start tells stores Usage rose = tt
-replay_device list store batch checkpoint start tells stores (Script why) rose = tt
-replay_device list store batch checkpoint start tells stores (ListStatus why) rose = tt
-replay_device list store batch checkpoint start tells stores (Store why) rose = tt
-replay_device list store batch checkpoint start tells stores Read rose = tt
-replay_device list store batch checkpoint start tells stores Write rose = tt
-replay_device list store batch checkpoint start tells stores Device rose = rose
-replay_device list store batch checkpoint start tells stores Memory rose = tt
+pub replay_device : (list store : List ℕ) (batch checkpoint start : ℕ) (stores : BeforeAfter ℕ) (status : Status) → StoreCounts status stores → DeviceCounts (Some (Replay list (Some store) batch checkpoint start)) status stores
+replay_device list store batch checkpoint start stores Done rose = tt
+replay_device list store batch checkpoint start stores Usage rose = tt
+replay_device list store batch checkpoint start stores (Script why) rose = tt
+replay_device list store batch checkpoint start stores (ListStatus why) rose = tt
+replay_device list store batch checkpoint start stores (Store why) rose = tt
+replay_device list store batch checkpoint start stores Read rose = tt
+replay_device list store batch checkpoint start stores Write rose = tt
+replay_device list store batch checkpoint start stores Device rose = rose
+replay_device list store batch checkpoint start stores Memory rose = tt
 
-pub dump_device : (list store : List ℕ) (tells : Bool) (stores : BeforeAfter ℕ) (status : Status) → StoreCounts status stores → DeviceCounts (Some (Dump list store)) tells status stores
-dump_device list store tells stores Done rose = tt
-dump_device list store tells stores Usage rose = tt
-dump_device list store tells stores (Script why) rose = tt
-dump_device list store tells stores (ListStatus why) rose = tt
-dump_device list store tells stores (Store why) rose = tt
-dump_device list store tells stores Read rose = tt
-dump_device list store tells stores Write rose = tt
-dump_device list store tells stores Device rose = rose
-dump_device list store tells stores Memory rose = tt
+pub dump_device : (list store : List ℕ) (stores : BeforeAfter ℕ) (status : Status) → StoreCounts status stores → DeviceCounts (Some (Dump list store)) status stores
+dump_device list store stores Done rose = tt
+dump_device list store stores Usage rose = tt
+dump_device list store stores (Script why) rose = tt
+dump_device list store stores (ListStatus why) rose = tt
+dump_device list store stores (Store why) rose = tt
+dump_device list store stores Read rose = tt
+dump_device list store stores Write rose = tt
+dump_device list store stores Device rose = rose
+dump_device list store stores Memory rose = tt
 
 -- ---- what the host told before the list was read
 
@@ -120,7 +120,7 @@ module _ (start batch checkpoint : ℕ) (taken : BeforeAfter (Option (List ℕ))
   ran_before e list steps ran = record { file = ran.file; found = same.no_more ran.file ran.found; wrote = ran.wrote; refused = ran.refused; limit = ran.limit; tidy = ran.tidy }
 
   pub stored_before : (tells told : Bool) → told ≡ tells → (e : Ending) (list : RuleList) (script : PlainScript) → RanStored start batch checkpoint taken counts told mid after e list script → RanStored start batch checkpoint taken counts tells old after e list script
-  stored_before tells told is e list script ran tell = ran_before e list _ (ran (is ∙ tell))
+  stored_before tells told is e list script ran = ((λ tell. ran_before e list _ (ran.0 (is ∙ tell))), ran.1)
 
 pub images_before : (old mid new : Images) → SameImages old mid → SameImages mid new → SameImages old new
 images_before old mid new first then = record {

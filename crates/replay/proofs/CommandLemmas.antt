@@ -51,7 +51,7 @@ module _ {Hosts Lists Stores Scripts Outs : Type 0} (H : HostTells Hosts Lists S
       → (IsNoCommand command → NamesSite command × (status ≡ Memory)) → CanEnd command status → ScriptCause command status (I.left script) → ListCause status (option_and_then (H.lists host) (list_named command))
       → ReadCounts status (told_of H.faults (from_to host host)) (told_of H.store_faults (from_to host host)) (told_of I.faults (from_to script script))
       → ReadCause command status (option_and_then (H.lists host) (list_named command)) (I.left script) (told_of H.faults (from_to host host)) (told_of H.reads (from_to host host)) (told_of I.faults (from_to script script))
-      → DeviceCounts command (H.tells_stores host) status (told_of H.store_faults (from_to host host)) → WriteCounts status (told_of O.faults out) → Obeys H I O command status (from_to host host) (from_to script script) out
+      → DeviceCounts command status (told_of H.store_faults (from_to host host)) → WriteCounts status (told_of O.faults out) → Obeys H I O command status (from_to host host) (from_to script script) out
   left_alone command status out not text no_command ends refused list read read_told device write = record {
     text = text;
     usage = no_usage status not;
@@ -78,7 +78,7 @@ module _ {Hosts Lists Stores Scripts Outs : Type 0} (H : HostTells Hosts Lists S
 
   -- a command that memory does not suffice for, which takes none of the output
   wanting : (command : Option PlainCommand) (out : Outs) → Writes command Memory (H.lists host) (H.tells_stores host) (H.stores host) (H.stores host) (told_of H.store_faults (from_to host host)) (told_of I.left (from_to script script)) (told_of O.taken (from_to out out))
-      → (IsNoCommand command → NamesSite command) → CanEnd command Memory → ScriptCause command Memory (I.left script) → DeviceCounts command (H.tells_stores host) Memory (told_of H.store_faults (from_to host host))
+      → (IsNoCommand command → NamesSite command) → CanEnd command Memory → ScriptCause command Memory (I.left script) → DeviceCounts command Memory (told_of H.store_faults (from_to host host))
       → Obeys H I O command Memory (from_to host host) (from_to script script) (from_to out out)
   wanting command out text names ends refused device = left_alone command Memory (from_to out out) tt text (λ none. (names none, refl)) ends refused tt none_rose tt device refl
 

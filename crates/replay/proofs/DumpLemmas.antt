@@ -16,7 +16,7 @@ use Rattle.durable_model.specs.Saved.{IsValid, Saved, nothing_saved}
 use Rattle.hosts.specs.Hosts.{LeavesOthers, LeavesStores, SameImages}
 use Rattle.row_store.specs.Bodies as bodies
 use Rattle.spelled_model.specs.Rows.{IsReadSaved}
-use Rattle.store_dumps.specs.Dump.{StandsAsTold, Writes, dump_text}
+use Rattle.store_dumps.specs.Dump.{StandsAsTold, Writes, WritesSome, dump_text}
 use Rattle.store_dumps.specs.Opening.{OpensStore, opening_of}
 use Rattle.store_dumps.specs.declared.fault.DumpFault.{DumpFault}
 use Rattle.store_dumps.specs.declared.fault.DumpFault.TheVariants.{Open, Write, NoMemory}
@@ -31,7 +31,7 @@ use Rattle.replay.specs.Commands.{HasRun, HostCounts, IsAfterList, LeavesStoreCl
 use Rattle.replay.specs.Readings.{IsListOf}
 use Rattle.replay.specs.Runs.{ListRead, Written}
 use Rattle.replay.specs.Openings.{Images, IsExcusedEnding, LeavesOpening, Unopened}
-use Rattle.replay.specs.Dumps.{DumpedRows, DumpedStore, WritesRows}
+use Rattle.replay.specs.Dumps.{DumpedRows, DumpedState, DumpedStore, WritesRows}
 use Rattle.replay.specs.Stores.{LeftAlone}
 use Rattle.replay.specs.declared.status.Status.{Status}
 use Rattle.replay.specs.declared.status.Status.TheVariants.{Done, Usage, Script, List as ListStatus, Store, Read, Device, Memory}
@@ -42,7 +42,7 @@ use Rattle.replay.proofs.StatusLemmas.{written_weaker}
 
 -- ---- how an opening ended
 
-excused_ending : (why : OpenFault) → IsExcused why → IsExcusedEnding (ending_of why)
+pub excused_ending : (why : OpenFault) → IsExcused why → IsExcusedEnding (ending_of why)
 excused_ending fault.DeviceFault excused = inl refl
 excused_ending fault.NoMemory excused = inr refl
 excused_ending (fault.NotAStore offset) excused = absurd excused
@@ -100,6 +100,13 @@ module _ {T : Type 0} (result : Result T DumpFault) (list : RuleList) (file : Li
     limit = λ over. limit_by result (opens.limit file held over);
   }
 
+-- and whatever is told of the store
+pub dumped_some : {T : Type 0} (list : RuleList) (told : Option (List ℕ)) (taken : BeforeAfter (Option (List ℕ))) (r : Result T DumpFault) → WritesSome list told r taken.before taken.after → DumpedState taken (dump_ending r)
+dumped_some list told taken (Ok done) (d, valid, spelled, stands, wrote) = inr (d, valid, wrote)
+dumped_some list told taken (Err (Open why)) took = inl (why, refl, took)
+dumped_some list told taken (Err Write) (d, valid, spelled, stands, wrote) = inr (d, valid, wrote)
+dumped_some list told taken (Err NoMemory) (d, valid, spelled, stands, wrote) = inr (d, valid, wrote)
+
 -- ---- the command
 
 -- a status of a dump that opened a store, or tried to
@@ -138,7 +145,7 @@ module _ {Hosts Lists Stores Scripts Outs : Type 0} (H : HostTells Hosts Lists S
       record {
         text = written_weaker status (LeftAlone taken (H.stores mid store) (H.stores new store)) (LeftAlone taken (H.stores old store) (H.stores new store)) (λ e. DumpedRows taken (H.tells_stores mid) (H.stores mid store) (H.stores new store) e list) (λ e. (read : ListRead told) × DumpedRows taken (H.tells_stores old) (H.stores old store) (H.stores new store) e read.list)
             (alone_before taken (H.stores old store) (H.stores mid store) (H.stores new store) (stores store))
-            (λ e dump. (list_read list told read, λ tell. dumped_before list (stores store) e (dump (is ∙ tell)))) text;
+            (λ e dump. (list_read list told read, ((λ tell. dumped_before list (stores store) e (dump.0 (is ∙ tell))), dump.1))) text;
         usage = no_usage status (by_run IsNotUsage tt tt tt tt tt (λ why of. tt) status ran);
         no_command = λ never. absurd never;
         ends = by_run DumpCanEnd tt tt tt tt tt (λ why of. of) status ran;
@@ -146,7 +153,7 @@ module _ {Hosts Lists Stores Scripts Outs : Type 0} (H : HostTells Hosts Lists S
         list = later_list status told (by_run IsAfterList tt tt tt tt tt (λ why of. tt) status ran) fine;
         read = read_counts;
         read_told = read_cause (Some (Dump path store)) told (I.left script) host (told_of H.reads (from_to old new)) faults status fine (λ is. inr (subst (λ s. HostCounts s host counts) is counted).1);
-        device = dump_device path store (H.tells_stores old) counts status (subst (λ n. StoreCounts status (from_to n (H.store_faults new))) none device);
+        device = dump_device path store counts status (subst (λ n. StoreCounts status (from_to n (H.store_faults new))) none device);
         write = write;
         untouched = λ never. absurd never;
         unread = λ is. refl;

@@ -8,3 +8,4 @@ pub mod ReplayLemmas
 pub mod TwinLemmas
 pub mod TwinFacts
 pub mod DumpLemmas
+pub mod CompleteLemmas

@@ -83,7 +83,7 @@ module _ {Hosts Lists Stores Scripts Outs : Type 0} (H : HostTells Hosts Lists S
       → ScriptCanEnd (Some store) status → IsAfterList status → ScriptCauseOf (script_of_bytes false) status (I.left script.before)
       → StoreReadCause status (I.left script.before) (told_of H.faults (from_to mid new)) (told_of I.faults script)
       → ReadCounts status (told_of H.faults (from_to mid new)) (told_of H.store_faults (from_to mid new)) (told_of I.faults script)
-      → (H.tells_stores mid ≡ true → StoreCounts status (told_of H.store_faults (from_to mid new))) → WriteCounts status (told_of O.faults out)
+      → StoreCounts status (told_of H.store_faults (from_to mid new)) → WriteCounts status (told_of O.faults out)
       → Obeys H I O (Some (Replay path (Some store) batch checkpoint start)) status (from_to old new) script out
   obeys_stored new store is host_left text ends later cause unread read_counts device write =
       let told = H.lists old path in
@@ -115,7 +115,7 @@ module _ {Hosts Lists Stores Scripts Outs : Type 0} (H : HostTells Hosts Lists S
         read_told = read_cause (Some (Replay path (Some store) batch checkpoint start)) told (I.left script.before) host (told_of H.reads (from_to old new)) faults status fine
             (λ reads. subst (λ s. StoreReadCause s (I.left script.before) host faults) reads
             (subst (λ n. StoreReadCause status (I.left script.before) (from_to n (H.faults new)) faults) still unread));
-        device = replay_device path store batch checkpoint start (H.tells_stores old) counts status (λ tell. subst (λ n. StoreCounts status (from_to n (H.store_faults new))) none (device (is ∙ tell)));
+        device = replay_device path store batch checkpoint start counts status (subst (λ n. StoreCounts status (from_to n (H.store_faults new))) none device);
         write = write;
         untouched = λ never. absurd never;
         unread = λ is. absurd (later_script path (Some store) batch checkpoint start status later is);

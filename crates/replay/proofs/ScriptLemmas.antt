@@ -14,15 +14,17 @@ use Rattle.disk_model.specs.Disk.{IsSettled, View}
 use Rattle.durable_model.specs.Saved.{Saved}
 use Rattle.store_runs.specs.Disks.{LeavesDisk, WritesInMemory, WritesOn}
 use Rattle.store_runs.specs.Faults.{RoseBy, faults_of}
+use Rattle.store_runs.specs.Fronts.{LeavesCount, WritesFromOpening}
 use Rattle.store_runs.specs.Runs.{HasNoCuts, WritesLines}
 use Rattle.store_runs.specs.Steps.{steps_of}
 use Rattle.store_runs.specs.declared.ending.Ending.{Ending}
+use Rattle.store_runs.proofs.FrontLemmas.{first_other}
 use Rattle.store_runs.proofs.StopLemmas.{writes_other}
 use Rattle.twins.proofs.NumberLemmas.{steps_are}
 use Rattle.replay.specs.BeforeAfter.{BeforeAfter}
 use Rattle.replay.specs.Runs.{RanInMemory, steps_in}
 use Rattle.replay.specs.Openings.{Images, Unopened}
-use Rattle.replay.specs.Stores.{IsMeantBy, LeavesStore}
+use Rattle.replay.specs.Stores.{IsMeantBy, LeavesStore, RanFromOpening}
 
 -- the same of a script that was read
 pub steps_read : (script : PlainScript) (cuts : List Cut) (lines : List Line) → script ≡ record { cuts = cuts; lines = map line_of lines } → steps_in script ≡ steps_of lines
@@ -68,9 +70,23 @@ store_writes e list start batch checkpoint file old new steps taken counts after
       ran.0,
       record { valid = ran.1; meant = ran.2 file held },
       writes_other list.rules batch checkpoint x ⊥ (HasNoCuts old) (LeavesDisk e list batch x ran.4 old new) (LeavesStore e list batch x counts after) (λ never. absurd never)
-          (λ history left. (
+          (λ rest history left. (
             (λ image is. left.0 image (same.no_more image is)),
             count_rises (faults_of e history) new.faults counts.before counts.after (subst (λ n. RoseBy (faults_of e history) n new.faults) fresh left.1) count,
           )) taken.before taken.after e steps ran.6,
+    ))
+    wrote
+
+-- and up to the first restart, whatever is told of it
+pub first_writes : (e : Ending) (list : RuleList) (start batch checkpoint : ℕ) (old new : View) (steps : List PlainStep) (taken : BeforeAfter (Option (List ℕ))) (counts : BeforeAfter ℕ) → old.faults ≡ 0
+    → counts.after ≡ raised new.faults counts.before → WritesFromOpening e list start batch checkpoint old steps taken.before taken.after new → RanFromOpening start batch checkpoint taken counts e list steps
+first_writes e list start batch checkpoint old new steps taken counts fresh count wrote = ⊎_elim
+    (λ unopened. inl unopened)
+    (λ ran.
+    inr (
+      ran.0,
+      ran.1,
+      first_other list.rules batch checkpoint (opened_at start ran.0) ⊥ (HasNoCuts old) (LeavesCount e old new) (λ rest history. RoseBy (faults_of e history) counts.before counts.after) (λ never. absurd never)
+          (λ rest history left. count_rises (faults_of e history) new.faults counts.before counts.after (subst (λ n. RoseBy (faults_of e history) n new.faults) fresh left) count) taken.before taken.after e steps ran.2,
     ))
     wrote

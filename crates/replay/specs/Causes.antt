@@ -86,14 +86,12 @@ abbrev pub WriteCounts : Status → (out : BeforeAfter ℕ) → Type 0
 WriteCounts Write out = Rose out.before out.after
 WriteCounts status out = out.after ≡ out.before
 
--- the count of faults of the stores that were closed: a call on the store of a path failed. Of a
--- run of a script this is told where the host tells what stores hold.
-abbrev pub DeviceCounts : Option PlainCommand → (tells : Bool) → Status → (stores : BeforeAfter ℕ)
-    → Type 0
-DeviceCounts (Some (Replay list (Some store) batch checkpoint start)) tells Device stores =
-    tells ≡ true → Rose stores.before stores.after
-DeviceCounts (Some (Dump list store)) tells Device stores = Rose stores.before stores.after
-DeviceCounts command tells status stores = Unit {0}
+-- the count of faults of the stores that were closed: a call on the store of a path failed
+abbrev pub DeviceCounts : Option PlainCommand → Status → (stores : BeforeAfter ℕ) → Type 0
+DeviceCounts (Some (Replay list (Some store) batch checkpoint start)) Device stores =
+    Rose stores.before stores.after
+DeviceCounts (Some (Dump list store)) Device stores = Rose stores.before stores.after
+DeviceCounts command status stores = Unit {0}
 
 -- the store that a command names could not be opened, and the host's count rose. A run comes to its
 -- store behind its script, which has no fault.

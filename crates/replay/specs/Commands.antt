@@ -133,7 +133,7 @@ pub record Obeys {Hosts Lists Stores Scripts Outs : Type 0} (H : HostTells Hosts
       (told_of H.faults host)
       (told_of H.reads host) (told_of I.faults script)
   pub device :
-      DeviceCounts command (H.tells_stores host.before) status (told_of H.store_faults host)
+      DeviceCounts command status (told_of H.store_faults host)
   pub write : WriteCounts status (told_of O.faults out)
   pub untouched : OpensNoList command → host.after ≡ host.before
   pub unread : ReadsNoScript command status → script.after ≡ script.before

@@ -9,13 +9,13 @@ use Rattle.suffix_list.specs.ListText.{RuleList}
 use Rattle.durable_model.specs.Saved.{IsValid, Saved, nothing_saved}
 use Rattle.row_store.specs.Bodies as bodies
 use Rattle.store_dumps.specs.Dump.{dump_text}
-use Rattle.store_runs.specs.Endings.{IsLimitEnding}
+use Rattle.store_runs.specs.Endings.{IsLimitEnding, ending_of}
 use Rattle.store_runs.specs.declared.ending.Ending.{Ending}
 use Rattle.store_runs.specs.declared.ending.Ending.TheVariants as ending
 use Rattle.command_line.specs.Words.{PlainCommand, Dump}
 use Rattle.replay.specs.BeforeAfter.{BeforeAfter}
 use Rattle.replay.specs.Openings.{Images, IsExcusedEnding, IsRefused, LeavesOpening, Unopened}
-use Rattle.replay.specs.Runs.{ListRead, Written}
+use Rattle.replay.specs.Runs.{ListRead, TakesNone, Written}
 use Rattle.replay.specs.Stores.{LeftAlone}
 use Rattle.replay.specs.declared.status.Status.{Status}
 
@@ -48,11 +48,18 @@ pub record DumpedStore (taken : BeforeAfter (Option (List ℕ))) (before after :
       → (ended ≡ ending.Store why) ⊎ IsExcusedEnding ended
   pub limit : IsOver true file → IsLimitEnding file ended
 
--- the same where the host tells what stores hold
+-- whatever the host tells of its stores: the store was not opened, and the sink took nothing; or it
+-- took the lines of a valid durable state
+abbrev pub DumpedState : (taken : BeforeAfter (Option (List ℕ))) → Ending → Type 0
+DumpedState taken ended =
+    ((why : OpenFault) × (ended ≡ ending_of why) × TakesNone taken)
+    ⊎ ((d : Saved) × IsValid d × WritesRows ended (dump_text d) taken)
+
+-- both, the first where the host tells what stores hold
 abbrev pub DumpedRows : (taken : BeforeAfter (Option (List ℕ))) → Bool → (before after : Images)
     → Ending → RuleList → Type 0
 DumpedRows taken tells before after ended list =
-    tells ≡ true → DumpedStore taken before after ended list
+    (tells ≡ true → DumpedStore taken before after ended list) × DumpedState taken ended
 
 -- What the sink took of a dump that ended so, and what that leaves of the store. Of other commands
 -- it says nothing.

@@ -10,6 +10,7 @@ pub mod Dumps
 pub mod Endings
 pub mod Causes
 pub mod Readings
+pub mod Complete
 -- What private functions compute. No public clause rests on it.
 pub mod LineParts
 pub mod Kinds

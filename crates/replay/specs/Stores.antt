@@ -11,8 +11,9 @@ use Rattle.script_lines.specs.Script.{PlainScript}
 use Rattle.durable_model.specs.Histories.{AgentOpening, opened_at}
 use Rattle.durable_model.specs.Saved.{IsValid, Saved}
 use Rattle.store_runs.specs.Disks.{IsStateOf}
-use Rattle.store_runs.specs.Endings.{IsLimitEnding}
+use Rattle.store_runs.specs.Endings.{IsLimitEnding, ending_of}
 use Rattle.store_runs.specs.Faults.{RoseBy, faults_of}
+use Rattle.store_runs.specs.Fronts.{WritesFirst}
 use Rattle.store_runs.specs.Runs.{LeavesHistory, WritesLines}
 use Rattle.store_runs.specs.Tidy.{LeavesTidy}
 use Rattle.store_runs.specs.declared.ending.Ending.{Ending}
@@ -35,9 +36,9 @@ pub record IsMeantBy (list : RuleList) (file : List ℕ) (base : Saved) : Type 0
 -- afterwards are images that the history leaves, and the host's count of the stores' faults rose by
 -- at least as many as the history has
 abbrev pub LeavesStore : Ending → RuleList → ℕ → AgentOpening → (counts : BeforeAfter ℕ)
-    → (after : Images) → History PlainAction → Type 0
-LeavesStore ended list batch opening counts after history =
-    LeavesHistory list batch opening after history
+    → (after : Images) → (rest : List PlainStep) → History PlainAction → Type 0
+LeavesStore ended list batch opening counts after rest history =
+    LeavesHistory list batch opening after rest history
     × RoseBy (faults_of ended history) counts.before counts.after
 
 -- Lines ran over the store of a path. It held this file, which is one of the images that the host
@@ -65,12 +66,26 @@ pub record RanOverStore (start batch checkpoint : ℕ) (taken : BeforeAfter (Opt
 abbrev pub LeftAlone : (taken : BeforeAfter (Option (List ℕ))) → (before after : Images) → Type 0
 LeftAlone taken before after = TakesNone taken × SameImages before after
 
--- the same where the host tells what stores hold
+-- The same whatever the host tells of its stores. The store was not opened, and the sink took
+-- nothing; or the lines ran from a valid durable state, which the opening gave, and up to the first
+-- that opens the store again the sink took what is printed of a history from it. Where none does,
+-- this is said of all lines, and the host's count rose by at least as many faults as they show.
+abbrev pub RanFromOpening : (start batch checkpoint : ℕ)
+    → (taken : BeforeAfter (Option (List ℕ))) → (counts : BeforeAfter ℕ) → Ending → RuleList
+    → List PlainStep → Type 0
+RanFromOpening start batch checkpoint taken counts ended list steps =
+    ((why : OpenFault) × (ended ≡ ending_of why) × TakesNone taken)
+    ⊎ ((base : Saved) × IsValid base
+    × WritesFirst ended list.rules batch checkpoint (opened_at start base) ⊥ steps taken.before
+    taken.after (λ rest history. RoseBy (faults_of ended history) counts.before counts.after))
+
+-- both, the first where the host tells what stores hold
 abbrev pub RanLines : (start batch checkpoint : ℕ) → (taken : BeforeAfter (Option (List ℕ)))
     → (counts : BeforeAfter ℕ) → Bool → (before after : Images) → Ending → RuleList
     → List PlainStep → Type 0
 RanLines start batch checkpoint taken counts tells before after ended list steps =
-    tells ≡ true → RanOverStore start batch checkpoint taken counts before after ended list steps
+    (tells ≡ true → RanOverStore start batch checkpoint taken counts before after ended list steps)
+    × RanFromOpening start batch checkpoint taken counts ended list steps
 
 -- the lines of a script ran over the store of a path
 abbrev pub RanStored : (start batch checkpoint : ℕ) → (taken : BeforeAfter (Option (List ℕ)))

@@ -10,6 +10,7 @@ ghost use Rattle.replay.specs.Endings.{CanEnd};
 ghost use Rattle.replay.specs.Causes.{ReadCounts, ReadsNoScript, ScriptCause, TellsFault};
 ghost use Rattle.replay.specs.Causes.{WriteCounts};
 ghost use Rattle.replay.specs.Commands.{Obeys};
+ghost use Rattle.replay.specs.Complete.{IsSuitable, NothingFailed};
 ghost use Rattle.replay.specs.Runs.{Helps, TestsItself, WritesUsage};
 ghost use Rattle.replay.specs.Dumps.{Dumps};
 ghost use Rattle.replay.specs.Stores.{LeavesAllBut, Replays};
@@ -89,10 +90,17 @@ pub fn run<H: Host, I: Source, O: Sink, E: Sink>(
         (from_to (H.faults host.old) (H.faults host.new))
         (from_to (H.reads host.old) (H.reads host.new))
         (from_to (I.faults script.old) (I.faults script.new)) }
-    ensures device { DeviceCounts (command_of (map string_bytes words.now))
-        (H.tells_stores host.old) result
+    ensures device { DeviceCounts (command_of (map string_bytes words.now)) result
         (from_to (H.store_faults host.old) (H.store_faults host.new)) }
     ensures write { WriteCounts result (from_to (O.faults out.old) (O.faults out.new)) }
+    // Where nothing is at fault and nothing fails, it is done, but for want of memory.
+    ensures complete { IsSuitable (command_of (map string_bytes words.now)) (H.lists host.old)
+        (H.tells_stores host.old) (H.stores host.old) (I.left script.old)
+        → NothingFailed (from_to (H.faults host.old) (H.faults host.new))
+        (from_to (H.store_faults host.old) (H.store_faults host.new))
+        (from_to (I.faults script.old) (I.faults script.new))
+        (from_to (O.faults out.old) (O.faults out.new))
+        → (result ≡ Status.Done) ⊎ (result ≡ Status.Memory) }
 
     // What is left alone, and what is closed.
     ensures untouched { OpensNoList (command_of (map string_bytes words.now))

@@ -110,7 +110,7 @@ fn run_stored<H: Host, I: Source, O: Sink>(
     ensures read { ReadCounts result (from_to (H.faults host.old) (H.faults host.new))
         (from_to (H.store_faults host.old) (H.store_faults host.new))
         (from_to (I.faults script.old) (I.faults script.new)) }
-    ensures device { H.tells_stores host.old ≡ true → StoreCounts result
+    ensures device { StoreCounts result
         (from_to (H.store_faults host.old) (H.store_faults host.new)) }
     ensures write { WriteCounts result (from_to (O.faults out.old) (O.faults out.new)) }
     ensures left { LeavesStoreClosed H.Host path.now (from_to host.old host.new) }
@@ -144,7 +144,7 @@ fn run_over<H: Host, O: Sink>(
     ensures ran { HasRun result }
     ensures counts { HostCounts result (from_to (H.faults host.old) (H.faults host.new))
         (from_to (H.store_faults host.old) (H.store_faults host.new)) }
-    ensures device { H.tells_stores host.old ≡ true → StoreCounts result
+    ensures device { StoreCounts result
         (from_to (H.store_faults host.old) (H.store_faults host.new)) }
     ensures write { WriteCounts result (from_to (O.faults out.old) (O.faults out.new)) }
     ensures left { LeavesStoreClosed H.Host path.now (from_to host.old host.new) }

@@ -1,3 +1,5 @@
 mod StandardFacts
 pub mod PairsLemmas
 pub mod EntriesLemmas
+pub mod PlacesLemmas
+pub mod ChangesLemmas

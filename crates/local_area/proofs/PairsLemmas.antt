@@ -1,7 +1,7 @@
 -- An area's pairs, changed at the first pair of a name, as a map of entries is.
 use Rattle.std.proofs.Common.{◌≡◌, ℕ, ◌+◌, ◌-◌, ◌≤◌, Bool, true, false, not, cond, List, [], ◌∷◌, map, filter, length, Option, Some, None, refl, ap, ◌∙◌, sym, arith}
 use Rattle.std.specs.Prelude.{bytes_eq, is_some, if◌then◌else◌}
-use Rattle.std.specs.List.{AllByRecursion}
+use Rattle.std.specs.List.{AllByRecursion, IsDistinct}
 use Rattle.std.proofs.lemmas.Map.Keys.{IsDistinct-head, IsDistinct-tail}
 use Rattle.std.proofs.lemmas.Slice.Eq.{bytes_eq-Decides}
 use Rattle.std.proofs.lemmas.List.Sums.{sum_by-cons}
@@ -175,3 +175,30 @@ other_choice value before false is differs = rw is refl
 pub answer_over-other : (value before : List ℕ) → (before ≡ value → ⊥)
     → answer_over value (Some before) ≡ changed before
 answer_over-other value before differs = other_choice value before (bytes_eq before value) refl differs
+
+-- a name with its value is the weight that a removal takes from distinct names
+pub area_weight-remove : (name value : List ℕ) (ps : List Pair) → HasDistinctNames ps → area_get name ps ≡ Some value
+    → area_weight (area_remove name ps) + (length name + length value) ≡ area_weight ps
+area_weight-remove name value ps distinct found =
+    omega (arith, area_weight-remove_first name value ps found, ap area_weight (remove_first-is name ps distinct))
+
+pub distinct-none : (ps : List Pair) → ps ≡ [] → HasDistinctNames ps
+unfolding IsDistinct
+distinct-none ps none = rw none tt
+
+remove_absent_step : (name : List ℕ) (p : Pair) (ps : List Pair) (b : Bool) → has_name name p ≡ b
+    → (area_get name ps ≡ None → remove_first name ps ≡ ps)
+    → area_get name (p ∷ ps) ≡ None → remove_first name (p ∷ ps) ≡ p ∷ ps
+remove_absent_step name p ps true is rest = rw is (λ none. absurd (cc none))
+remove_absent_step name p ps false is rest = rw is (λ none. ap (λ r. p ∷ r) (rest none))
+
+remove_first-absent : (name : List ℕ) (ps : List Pair) → area_get name ps ≡ None → remove_first name ps ≡ ps
+remove_first-absent name [] none = refl
+remove_first-absent name (p ∷ ps) none =
+    remove_absent_step name p ps (has_name name p) refl (remove_first-absent name ps) none
+
+-- a removal of a name that is not there changes nothing
+pub area_remove-absent : (name : List ℕ) (ps : List Pair) → HasDistinctNames ps → area_get name ps ≡ None
+    → area_remove name ps ≡ ps
+area_remove-absent name ps distinct none =
+    sym (remove_first-is name ps distinct) ∙ remove_first-absent name ps none

@@ -3,3 +3,4 @@ pub mod Area
 pub mod Put
 -- What private functions compute. No public clause rests on it.
 pub mod Stored
+pub mod Places

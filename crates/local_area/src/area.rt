@@ -4,8 +4,8 @@ ghost use Rattle.std.specs.Option.{option_copied};
 ghost use Rattle.local_area.specs.Area.{area_get, area_nth, area_put, area_remove, area_weight, quota, HasDistinctNames};
 ghost use Rattle.local_area.specs.Put.{plain_put, put_answer, same};
 
+use crate::places::Places;
 use agent_base::NoMemory;
-use indexmap::IndexMap;
 use std::alloc::{AllocError, Global};
 use std::marker::Model;
 
@@ -85,7 +85,7 @@ impl From<AllocError> for AreaFault {
 /// Names and values of one storage key, in the order in which the names came.
 #[derive(Debug, Drop)]
 pub struct Area {
-    pairs: IndexMap<String, String>,
+    pairs: Places,
     weight: usize,
 }
 
@@ -95,11 +95,11 @@ impl Model for Area {
 
     ghost Value = { List Pair };
 
-    ghost use Rattle.local_area.specs.Stored.{pairs_of, IsArea};
+    ghost use Rattle.local_area.specs.Stored.{IsArea};
 
-    ghost view = { λ a. pairs_of a.pairs.entries };
+    ghost view = { λ a. a.pairs };
 
-    ghost invariant = { λ a. IsArea (pairs_of a.pairs.entries) a.weight };
+    ghost invariant = { λ a. IsArea a.pairs a.weight };
 }
 
 impl Area {
@@ -108,7 +108,7 @@ impl Area {
         ensures empty { result ≡ [] }
     {
         Area {
-            pairs: IndexMap::new(alloc),
+            pairs: Places::new(alloc),
             weight: 0,
         }
     }
@@ -125,7 +125,7 @@ impl Area {
     pub fn is_empty(&self) -> bool
         ensures empty { result ≡ (length self.now == 0) }
     {
-        self.pairs.is_empty()
+        self.pairs.len() == 0
     }
 
     /// The bytes of all names and values. It is kept, and not summed.
@@ -140,18 +140,15 @@ impl Area {
     pub fn get(&self, name: &str) -> Option<&str>
         ensures value { option_copied result ≡ area_get name.now self.now }
     {
-        match self.pairs.get(name) {
-            Some(value) => Some(value.as_str()),
-            None => None,
-        }
+        self.pairs.get(name)
     }
 
     /// The name at a place, counted from 0.
     pub fn key(&self, n: u32) -> Option<&str>
         ensures name { option_copied result ≡ area_nth n self.now }
     {
-        match self.pairs.get_index(n as usize) {
-            Some((name, _)) => Some(name.as_str()),
+        match self.pairs.nth(n as usize) {
+            Some((name, _)) => Some(name),
             None => None,
         }
     }
@@ -161,10 +158,7 @@ impl Area {
         ensures pair { option_map (λ p. record { name = p.0.now; value = p.1.now }) result
             ≡ slice_get self.now place }
     {
-        match self.pairs.get_index(place) {
-            Some((name, value)) => Some((name.as_str(), value.as_str())),
-            None => None,
-        }
+        self.pairs.nth(place)
     }
 
     /// Gives a name a value: in its place where the name is there, else at the end.
@@ -222,7 +216,7 @@ impl Area {
         ensures value { option_map string_bytes result ≡ area_get name.now self.old }
         ensures removed { self.new ≡ area_remove name.now self.old }
     {
-        let value = self.pairs.shift_remove(name)?;
+        let value = self.pairs.remove(name)?;
         self.weight -= name.len() + value.len();
         Some(value)
     }
@@ -239,13 +233,11 @@ impl Area {
     pub fn copy(&self) -> Result<Area, NoMemory>
         ensures same { IfOk result (λ area. area ≡ self.now) }
     {
-        match self.pairs.clone() {
-            Ok(pairs) => Ok(Area {
-                pairs,
-                weight: self.weight,
-            }),
-            Err(_) => Err(NoMemory),
-        }
+        let pairs = self.pairs.copy()?;
+        Ok(Area {
+            pairs,
+            weight: self.weight,
+        })
     }
 
     // The weight after a put.

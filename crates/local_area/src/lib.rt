@@ -6,5 +6,6 @@
 #![tactic(auto)]
 
 mod area;
+mod places;
 
 pub use area::{Area, AreaFault, Put, QUOTA};

@@ -1,6 +1,6 @@
 -- A value that is there leaves the weight.
 use Rattle.std.proofs.Common.{◌≡◌, ap, sym, ◌∙◌}
-use Rattle.local_area.specs.Area.{area_put, area_weight, HasDistinctNames}
+use Rattle.local_area.specs.Area.{area_weight, HasDistinctNames}
 use Rattle.local_area.proofs.PairsLemmas.{area_put-same}
 use Rattle.local_area.proofs.area.Area.weight_after.Goals as goal
 

@@ -25,7 +25,7 @@ struct AnyBody {
 
 impl Replay for AnyBody {
     ghost use Rattle.std.specs.Prelude.{◌≡◌, ℕ};
-    ghost use Rattle.std.proofs.Common.{sym, ◌∙◌};
+    ghost use Rattle.std.proofs.Common.{inl, refl, sym, ◌∙◌};
 
     ghost State = { ℕ };
 
@@ -48,6 +48,8 @@ impl Replay for AnyBody {
     ghost one_fault = { λ by s kind body o p one two. absurd one };
 
     ghost apart = { λ by s kind body t n o took refused. refused };
+
+    ghost either = { λ by s kind body. inl (0, 1, (refl, refl)) };
 
     fn begin(&mut self) {
         self.frames = 0;

@@ -37,7 +37,7 @@ fn run<D: Disk>(alloc: Global, disk: &mut D, has_checkpoint: bool) -> Result<boo
     let Ok(()) = journal.reserve(disk, BODY.len()) else {
         return Err(OpenFault::NoMemory);
     };
-    let Ok(()) = journal.checkpoint(disk, &BODY[4..]) else {
+    let Ok(()) = journal.checkpoint(disk, &DIGEST, &BODY[4..]) else {
         return Ok(journal.is_shut());
     };
     Ok(journal.is_shut() || journal.since() != 0)
@@ -126,7 +126,7 @@ const COUNTS: &[Count] = &[
     (129, false, false, 5, 129),
     (300, false, false, 5, 300),
     (0, true, false, 11, 199),
-    (0, true, true, 18, 266),
+    (0, true, true, 18, 298),
 ];
 
 fn is_counted(
@@ -184,16 +184,17 @@ fn length_after(alloc: Global, count: u32, bytes: usize) -> Result<usize, Fail> 
 }
 
 // How many checkpoints of how many bytes are made, and how long the file is then. The live region
-// begins at 128 first, and behind the first commit at 199. A snapshot of 52 bytes with both gates
-// has 71 and fits just between them, and one of 53 does not.
+// begins at 128 first, and behind the first commit at 199. A snapshot of 20 bytes with its digest and
+// both gates has 71 and fits just between them, and one of 21 does not.
 const LENGTHS: &[(u32, usize, usize)] = &[
     (0, 0, 199),
-    (1, 52, 270),
-    (2, 52, 270),
-    (1, 53, 271),
-    (2, 53, 343),
-    (3, 53, 343),
-    (40, 48, 266),
+    (1, 20, 270),
+    (2, 20, 270),
+    (1, 21, 271),
+    (2, 21, 343),
+    (3, 21, 343),
+    (40, 16, 266),
+    (40, 48, 397),
 ];
 
 #[test]
@@ -223,7 +224,7 @@ fn a_call_that_fails_shuts_the_journal(rt: HostRuntime) -> Result<(), Fail> {
 // The worked store: one commit of the body to a new store.
 fn worked(alloc: Global) -> Result<Vec<u8>, Fail> {
     let mut file = Vec::new(alloc);
-    file.extend_from_slice(b"\x01PBSTORE\x01\0\0\0")?;
+    file.extend_from_slice(b"\x01PBSTORE\x02\0\0\0")?;
     file.extend_from_slice(&DIGEST)?;
     file.extend_from_slice(b"\x01\x01\0\0\0\0\0\0\0\x80\0\0\0\0\0\0\0")?;
     file.resize(128, 0)?;
@@ -255,9 +256,19 @@ fn a_commit_writes_the_worked_store(rt: HostRuntime) -> Result<(), Fail> {
     Ok(())
 }
 
-// What the opening of the worked store answers, cut to a length and with one byte changed.
-fn answer(alloc: Global, len: usize, at: usize, byte: u8) -> Result<String, Fail> {
+// The worked store with another byte in the place of its version.
+fn worked_of(alloc: Global, version: u8) -> Result<Vec<u8>, Fail> {
     let mut file = worked(alloc)?;
+    if let Some(byte) = file.get_mut(8) {
+        *byte = version;
+    }
+    Ok(file)
+}
+
+// What the opening of the worked store answers, with its version, cut to a length and with one byte
+// changed.
+fn answer(alloc: Global, version: u8, len: usize, at: usize, byte: u8) -> Result<String, Fail> {
+    let mut file = worked_of(alloc, version)?;
     file.truncate(len);
     if at < file.len() {
         file[at] = byte;
@@ -269,52 +280,98 @@ fn answer(alloc: Global, len: usize, at: usize, byte: u8) -> Result<String, Fail
     })
 }
 
-// To how many bytes the worked store is cut, which byte is changed to what, and what its opening
-// answers.
-const FAULTS: &[(usize, usize, u8, &str)] = &[
-    (199, 0, 0, "0"),
-    (199, 0, 0xa5, "1"),
-    (199, 1, 0, "store: not a store at 1"),
-    (199, 8, 2, "store: not a store at 8"),
-    (199, 44, 0, "store: not a store at 44"),
-    (199, 45, 2, "1"),
-    (199, 53, 127, "store: not a store at 53"),
-    (199, 53, 199, "store: not a store at 53"),
-    (199, 61, 0xa5, "1"),
-    (199, 78, 1, "store: not a store at 78"),
-    (199, 128, 0, "0"),
-    (199, 128, 0xa5, "1"),
-    (199, 129, 2, "1"),
-    (199, 129, 3, "store: not a store at 129"),
-    (199, 130, 2, "store: not a store at 130"),
-    (199, 138, 0, "store: not a store at 138"),
-    (199, 138, 53, "store: not a store at 199"),
-    (199, 138, 54, "store: not a store at 128"),
-    (199, 145, 0x80, "store: not a store at 128"),
-    (199, 198, 1, "store: not a store at 198"),
-    (1, 0, 1, "0"),
-    (128, 0, 1, "store: not a store at 0"),
-    (198, 0, 1, "store: not a store at 198"),
+// The version of the worked store, to how many bytes it is cut, which byte is changed to what, and
+// what its opening answers.
+const FAULTS: &[(u8, usize, usize, u8, &str)] = &[
+    (2, 199, 0, 0, "0"),
+    (2, 199, 0, 0xa5, "1"),
+    (2, 199, 1, 0, "store: not a store at 1"),
+    (1, 199, 0, 1, "1"),
+    (2, 199, 8, 0xa5, "1"),
+    (2, 199, 9, 1, "store: not a store at 8"),
+    (1, 199, 11, 1, "store: not a store at 8"),
+    (2, 199, 44, 0, "store: not a store at 44"),
+    (2, 199, 45, 2, "1"),
+    (2, 199, 53, 127, "store: not a store at 53"),
+    (2, 199, 53, 199, "store: not a store at 53"),
+    (2, 199, 61, 0xa5, "1"),
+    (2, 199, 78, 1, "store: not a store at 78"),
+    (2, 199, 128, 0, "0"),
+    (2, 199, 128, 0xa5, "1"),
+    (1, 199, 129, 2, "1"),
+    (2, 199, 129, 2, "1"),
+    (1, 199, 129, 3, "store: not a store at 129"),
+    (2, 199, 129, 4, "store: not a store at 129"),
+    (2, 199, 130, 2, "store: not a store at 130"),
+    (2, 199, 138, 0, "store: not a store at 138"),
+    (2, 199, 138, 53, "store: not a store at 199"),
+    (2, 199, 138, 54, "store: not a store at 128"),
+    (2, 199, 145, 0x80, "store: not a store at 128"),
+    (2, 199, 198, 1, "store: not a store at 198"),
+    (2, 1, 0, 1, "0"),
+    (2, 128, 0, 1, "store: not a store at 0"),
+    (2, 198, 0, 1, "store: not a store at 198"),
     (
+        2,
         199,
         12,
         0,
         "store: list 00b0c44298fc1c149afbf4c8996fb92427ae41e4649b934ca495991b7852b855, \
          given e3b0c44298fc1c149afbf4c8996fb92427ae41e4649b934ca495991b7852b855",
     ),
+    // A snapshot that names a list: the first 32 bytes of the body.
+    (
+        2,
+        199,
+        129,
+        3,
+        "store: list 01000000010e00000068747470733a2f2f612e746573740e0000006874747073, \
+         given e3b0c44298fc1c149afbf4c8996fb92427ae41e4649b934ca495991b7852b855",
+    ),
 ];
 
-fn is_answer(alloc: Global, len: usize, at: usize, byte: u8, want: &str) -> Result<bool, Fail> {
-    Ok(answer(alloc, len, at, byte)?.as_str() == want)
+fn is_answer(
+    alloc: Global,
+    version: u8,
+    len: usize,
+    at: usize,
+    byte: u8,
+    want: &str,
+) -> Result<bool, Fail> {
+    Ok(answer(alloc, version, len, at, byte)?.as_str() == want)
 }
 
 #[test]
 fn the_first_fault_has_its_offset(rt: HostRuntime) -> Result<(), Fail> {
     let alloc = rt.alloc();
-    for (len, at, byte, want) in FAULTS {
-        let found = is_answer(alloc, *len, *at, *byte, want)?;
-        assert!(rt; found, "byte {at} of {len} is {byte}");
+    for (version, len, at, byte, want) in FAULTS {
+        let found = is_answer(alloc, *version, *len, *at, *byte, want)?;
+        assert!(rt; found, "version {version}, byte {at} of {len} is {byte}");
     }
+    Ok(())
+}
+
+// How many changing calls the opening of the worked store makes with this version, and which version
+// it leaves.
+fn calls_and_version(alloc: Global, version: u8) -> Result<(u64, u8), Fail> {
+    let file = worked_of(alloc, version)?;
+    let mut disk = disk_of(alloc, &file, None, &[])?;
+    if open_it(alloc, &mut disk) != Ok(1) {
+        return Ok((0, 0));
+    }
+    let bytes = bytes_of(alloc, &mut disk)?;
+    if bytes.len() < 9 {
+        return Ok((0, 0));
+    }
+    Ok((disk.changing_calls(), bytes[8]))
+}
+
+#[test]
+fn an_opening_leaves_version_1(rt: HostRuntime) -> Result<(), Fail> {
+    let alloc = rt.alloc();
+    assert!(rt; calls_and_version(alloc, 1)? == (3, 2));
+    assert!(rt; calls_and_version(alloc, 2)? == (1, 2));
+    assert!(rt; calls_and_version(alloc, 0xa5)? == (1, 0xa5));
     Ok(())
 }
 

@@ -93,7 +93,7 @@ impl Bodies {
 
 impl Replay for Bodies {
     ghost use Rattle.std.specs.Prelude.{◌≡◌, ℕ};
-    ghost use Rattle.std.proofs.Common.{sym, ◌∙◌};
+    ghost use Rattle.std.proofs.Common.{inl, refl, sym, ◌∙◌};
 
     ghost State = { ℕ };
 
@@ -116,6 +116,8 @@ impl Replay for Bodies {
     ghost one_fault = { λ by s kind body o p one two. absurd one };
 
     ghost apart = { λ by s kind body t n o took refused. refused };
+
+    ghost either = { λ by s kind body. inl (0, 1, (refl, refl)) };
 
     fn begin(&mut self) {
         self.bytes.clear();
@@ -149,7 +151,7 @@ pub fn add<D: Disk>(
         return Err(Failed);
     };
     let done = if is_snapshot {
-        journal.checkpoint(disk, body)
+        journal.checkpoint(disk, &DIGEST, body)
     } else {
         journal.commit(disk, body, 1)
     };

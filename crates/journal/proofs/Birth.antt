@@ -1,9 +1,10 @@
 -- What a cut leaves while a store is made.
-use Rattle.std.proofs.Common.{◌≡◌, inl, inr, ◌⊎◌, ℕ, suc, ◌+◌, ◌≤◌, ◌<◌, false, List, [], ◌∷◌, ◌++◌, length, slice_index, arith, ◌∙◌, ap, subst, length-append}
+use Rattle.std.proofs.Common.{◌≡◌, inl, inr, ◌⊎◌, ℕ, suc, ◌+◌, ◌≤◌, ◌<◌, false, List, [], ◌∷◌, ◌++◌, length, slice_index, arith, refl, ◌∙◌, ap, subst, length-append}
 use Rattle.std.specs.Prelude.{replicate}
 use Rattle.std.proofs.lemmas.Bool.{cases_eq}
 use Rattle.disk_model.specs.Disk.{Holds, Written}
 use Rattle.journal.specs.Append.{Same, IsAppending}
+use Rattle.journal.specs.Frame.{IsSecond}
 use Rattle.journal.specs.Store.{IsOpen, FramesAt, slot_bytes, magic, version_bytes, Head, IsStore, IsUnborn, new_head}
 use Rattle.journal.proofs.Ranges.{torn_before}
 use Rattle.journal.proofs.Commit.{holds_front, holds_back}
@@ -69,6 +70,16 @@ module _ (digest file : List ℕ) (size : length digest ≡ 32) (stands : Holds 
   one_zero : (n : ℕ) → n ≡ 1 → n ≡ 0 → ⊥
   one_zero n is e = omega arith
 
+  version : Holds file 8 (2 ∷ replicate 3 0)
+  unfolding one
+  version = holds_back file 1 magic version_bytes at_one
+
+  pub is_second : IsSecond file
+  is_second first = two_one (slice_index file 8) (first_of_slot 8 2 (replicate 3 0) version).1 first
+    where
+      two_one : (n : ℕ) → n ≡ 2 → n ≡ 1 → ⊥
+      two_one n is e = omega arith
+
   pub born_parts : IsOpen file 0 → Head digest file false 1 128 × FramesAt file 128 []
   unfolding one two three four five
   born_parts gate =
@@ -79,9 +90,9 @@ module _ (digest file : List ℕ) (size : length digest ≡ 32) (stands : Holds 
         record {
           gate = gate;
           name = holds_front file 1 magic version_bytes at_one;
-          version = holds_back file 1 magic version_bytes at_one;
-          digest_size = size;
-          digest_at = holds_back file 1 (magic ++ version_bytes) digest at_two;
+          padding = holds_back file 8 (2 ∷ []) (replicate 3 0) version;
+          kept_size = size;
+          kept_at = holds_back file 1 (magic ++ version_bytes) digest at_two;
           slot = (open0.0, one_zero (slice_index file 44) open0.1);
           slot_says = holds_back file 44 (1 ∷ []) (slot_bytes 1 128) slot0;
           older = inl (first_of_slot 61 0 (replicate 16 0) slot1);
@@ -93,7 +104,7 @@ module _ (digest file : List ℕ) (size : length digest ≡ 32) (stands : Holds 
   pub born : IsOpen file 0 → IsStore digest file []
   born gate =
       let parts = born_parts gate in
-      record { live = false; number = 1; begin = 128; head = parts.0; from = omega arith; fits = omega arith; frames_at = parts.1; sized = tt }
+      record { kept = digest; live = false; number = 1; begin = 128; head = parts.0; from = omega arith; fits = omega arith; frames_at = parts.1; sound = tt; under = refl }
 
 -- the images while the head is appended behind the file's first byte
 pub birth : (digest c file : List ℕ) → length digest ≡ 32 → 1 ≤ length c → slice_index c 0 ≡ 0 → IsAppending 0 (new_head digest) c file → IsUnborn file ⊎ IsStore digest file []
@@ -114,3 +125,12 @@ opened digest c file w = ((omega (arith, w.len), is_one (slice_index file 0) (w.
 
     shifted : (i : ℕ) → i < length (new_head digest) → slice_index file (1 + i) ≡ slice_index (new_head digest) i
     shifted i below = (let p : 1 + i ≡ 0 + suc i = omega arith in ap (λ (k : ℕ). slice_index file k) p) ∙ w.each (suc i) (omega arith)
+
+-- how long a new store's head is, with its closed gate
+pub head_long : (digest : List ℕ) → length digest ≡ 32 → length (new_head digest) ≡ 128
+head_long digest size =
+    let two = magic ++ version_bytes ++ digest in
+    let three = two ++ (1 ∷ slot_bytes 1 128) in
+    let four = three ++ replicate 17 0 in
+    let five = four ++ replicate 50 0 in
+    omega (arith, size, length-append (magic ++ version_bytes) digest, length-append two (1 ∷ slot_bytes 1 128), length-append three (replicate 17 0), length-append four (replicate 50 0), length-append five (0 ∷ []))

@@ -4,12 +4,12 @@ use Rattle.std.proofs.lemmas.Bool.{cases_eq}
 use Rattle.std.proofs.lemmas.List.{append-nil, get_or_append_left, get_or-append-add}
 use Rattle.disk_model.specs.Disk.{Holds, Written}
 use Rattle.journal.specs.Append.{Same, IsAppending}
-use Rattle.journal.specs.Store.{IsClosed, IsOpen, Frame, encoded, frame_len, FramesAt, AreSized, Head, IsStore}
+use Rattle.journal.specs.Frame.{IsSecond, Frame, encoded, frame_len, AreSound, region_digest}
+use Rattle.journal.specs.Store.{IsClosed, IsOpen, FramesAt, IsStore}
 use Rattle.journal.specs.Journal.{IsBeforeOrAfter}
 use Rattle.journal.specs.CheckpointParts.{IsRegion}
 use Rattle.journal.proofs.Ranges.{same_within, torn_before, written_before}
-use Rattle.journal.proofs.Sized.{sized_push}
-use Rattle.journal.proofs.Frames.{length-encoded, frames_len-append, frames_onto, frames_end, closed_same, head_same}
+use Rattle.journal.proofs.Frames.{length-encoded, frames_len-append, frames_onto, frames_end, closed_same, head_same, second_same, sound_same, sound_push, digest_push}
 
 pub holds_front : (file : List ℕ) (at : ℕ) (xs ys : List ℕ) → Holds file at (xs ++ ys) → Holds file at xs
 holds_front file at xs ys h = record {
@@ -37,41 +37,61 @@ pub gate_place : (digest c : List ℕ) (live : Bool) (number begin end : ℕ) (f
 gate_place digest c live number begin end frames region = omega (arith, (frames_end frames c begin end region.ends region.frames_at).0)
 
 module _ (digest c : List ℕ) (live : Bool) (number begin end : ℕ) (frames : List Frame) (f : Frame)
-    (region : IsRegion digest c live number begin end frames) (last_fits : f.last < 2 ^ 64) (body_fits : length f.body < 2 ^ 64) where
+    (region : IsRegion digest c live number begin end frames) (last_fits : f.last < 2 ^ 64) (none : f.list ≡ []) (body_fits : length f.list + length f.body < 2 ^ 64) where
   place : end + 1 ≤ length c
   place = gate_place digest c live number begin end frames region
 
-  store : (file : List ℕ) (more : List Frame) → AreSized (frames ++ more) → Same 0 end c file → FramesAt file end more → IsStore digest file (frames ++ more)
-  store file more sized same then = record {
+  long : 128 ≤ end
+  long = omega (arith, region.from, region.ends)
+
+  store : (file : List ℕ) (more : List Frame) → AreSound c (frames ++ more) → digest ≡ region_digest region.kept (frames ++ more) → Same 0 end c file → FramesAt file end more → IsStore digest file (frames ++ more)
+  store file more sound under same then = record {
+    kept = region.kept;
     live = live;
     number = number;
     begin = begin;
-    head = head_same digest c file live number begin (same_within 0 end 0 128 c file (omega arith) (omega arith) same) region.head;
+    head = head_same region.kept c file live number begin (same_within 0 end 0 128 c file (omega arith) long same) region.head;
     from = region.from;
     fits = region.fits;
     frames_at = frames_onto frames more c file begin end region.ends region.frames_at (same_within 0 end begin end c file (omega arith) (omega arith) same) then;
-    sized = sized;
+    sound = sound_same (frames ++ more) c file (second_same 0 end c file (omega arith) (omega (arith, long)) same) sound;
+    under = under;
   }
 
   without : (file : List ℕ) → Same 0 end c file → IsClosed file end → IsStore digest file frames
-  without file same shut = subst (λ (l : List Frame). IsStore digest file l) (append-nil frames) (store file [] (subst (λ (l : List Frame). AreSized l) (sym (append-nil frames)) region.sized) same shut)
+  without file same shut =
+      let back = sym (append-nil frames) in
+      subst (λ (l : List Frame). IsStore digest file l) (append-nil frames)
+      (store file [] (subst (λ (l : List Frame). AreSound c l) back region.sound) (subst (λ (l : List Frame). digest ≡ region_digest region.kept l) back region.under) same shut)
 
   with_open : (file : List ℕ) → Holds file (end + 1) (encoded f ++ 0 ∷ []) → IsOpen file end → FramesAt file end (f ∷ [])
   with_open file stands is_open = (is_open, holds_front file (end + 1) (encoded f) (0 ∷ []) stands, closed_behind file end f stands)
 
+  sound : AreSound c (frames ++ f ∷ [])
+  sound = sound_push c frames f region.sound last_fits body_fits (inl none)
+
+  under : digest ≡ region_digest region.kept (frames ++ f ∷ [])
+  under = region.under ∙ digest_push region.kept frames f none
+
+  still_second : (file : List ℕ) → Same 0 end c file → IsSecond file
+  still_second file same = second_same 0 end c file (omega arith) (omega (arith, long)) same region.second
+
   pub image : (file : List ℕ) → IsAppending end (encoded f ++ 0 ∷ []) c file → IsBeforeOrAfter digest frames f file
   image file (inl torn) =
       let behind : Same 0 (end + 1) c file = torn_before (end + 1) (length (encoded f ++ 0 ∷ [])) (end + 1) c file (omega arith) place torn in
-      inl (without file (same_within 0 (end + 1) 0 end c file (omega arith) (omega arith) behind) (closed_same 0 (end + 1) end c file (omega arith) (omega arith) behind (frames_end frames c begin end region.ends region.frames_at)))
+      let same = same_within 0 (end + 1) 0 end c file (omega arith) (omega arith) behind in
+      (still_second file same, inl (without file same (closed_same 0 (end + 1) end c file (omega arith) (omega arith) behind (frames_end frames c begin end region.ends region.frames_at))))
   image file (inr gated) =
-      let before : Same 0 end c file = torn_before end (length (encoded f ++ 0 ∷ []) + 1) end c file (omega arith) (omega (arith, place)) gated.0 in
-      elim (cases_eq (slice_index file end) 0) [
-        | inl shut ↦ inl (without file before (omega (arith, gated.1.within), shut))
-        | inr is_open ↦ inr (store file (f ∷ []) (sized_push frames f region.sized last_fits body_fits) before (with_open file gated.1 (omega (arith, gated.1.within), is_open)))
-      ]
+      let before : Same 0 end c file = torn_before end (length (encoded f ++ 0 ∷ []) + 1) end c file (omega arith) (omega (arith, place)) gated.0 in (
+        still_second file before,
+        elim (cases_eq (slice_index file end) 0) [
+          | inl shut ↦ inl (without file before (omega (arith, gated.1.within), shut))
+          | inr is_open ↦ inr (store file (f ∷ []) sound under before (with_open file gated.1 (omega (arith, gated.1.within), is_open)))
+        ],
+      )
 
   -- once both are written
-  pub done : (file : List ℕ) → Written end (1 ∷ encoded f ++ 0 ∷ []) c file → Head digest file live number begin × FramesAt file begin (frames ++ f ∷ [])
+  pub done : (file : List ℕ) → Written end (1 ∷ encoded f ++ 0 ∷ []) c file → IsRegion digest file live number begin (end + frame_len f) (frames ++ f ∷ [])
   done file written =
       let before : Same 0 end c file = written_before end end (1 ∷ encoded f ++ 0 ∷ []) c file (omega arith) (omega (arith, place)) written in
       let gate : slice_index file (end + 0) ≡ 1 = written.each 0 (omega arith) in
@@ -79,21 +99,17 @@ module _ (digest c : List ℕ) (live : Bool) (number begin end : ℕ) (frames : 
       let opened : slice_index file end ≡ 1 = ap (λ (k : ℕ). slice_index file k) (sym zero_place) ∙ gate in
       let stands : Holds file (end + 1) (encoded f ++ 0 ∷ []) = holds_back file end (1 ∷ []) (encoded f ++ 0 ∷ []) (record { within = omega (arith, written.len); each = written.each }) in
       let is_open : IsOpen file end = (omega (arith, stands.within), one_zero (slice_index file end) opened) in
-      (head_same digest c file live number begin (same_within 0 end 0 128 c file (omega arith) (omega arith) before) region.head, frames_onto frames (f ∷ []) c file begin end region.ends region.frames_at (same_within 0 end begin end c file (omega arith) (omega arith) before) (with_open file stands is_open))
+      record {
+        kept = region.kept;
+        head = head_same region.kept c file live number begin (same_within 0 end 0 128 c file (omega arith) long before) region.head;
+        from = region.from;
+        fits = region.fits;
+        frames_at = frames_onto frames (f ∷ []) c file begin end region.ends region.frames_at (same_within 0 end begin end c file (omega arith) (omega arith) before) (with_open file stands is_open);
+        sound = sound_same (frames ++ f ∷ []) c file (second_same 0 end c file (omega arith) (omega (arith, long)) before) sound;
+        second = still_second file before;
+        under = under;
+        ends = omega (arith, region.ends, frames_len-append frames (f ∷ []));
+      }
     where
       one_zero : (n : ℕ) → n ≡ 1 → n ≡ 0 → ⊥
       one_zero n is e = omega arith
-
--- and the region then has one frame more
-pub longer : (digest c file : List ℕ) (live : Bool) (number begin end : ℕ) (frames : List Frame) (f : Frame) → IsRegion digest c live number begin end frames → f.last < 2 ^ 64 → length f.body < 2 ^ 64
-    → Written end (1 ∷ encoded f ++ 0 ∷ []) c file → IsRegion digest file live number begin (end + frame_len f) (frames ++ f ∷ [])
-longer digest c file live number begin end frames f region last_fits body_fits written =
-    let both = done digest c live number begin end frames f region last_fits body_fits file written in
-    record {
-      head = both.0;
-      from = region.from;
-      fits = region.fits;
-      frames_at = both.1;
-      sized = sized_push frames f region.sized last_fits body_fits;
-      ends = omega (arith, region.ends, frames_len-append frames (f ∷ []));
-    }

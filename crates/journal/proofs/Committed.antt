@@ -4,15 +4,15 @@ use Rattle.std.specs.Prelude.{Some}
 use Rattle.std.proofs.lemmas.List.{take_all}
 use Rattle.disk_model.specs.Disk.{View, Goes, LeavesOnly, Written}
 use Rattle.journal.specs.Append.{IsAppending}
-use Rattle.journal.specs.Store.{Frame, encoded, base_of}
+use Rattle.journal.specs.Frame.{Frame, encoded, base_of}
 use Rattle.journal.specs.Journal.{JournalView, StandsInFile, IsAtRest, next_frame, IsBeforeOrAfter}
 use Rattle.journal.specs.CheckpointParts.{IsRegion}
 use Rattle.journal.proofs.Moments.{weaker, goes_from, goes_back}
 use Rattle.journal.proofs.Frames.{last_of-push}
-use Rattle.journal.proofs.Commit.{gate_place, image, longer}
+use Rattle.journal.proofs.Commit.{gate_place, image, done}
 
 pub region_of : (j : JournalView) (c : List ℕ) (frames : List Frame) → StandsInFile j c frames → IsRegion j.digest c j.live j.number j.begin j.end frames
-region_of j c frames s = record { head = s.head; from = s.from; fits = s.fits; frames_at = s.frames_at; sized = s.sized; ends = s.end }
+region_of j c frames s = record { kept = s.kept; head = s.head; from = s.from; fits = s.fits; frames_at = s.frames_at; sound = s.sound; second = s.second; under = s.under; ends = s.end }
 
 pub place_of : (j : JournalView) (v : View) → IsAtRest j v → (c : List ℕ) → v.contents ≡ Some c → j.end + 1 ≤ length c
 place_of j v rest c is = let s = rest.stands c is in gate_place j.digest c j.live j.number j.begin j.end s.0 (region_of j c s.0 s.1)
@@ -36,20 +36,23 @@ module _ (j : JournalView) (v w : View) (body block : List ℕ) (changes : ℕ) 
   commit_moments moments = subst Moments same (λ c frames is s.
       let at_block = subst (λ (b : List ℕ). LeavesOnly v w (IsAppending j.end b c)) block_is (moments c is) in
       weaker v w (IsAppending j.end (encoded (next_frame j body changes) ++ 0 ∷ []) c) (IsBeforeOrAfter j.digest frames (next_frame j body changes))
-      (image j.digest c j.live j.number j.begin j.end frames (next_frame j body changes) (region_of j c frames s) (below (j.changes + changes)) small) at_block)
+      (image j.digest c j.live j.number j.begin j.end frames (next_frame j body changes) (region_of j c frames s) (below (j.changes + changes)) refl (omega arith)) at_block)
 
   module _ (end room : ℕ) (shut : Bool) (ends : end ≡ j.end + 18 + length body) where
     stood : (c d : List ℕ) (frames : List Frame) → StandsInFile j c frames → Written j.end (1 ∷ block) c d
         → StandsInFile (record j { end = end; changes = (j.changes + changes) % 2 ^ 64; shut = shut; room = room }) d (frames ++ next_frame j body changes ∷ [])
     stood c d frames s written =
         let at_block = subst (λ (b : List ℕ). Written j.end (1 ∷ b) c d) block_is written in
-        let r = longer j.digest c d j.live j.number j.begin j.end frames (next_frame j body changes) (region_of j c frames s) (below (j.changes + changes)) small at_block in
+        let r = done j.digest c j.live j.number j.begin j.end frames (next_frame j body changes) (region_of j c frames s) (below (j.changes + changes)) refl (omega arith) d at_block in
         record {
+          kept = r.kept;
           head = r.head;
           from = r.from;
           fits = r.fits;
           frames_at = r.frames_at;
-          sized = r.sized;
+          sound = r.sound;
+          second = r.second;
+          under = r.under;
           end = omega (arith, r.ends, ends);
           last = sym (last_of-push 0 frames (next_frame j body changes));
           base = s.base ∙ base_stays frames;

@@ -1,14 +1,17 @@
 -- Frames and head of a file of which some bytes stay.
-use Rattle.std.proofs.Common.{◌≡◌, inl, inr, ℕ, ◌+◌, ◌≤◌, ◌<◌, Bool, true, false, List, [], ◌∷◌, ◌++◌, length, arith, refl, sym, ◌∙◌, subst, length-append}
+use Rattle.std.proofs.Common.{◌≡◌, inl, inr, ⊎_elim, ℕ, ◌+◌, ◌^◌, ◌≤◌, ◌<◌, Bool, true, false, List, [], ◌∷◌, ◌++◌, length, arith, refl, sym, ◌∙◌, ap, subst, length-append}
 use Rattle.std.specs.Prelude.{replicate}
 use Rattle.std.specs.Int.{w64, to_le_bytes}
 use Rattle.journal.specs.Append.{Same}
-use Rattle.journal.specs.Store.{IsClosed, IsOpen, Frame, encoded, frame_len, frames_len, FramesAt, slot_at, other_at, slot_bytes, IsOlder, magic, version_bytes, Head, last_of}
+use Rattle.journal.specs.Frame.{IsFirst, IsSecond, IsListed, Frame, encoded, frame_len, frames_len, AreSound, last_of, list_or, region_digest}
+use Rattle.journal.specs.Store.{IsClosed, IsOpen, FramesAt, slot_at, other_at, slot_bytes, IsOlder, magic, Head}
 use Rattle.journal.proofs.Ranges.{same_within, holds_same}
 
-pub length-encoded : (f : Frame) → length (encoded f) ≡ 17 + length f.body
+pub length-encoded : (f : Frame) → length (encoded f) ≡ 17 + (length f.list + length f.body)
 unfolding encoded
-length-encoded f = omega (arith, length-append (to_le_bytes w64 f.last) (to_le_bytes w64 (length f.body) ++ f.body), length-append (to_le_bytes w64 (length f.body)) f.body)
+length-encoded f =
+    let size = to_le_bytes w64 (length f.list + length f.body) in
+    omega (arith, length-append (to_le_bytes w64 f.last) (size ++ (f.list ++ f.body)), length-append size (f.list ++ f.body), length-append f.list f.body)
 
 pub open_same : (a b at : ℕ) (x y : List ℕ) → a ≤ at → at < b → Same a b x y → IsOpen x at → IsOpen y at
 open_same a b at x y from below same is = (omega (arith, same.there), λ e. is.1 (sym (same.each at from below) ∙ e))
@@ -50,13 +53,44 @@ pub slots_small : (live : Bool) → (slot_at live ≤ 61) × (other_at live ≤ 
 slots_small true = (omega arith, omega arith)
 slots_small false = (omega arith, omega arith)
 
-pub head_same : (digest x y : List ℕ) (live : Bool) (number begin : ℕ) → Same 0 128 x y → Head digest x live number begin → Head digest y live number begin
-head_same digest x y live number begin same h = record {
+-- a version stays where its byte does
+pub first_same : (a b : ℕ) (x y : List ℕ) → a ≤ 8 → 8 < b → Same a b x y → IsFirst x → IsFirst y
+first_same a b x y from to same is = same.each 8 from to ∙ is
+
+pub second_same : (a b : ℕ) (x y : List ℕ) → a ≤ 8 → 8 < b → Same a b x y → IsSecond x → IsSecond y
+second_same a b x y from to same is first = is (sym (same.each 8 from to) ∙ first)
+
+-- frames that are sound in a file are so in one of the same version, or of a later one
+pub sound_same : (frames : List Frame) (x y : List ℕ) → (IsSecond x → IsSecond y) → AreSound x frames → AreSound y frames
+sound_same [] x y to sound = tt
+sound_same (f ∷ frames) x y to sound = (
+  sound.0,
+  sound.1,
+  ⊎_elim (λ (none : f.list ≡ []). inl none) (λ (some : (f.snapshot ≡ true) × (length f.list ≡ 32) × IsSecond x). inr (some.0, some.1, to some.2)) sound.2,
+  sound_same frames x y to sound.3,
+)
+
+pub sound_push : (file : List ℕ) (frames : List Frame) (f : Frame) → AreSound file frames → f.last < 2 ^ 64 → length f.list + length f.body < 2 ^ 64 → IsListed file f → AreSound file (frames ++ f ∷ [])
+sound_push file [] f sound last size listed = (last, size, listed, tt)
+sound_push file (x ∷ frames) f sound last size listed = (sound.0, sound.1, sound.2, sound_push file frames f sound.3 last size listed)
+
+-- a snapshot that names a list stands under it
+pub named : (kept list : List ℕ) → length list ≡ 32 → list ≡ list_or kept list
+named kept [] long = absurd (omega arith)
+named kept (byte ∷ rest) long = refl
+
+-- a frame that names no list leaves the one under which a region stands
+pub digest_push : (kept : List ℕ) (frames : List Frame) (f : Frame) → f.list ≡ [] → region_digest kept frames ≡ region_digest kept (frames ++ f ∷ [])
+digest_push kept [] f none = ap (λ (l : List ℕ). list_or kept l) (sym none)
+digest_push kept (x ∷ frames) f none = refl
+
+pub head_same : (kept x y : List ℕ) (live : Bool) (number begin : ℕ) → Same 0 128 x y → Head kept x live number begin → Head kept y live number begin
+head_same kept x y live number begin same h = record {
   gate = open_same 0 128 0 x y (omega arith) (omega arith) same h.gate;
   name = holds_same 0 128 1 magic x y (omega arith) (omega arith) same h.name;
-  version = holds_same 0 128 8 version_bytes x y (omega arith) (omega arith) same h.version;
-  digest_size = h.digest_size;
-  digest_at = holds_same 0 128 12 digest x y (omega arith) (omega (arith, h.digest_size)) same h.digest_at;
+  padding = holds_same 0 128 9 (replicate 3 0) x y (omega arith) (omega arith) same h.padding;
+  kept_size = h.kept_size;
+  kept_at = holds_same 0 128 12 kept x y (omega arith) (omega (arith, h.kept_size)) same h.kept_at;
   slot = open_same 0 128 (slot_at live) x y (omega arith) (omega (arith, (slots_small live).0)) same h.slot;
   slot_says = holds_same 0 128 (slot_at live + 1) (slot_bytes number begin) x y (omega arith) (omega (arith, (slots_small live).0)) same h.slot_says;
   older = older_same (other_at live) number x y (omega (arith, (slots_small live).1)) same h.older;

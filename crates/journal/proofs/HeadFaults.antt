@@ -1,10 +1,9 @@
 -- A head has one first fault, and none where it is right.
 use Rattle.std.proofs.Common.{◌≡◌, inl, inr, ℕ, ◌^◌, ◌<◌, ◌≤◌, Bool, true, false, List, length, arith, sym, ◌∙◌, ap}
 use Rattle.std.specs.Prelude.{◌⊎◌}
-use Rattle.disk_model.specs.Disk.{Holds}
 use Rattle.journal.specs.Store.{IsClosed, Head}
-use Rattle.journal.specs.HeadFault.{IsLive, IsSlotFault, IsHeadFault, IsOtherList, begin_at}
-use Rattle.journal.proofs.Unique.{holds_unique, live_unique, live_of_head}
+use Rattle.journal.specs.HeadFault.{IsLive, IsSlotFault, IsHeadFault, begin_at}
+use Rattle.journal.proofs.Unique.{live_unique, live_of_head}
 
 not_closed : (file : List ℕ) (live : Bool) (number begin : ℕ) → IsClosed file 44 → IsClosed file 61 → IsLive file live number begin → ⊥
 not_closed file true number begin first second is = is.slot.1 second.1
@@ -28,55 +27,39 @@ slot_fault file a b (inr (inr (inr p))) (inr (inl q)) = absurd (q.2 p.0 p.1 p.2 
 slot_fault file a b (inr (inr (inr p))) (inr (inr (inl q))) = absurd (q.4 p.4)
 slot_fault file a b (inr (inr (inr p))) (inr (inr (inr q))) = let same = live_unique file p.0 q.0 p.1 q.1 p.2 q.2 p.5 q.5 p.3 q.3 in p.7 ∙ ap (λ (k : Bool). begin_at k) same.0 ∙ sym q.7
 
-pub head_fault : (digest file : List ℕ) (a b : ℕ) → IsHeadFault digest file a → IsHeadFault digest file b → a ≡ b
-head_fault digest file a b (inl p) (inl q) = p.1 ∙ sym q.1
-head_fault digest file a b (inl p) (inr (inl q)) = absurd (omega (arith, p.0, q.0))
-head_fault digest file a b (inl p) (inr (inr (inl q))) = absurd (omega (arith, p.0, q.0))
-head_fault digest file a b (inl p) (inr (inr (inr q))) = absurd (omega (arith, p.0, q.0.long))
-head_fault digest file a b (inr (inl p)) (inl q) = absurd (omega (arith, q.0, p.0))
-head_fault digest file a b (inr (inl p)) (inr (inl q)) = p.2 ∙ sym q.2
-head_fault digest file a b (inr (inl p)) (inr (inr (inl q))) = absurd (p.1 q.1)
-head_fault digest file a b (inr (inl p)) (inr (inr (inr q))) = absurd (p.1 q.0.name)
-head_fault digest file a b (inr (inr (inl p))) (inl q) = absurd (omega (arith, q.0, p.0))
-head_fault digest file a b (inr (inr (inl p))) (inr (inl q)) = absurd (q.1 p.1)
-head_fault digest file a b (inr (inr (inl p))) (inr (inr (inl q))) = p.3 ∙ sym q.3
-head_fault digest file a b (inr (inr (inl p))) (inr (inr (inr q))) = absurd (p.2 q.0.version)
-head_fault digest file a b (inr (inr (inr p))) (inl q) = absurd (omega (arith, q.0, p.0.long))
-head_fault digest file a b (inr (inr (inr p))) (inr (inl q)) = absurd (q.1 p.0.name)
-head_fault digest file a b (inr (inr (inr p))) (inr (inr (inl q))) = absurd (q.2 p.0.version)
-head_fault digest file a b (inr (inr (inr p))) (inr (inr (inr q))) = slot_fault file a b p.1 q.1
+pub head_fault : (file : List ℕ) (a b : ℕ) → IsHeadFault file a → IsHeadFault file b → a ≡ b
+head_fault file a b (inl p) (inl q) = p.1 ∙ sym q.1
+head_fault file a b (inl p) (inr (inl q)) = absurd (omega (arith, p.0, q.0))
+head_fault file a b (inl p) (inr (inr (inl q))) = absurd (omega (arith, p.0, q.0))
+head_fault file a b (inl p) (inr (inr (inr q))) = absurd (omega (arith, p.0, q.0.long))
+head_fault file a b (inr (inl p)) (inl q) = absurd (omega (arith, q.0, p.0))
+head_fault file a b (inr (inl p)) (inr (inl q)) = p.2 ∙ sym q.2
+head_fault file a b (inr (inl p)) (inr (inr (inl q))) = absurd (p.1 q.1)
+head_fault file a b (inr (inl p)) (inr (inr (inr q))) = absurd (p.1 q.0.name)
+head_fault file a b (inr (inr (inl p))) (inl q) = absurd (omega (arith, q.0, p.0))
+head_fault file a b (inr (inr (inl p))) (inr (inl q)) = absurd (q.1 p.1)
+head_fault file a b (inr (inr (inl p))) (inr (inr (inl q))) = p.3 ∙ sym q.3
+head_fault file a b (inr (inr (inl p))) (inr (inr (inr q))) = absurd (p.2 q.0.padding)
+head_fault file a b (inr (inr (inr p))) (inl q) = absurd (omega (arith, q.0, p.0.long))
+head_fault file a b (inr (inr (inr p))) (inr (inl q)) = absurd (q.1 p.0.name)
+head_fault file a b (inr (inr (inr p))) (inr (inr (inl q))) = absurd (q.2 p.0.padding)
+head_fault file a b (inr (inr (inr p))) (inr (inr (inr q))) = slot_fault file a b p.1 q.1
 
 within : (x y n : ℕ) → x ≡ y → 128 ≤ x → x < n → (y < 128) ⊎ (n ≤ y) → ⊥
 within x y n is from below (inl low) = omega arith
 within x y n is from below (inr high) = omega arith
 
-slots_right : (digest file : List ℕ) (live : Bool) (number begin offset : ℕ) → Head digest file live number begin → 128 ≤ begin → begin < length file → begin < 2 ^ 64 → IsSlotFault file offset → ⊥
-slots_right digest file live number begin offset h from below small (inl p) = not_closed file live number begin p.0 p.1 (live_of_head digest file live number begin h)
-slots_right digest file live number begin offset h from below small (inr (inl p)) = p.2 live number begin (live_of_head digest file live number begin h)
-slots_right digest file live number begin offset h from below small (inr (inr (inl p))) = p.4 h.zero
-slots_right digest file live number begin offset h from below small (inr (inr (inr p))) =
-    let same = live_unique file live p.0 number p.1 begin p.2 small p.5 (live_of_head digest file live number begin h) p.3 in
+slots_right : (kept file : List ℕ) (live : Bool) (number begin offset : ℕ) → Head kept file live number begin → 128 ≤ begin → begin < length file → begin < 2 ^ 64 → IsSlotFault file offset → ⊥
+slots_right kept file live number begin offset h from below small (inl p) = not_closed file live number begin p.0 p.1 (live_of_head kept file live number begin h)
+slots_right kept file live number begin offset h from below small (inr (inl p)) = p.2 live number begin (live_of_head kept file live number begin h)
+slots_right kept file live number begin offset h from below small (inr (inr (inl p))) = p.4 h.zero
+slots_right kept file live number begin offset h from below small (inr (inr (inr p))) =
+    let same = live_unique file live p.0 number p.1 begin p.2 small p.5 (live_of_head kept file live number begin h) p.3 in
     within begin p.2 (length file) same.1 from below p.6
 
 -- a right head, with a begin where a region may be, has no fault
-pub head_right : (digest file : List ℕ) (live : Bool) (number begin offset : ℕ) → Head digest file live number begin → 128 ≤ begin → begin < length file → begin < 2 ^ 64 → IsHeadFault digest file offset → ⊥
-head_right digest file live number begin offset h from below small (inl p) = omega (arith, p.0, from, below)
-head_right digest file live number begin offset h from below small (inr (inl p)) = p.1 h.name
-head_right digest file live number begin offset h from below small (inr (inr (inl p))) = p.2 h.version
-head_right digest file live number begin offset h from below small (inr (inr (inr p))) = slots_right digest file live number begin offset h from below small p.1
-
-same_digest : (digest file kept : List ℕ) → length digest ≡ 32 → IsOtherList digest file kept → Holds file 12 digest → ⊥
-same_digest digest file kept size is holds = is.other (holds_unique file 12 kept digest (is.kept_size ∙ sym size) is.kept_at holds)
-
--- another list's file has no fault that comes before its digest, and no right front
-pub other_right : (digest file kept : List ℕ) (offset : ℕ) → length digest ≡ 32 → IsOtherList digest file kept → IsHeadFault digest file offset → ⊥
-other_right digest file kept offset size is (inl p) = omega (arith, p.0, is.long)
-other_right digest file kept offset size is (inr (inl p)) = p.1 is.name
-other_right digest file kept offset size is (inr (inr (inl p))) = p.2 is.version
-other_right digest file kept offset size is (inr (inr (inr p))) = same_digest digest file kept size is p.0.digest_at
-
-pub other_head : (digest file kept : List ℕ) (live : Bool) (number begin : ℕ) → IsOtherList digest file kept → Head digest file live number begin → ⊥
-other_head digest file kept live number begin is h = same_digest digest file kept h.digest_size is h.digest_at
-
-pub other_unique : (digest file kept other : List ℕ) → IsOtherList digest file kept → IsOtherList digest file other → kept ≡ other
-other_unique digest file kept other one two = holds_unique file 12 kept other (one.kept_size ∙ sym two.kept_size) one.kept_at two.kept_at
+pub head_right : (kept file : List ℕ) (live : Bool) (number begin offset : ℕ) → Head kept file live number begin → 128 ≤ begin → begin < length file → begin < 2 ^ 64 → IsHeadFault file offset → ⊥
+head_right kept file live number begin offset h from below small (inl p) = omega (arith, p.0, from, below)
+head_right kept file live number begin offset h from below small (inr (inl p)) = p.1 h.name
+head_right kept file live number begin offset h from below small (inr (inr (inl p))) = p.2 h.padding
+head_right kept file live number begin offset h from below small (inr (inr (inr p))) = slots_right kept file live number begin offset h from below small p.1

@@ -7,7 +7,7 @@ use Rattle.journal.specs.Store.{IsOpen, IsClosed, Head, IsOlder, slot_bytes}
 use Rattle.journal.specs.HeadFault.{IsLive, IsFront}
 use Rattle.journal.specs.ReaderAnswers.{IsNext, IsSlotRead, IsHeadRead}
 use Rattle.journal.specs.declared.head.HeadRead.{HeadRead}
-use Rattle.journal.specs.declared.head.HeadRead.TheVariants.{Live, Bad, Other}
+use Rattle.journal.specs.declared.head.HeadRead.TheVariants.{Live, Bad}
 use Rattle.journal.proofs.Unique.{same_number}
 
 true_false : (b : Bool) → IsTrue b → b ≡ false → ⊥
@@ -77,14 +77,14 @@ module _ (file : List ℕ) (first second : Bool) (a x b y : ℕ) (long : 129 ≤
   pub both_open : ((first ≡ false) × (second ≡ false) → ⊥) → ((live : Bool) → IsNext first a second b live → ⊥) → IsOpen file 44 × IsOpen file 61
   both_open = both first second refl refl
 
--- the head of a front and a live slot
-pub head_of_live : (digest file : List ℕ) (live : Bool) (number begin : ℕ) → IsOpen file 0 → length digest ≡ 32 → IsFront digest file → IsLive file live number begin → Holds file 78 (replicate 50 0) → Head digest file live number begin
-head_of_live digest file live number begin gate size front is zero = record {
+-- the head of a front, a digest and a live slot
+pub head_of_live : (kept file : List ℕ) (live : Bool) (number begin : ℕ) → IsOpen file 0 → IsFront file → length kept ≡ 32 → Holds file 12 kept → IsLive file live number begin → Holds file 78 (replicate 50 0) → Head kept file live number begin
+head_of_live kept file live number begin gate front size at is zero = record {
   gate = gate;
   name = front.name;
-  version = front.version;
-  digest_size = size;
-  digest_at = front.digest_at;
+  padding = front.padding;
+  kept_size = size;
+  kept_at = at;
   slot = is.slot;
   slot_says = is.says;
   older = is.older;
@@ -92,7 +92,6 @@ head_of_live digest file live number begin gate size front is zero = record {
 }
 
 -- what the slots say is what the head says
-pub head_read : (digest file : List ℕ) (read : HeadRead) → IsOpen file 0 → length digest ≡ 32 → IsFront digest file → IsSlotRead file read → IsHeadRead digest file read
-head_read digest file (Live live number begin) gate size front is = (head_of_live digest file live number begin gate size front is.0 is.1, is.2, is.3)
-head_read digest file (Other kept) gate size front is = absurd is
-head_read digest file (Bad offset) gate size front is = inr (inr (inr (front, is)))
+pub head_read : (file : List ℕ) (read : HeadRead) → IsOpen file 0 → IsFront file → IsSlotRead file read → IsHeadRead file read
+head_read file (Live live number begin) gate front is = (λ kept size at. head_of_live kept file live number begin gate front size at is.0 is.1, is.2, is.3)
+head_read file (Bad offset) gate front is = inr (inr (inr (front, is)))

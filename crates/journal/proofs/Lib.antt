@@ -2,7 +2,6 @@ pub mod StandardFacts
 pub mod Moments
 pub mod Ranges
 pub mod Frames
-pub mod Sized
 pub mod Commit
 pub mod Whole
 pub mod Committed
@@ -10,11 +9,16 @@ pub mod Runs
 pub mod Snapshots
 pub mod Checkpointed
 pub mod Unique
+pub mod Found
 pub mod Heads
+pub mod Reading
 pub mod Birth
 pub mod NoFault
 pub mod HeadFaults
 pub mod Refusals
 pub mod Openings
+pub mod Upgrades
+pub mod Opened
 pub mod Meanings
 pub mod Cuts
+pub mod Total

@@ -1,25 +1,25 @@
 -- What the stores that the calls leave stand for.
 use Rattle.std.proofs.Common.{◌≡◌, inl, inr, ℕ, ◌+◌, ◌-◌, ◌%◌, ◌^◌, ◌<◌, Bool, true, false, List, [], ◌∷◌, ◌++◌, length, arith, refl, subst}
 use Rattle.std.specs.Prelude.{◌⊎◌, if◌then◌else◌}
-use Rattle.journal.specs.Store.{Frame, base_of}
+use Rattle.journal.specs.Frame.{Frame, base_of}
 use Rattle.journal.specs.Region.{Runs, IsRightKind, IsRightLast, HasChanges, StandsForState}
 use Rattle.journal.specs.Journal.{IsBeforeOrAfter, IsBeforeOrSnapshot}
 use Rattle.journal.proofs.Runs.{runs_push}
 
 module _ {S : Type 0} (takes : S → Bool → List ℕ → S → ℕ → Type 0) (empty : S) where
   pub commit_stands_for : (digest file body : List ℕ) (frames : List Frame) (s t : S) (last changes : ℕ) → Runs takes true empty 0 frames s last → 0 < length body → takes s false body t changes
-      → IsBeforeOrAfter digest frames (record { snapshot = false; last = (last + changes) % 2 ^ 64; body = body }) file
+      → IsBeforeOrAfter digest frames (record { snapshot = false; last = (last + changes) % 2 ^ 64; list = []; body = body }) file
       → StandsForState takes empty digest file s last ⊎ StandsForState takes empty digest file t ((last + changes) % 2 ^ 64)
-  commit_stands_for digest file body frames s t last changes runs some took (inl store) = inl (frames, store, runs)
-  commit_stands_for digest file body frames s t last changes runs some took (inr store) =
-      let f : Frame = record { snapshot = false; last = (last + changes) % 2 ^ 64; body = body } in
+  commit_stands_for digest file body frames s t last changes runs some took (second, inl store) = inl (frames, store, runs)
+  commit_stands_for digest file body frames s t last changes runs some took (second, inr store) =
+      let f : Frame = record { snapshot = false; last = (last + changes) % 2 ^ 64; list = []; body = body } in
       inr (frames ++ f ∷ [], store, runs_push takes true empty 0 frames s last f t changes runs some took refl)
 
-  pub checkpoint_stands_for : (digest file body : List ℕ) (frames : List Frame) (s : S) (last changes : ℕ) → Runs takes true empty 0 frames s last → takes empty true body s changes
-      → IsBeforeOrSnapshot digest frames (record { snapshot = true; last = last; body = body }) file → StandsForState takes empty digest file s last
-  checkpoint_stands_for digest file body frames s last changes runs took (inl store) = (frames, store, runs)
-  checkpoint_stands_for digest file body frames s last changes runs took (inr store) =
-      ((record { snapshot = true; last = last; body = body }) ∷ [], store, (s, changes, refl, took, tt, (refl, refl)))
+  pub checkpoint_stands_for : (digest given file body : List ℕ) (frames : List Frame) (s t : S) (last changes : ℕ) → Runs takes true empty 0 frames s last → takes empty true body t changes
+      → IsBeforeOrSnapshot digest frames (record { snapshot = true; last = last; list = given; body = body }) file → StandsForState takes empty digest file s last ⊎ StandsForState takes empty given file t last
+  checkpoint_stands_for digest given file body frames s t last changes runs took (second, inl store) = inl (frames, store, runs)
+  checkpoint_stands_for digest given file body frames s t last changes runs took (second, inr store) =
+      inr ((record { snapshot = true; last = last; list = given; body = body }) ∷ [], store, (t, changes, refl, took, tt, (refl, refl)))
 
   module _ (one_state : (s : S) (k : Bool) (b : List ℕ) (t u : S) (m n : ℕ) → takes s k b t m → takes s k b u n → t ≡ u)
       (one_count : (s : S) (k : Bool) (b : List ℕ) (t u : S) (m n : ℕ) → takes s k b t m → takes s k b u n → m ≡ n) where

@@ -4,7 +4,8 @@ use Rattle.std.specs.Prelude.{◌⊎◌, Option, Some, Result, Ok, Err, IfOk, If
 use Rattle.std.proofs.lemmas.Bool.Decides.{nat_tests}
 use Rattle.journal.specs.Append.{IsReady, IsSettling, settle_calls}
 use Rattle.journal.specs.Store.{IsUnborn, IsOpen}
-use Rattle.journal.specs.Opening.{IsOpening, IsWithin, IsRefusal, IsStoreRefusal, limit, opening_calls}
+use Rattle.journal.specs.Opening.{IsOpening, IsWithin, IsRefusal, IsStoreRefusal, limit}
+use Rattle.journal.specs.ReaderAnswers.{behind_sync}
 use Rattle.journal.specs.declared.open_fault.OpenFault.{OpenFault}
 use Rattle.journal.specs.declared.open_fault.OpenFault.TheVariants.{DeviceFault, NotAStore, OtherList, TooLarge, NoMemory}
 
@@ -13,25 +14,40 @@ if_all (Ok v) A B Q C a b c to = to v a b c
 if_all (Err e) A B Q C a b c to = tt
 
 -- the first calls of an opening are not all of them
-pub settle_least : (file : List ℕ) → settle_calls file ≤ opening_calls file
+pub settle_least : (file : List ℕ) → settle_calls file ≤ behind_sync file
 settle_least file = grind (arith, nat_tests)
 
 pub settling : (digest old new : List ℕ) → IsSettling old new → IsOpening digest old new
 settling digest old new (inl same) = inl same
-settling digest old new (inr short) = inr (inl short.0, inl (inl short.1))
+settling digest old new (inr short) = inr (inr (inl short.0, inl (inl short.1)))
 
 pub was_unborn : (old new : List ℕ) → IsReady old new → slice_index new 0 ≡ 0 → IsUnborn old
 was_unborn old new (inl long) shut = inr (ap (λ (l : List ℕ). slice_index l 0) (sym long.1) ∙ shut)
 was_unborn old new (inr short) shut = inl short.0
 
--- why a born file that may be looked at is refused
-pub refusal_of : {S : Type 0} (takes : S → Bool → List ℕ → S → ℕ → Type 0) (refuses : S → Bool → List ℕ → ℕ → Type 0) (empty : S) (limited : Bool) (digest file : List ℕ)
-    → IsWithin limited file → IsOpen file 0 → 1 < length file → (why : OpenFault) → IsStoreRefusal takes refuses empty digest file why → IsRefusal takes refuses empty limited digest file why
-refusal_of takes refuses empty limited digest file within gate long DeviceFault is = tt
-refusal_of takes refuses empty limited digest file within gate long NoMemory is = tt
-refusal_of takes refuses empty limited digest file within gate long (NotAStore offset) is = (within, gate, long, is)
-refusal_of takes refuses empty limited digest file within gate long (OtherList kept given) is = (within, gate, long, is.0, is.1)
-refusal_of takes refuses empty limited digest file within gate long (TooLarge len) is = absurd is
+-- why a born file is refused
+module _ {S : Type 0} (takes : S → Bool → List ℕ → S → ℕ → Type 0) (refuses : S → Bool → List ℕ → ℕ → Type 0) (empty : S) (digest file : List ℕ) where
+  no_limit : IsWithin false file
+  no_limit on = absurd (cc)
+
+  store_refusal : IsOpen file 0 → 1 < length file → (why : OpenFault) → IsStoreRefusal takes refuses empty digest file why → IsRefusal takes refuses empty false digest file why
+  store_refusal gate long DeviceFault is = tt
+  store_refusal gate long NoMemory is = tt
+  store_refusal gate long (NotAStore offset) is = (no_limit, gate, long, is)
+  store_refusal gate long (OtherList kept given) is = (no_limit, gate, long, is.0, is.1)
+  store_refusal gate long (TooLarge len) is = absurd is
+
+  pub born_refusal : IsOpen file 0 → 1 < length file → (why : OpenFault) → (why ≡ DeviceFault) ⊎ IsStoreRefusal takes refuses empty digest file why → IsRefusal takes refuses empty false digest file why
+  born_refusal gate long why (inl device) = subst (λ (w : OpenFault). IsRefusal takes refuses empty false digest file w) (sym device) tt
+  born_refusal gate long why (inr is) = store_refusal gate long why is
+
+  -- and one that may be looked at under a limit
+  pub limited_refusal : (limited : Bool) → IsWithin limited file → (why : OpenFault) → IsRefusal takes refuses empty false digest file why → IsRefusal takes refuses empty limited digest file why
+  limited_refusal limited within DeviceFault is = tt
+  limited_refusal limited within NoMemory is = tt
+  limited_refusal limited within (NotAStore offset) is = (within, is.1, is.2, is.3)
+  limited_refusal limited within (OtherList kept given) is = (within, is.1, is.2, is.3, is.4)
+  limited_refusal limited within (TooLarge len) is = absurd (let e = is.0 in cc)
 
 -- the first byte of a file that is ready is open: the file was born, and is as it was
 pub was_born : (old new : List ℕ) → IsReady old new → (slice_index new 0 ≡ 0 → ⊥) → (1 < length old) × (new ≡ old)

@@ -2,7 +2,8 @@
 use Rattle.std.proofs.Common.{◌≡◌, ℕ, ◌+◌, Bool, true, false, List, [], ◌∷◌, ◌++◌, arith, refl, sym, subst}
 use Rattle.std.specs.Prelude.{if◌then◌else◌}
 use Rattle.disk_model.specs.Disk.{Holds}
-use Rattle.journal.specs.Store.{Frame, IsOpen, IsClosed, FramesAt, encoded, frame_len, frames_len, last_of, base_of}
+use Rattle.journal.specs.Frame.{Frame, encoded, frame_len, frames_len, last_of, base_of}
+use Rattle.journal.specs.Store.{IsOpen, IsClosed, FramesAt}
 use Rattle.journal.specs.Region.{OpensAt, Runs, IsRightKind, IsRightLast, is_first}
 
 pub opens_push : (file : List ℕ) (frames : List Frame) (f : Frame) (at end : ℕ) → end ≡ at + frames_len frames → OpensAt file at frames → IsOpen file end → Holds file (end + 1) (encoded f) → OpensAt file at (frames ++ f ∷ [])

@@ -1,15 +1,17 @@
 -- What the images of a checkpoint stand for.
-use Rattle.std.proofs.Common.{◌≡◌, inl, inr, ◌⊎◌, ⊎_elim, ℕ, ◌+◌, ◌%◌, ◌^◌, ◌≤◌, ◌<◌, Bool, true, false, not, List, [], ◌∷◌, ◌++◌, length, slice_index, arith, refl, sym, ◌∙◌, ap, subst}
+use Rattle.std.proofs.Common.{◌≡◌, inl, inr, ⊎_elim, ℕ, ◌+◌, ◌%◌, ◌^◌, ◌≤◌, ◌<◌, Bool, true, false, not, List, [], ◌∷◌, ◌++◌, length, slice_index, arith, refl, sym, ◌∙◌, ap, subst}
 use Rattle.std.specs.Prelude.{replicate}
 use Rattle.std.proofs.lemmas.Bool.{cases_eq}
 use Rattle.std.proofs.lemmas.List.{append-nil}
 use Rattle.disk_model.specs.Disk.{Holds, Torn, Written}
 use Rattle.journal.specs.Append.{Same, IsAppending, IsStaging, IsStaged}
-use Rattle.journal.specs.Store.{IsClosed, IsOpen, Frame, encoded, frames_len, FramesAt, slot_at, slot_bytes, other_at, IsOlder, magic, version_bytes, Head, IsStore}
-use Rattle.journal.specs.CheckpointParts.{IsApart, IsBetween, IsRegion}
+use Rattle.journal.specs.Frame.{Frame, encoded, frames_len, IsSecond}
+use Rattle.journal.specs.Store.{IsClosed, IsOpen, FramesAt, slot_at, slot_bytes, other_at, IsOlder, magic, Head, IsStore}
+use Rattle.journal.specs.Journal.{IsBeforeOrSnapshot}
+use Rattle.journal.specs.CheckpointParts.{IsApart, IsBetween, IsBlock, IsRegion, IsStillStore}
 use Rattle.journal.proofs.Ranges.{same_within, same_then, same_here, holds_same, torn_before, torn_behind, written_holds}
 use Rattle.journal.proofs.Commit.{holds_front, holds_back, closed_behind}
-use Rattle.journal.proofs.Frames.{frames_onto, frames_end, closed_same, open_same}
+use Rattle.journal.proofs.Frames.{named, frames_onto, frames_end, closed_same, open_same, second_same, sound_same}
 
 -- what a head's other parts need of a file
 pub other_small : (b : Bool) → other_at b ≤ 61
@@ -48,13 +50,13 @@ around_then live c d e one two = record {
 }
 
 -- the head with its live slot, and whatever the other slot says
-head_around : (digest c file : List ℕ) (live : Bool) (number begin : ℕ) → Around live c file → Head digest c live number begin → IsOlder file (other_at live) number → Head digest file live number begin
-head_around digest c file live number begin same h older = record {
+head_around : (kept c file : List ℕ) (live : Bool) (number begin : ℕ) → Around live c file → Head kept c live number begin → IsOlder file (other_at live) number → Head kept file live number begin
+head_around kept c file live number begin same h older = record {
   gate = open_same 0 44 0 c file (omega arith) (omega arith) same.low h.gate;
   name = holds_same 0 44 1 magic c file (omega arith) (omega arith) same.low h.name;
-  version = holds_same 0 44 8 version_bytes c file (omega arith) (omega arith) same.low h.version;
-  digest_size = h.digest_size;
-  digest_at = holds_same 0 44 12 digest c file (omega arith) (omega (arith, h.digest_size)) same.low h.digest_at;
+  padding = holds_same 0 44 9 (replicate 3 0) c file (omega arith) (omega arith) same.low h.padding;
+  kept_size = h.kept_size;
+  kept_at = holds_same 0 44 12 kept c file (omega arith) (omega (arith, h.kept_size)) same.low h.kept_at;
   slot = open_same (slot_at live) (slot_at live + 17) (slot_at live) c file (omega arith) (omega arith) same.slot h.slot;
   slot_says = holds_same (slot_at live) (slot_at live + 17) (slot_at live + 1) (slot_bytes number begin) c file (omega arith) (omega arith) same.slot h.slot_says;
   older = older;
@@ -71,20 +73,25 @@ module _ (digest c : List ℕ) (live : Bool) (number begin end : ℕ) (frames : 
       let shut = closed_same begin (end + 1) end c file (omega (arith, r.ends)) (omega arith) same (frames_end frames c begin end r.ends r.frames_at) in
       subst (λ (l : List Frame). FramesAt file begin l) (append-nil frames) (frames_onto frames [] c file begin end r.ends r.frames_at (same_within begin (end + 1) begin end c file (omega arith) (omega arith) same) shut)
 
-  kept : (file : List ℕ) → Around live c file → Same begin (end + 1) c file → IsOlder file (other_at live) number → IsStore digest file frames
-  kept file around same older =
+  stays : (file : List ℕ) → Around live c file → Same begin (end + 1) c file → IsOlder file (other_at live) number → IsStore digest file frames
+  stays file around same older =
       let shut = closed_same begin (end + 1) end c file (omega (arith, r.ends)) (omega arith) same (frames_end frames c begin end r.ends r.frames_at) in
       let at_file = frames_onto frames [] c file begin end r.ends r.frames_at (same_within begin (end + 1) begin end c file (omega arith) (omega arith) same) shut in
       record {
+        kept = r.kept;
         live = live;
         number = number;
         begin = begin;
-        head = head_around digest c file live number begin around r.head older;
+        head = head_around r.kept c file live number begin around r.head older;
         from = r.from;
         fits = r.fits;
-        sized = r.sized;
+        sound = sound_same frames c file (second_same 0 44 c file (omega arith) (omega arith) around.low) r.sound;
+        under = r.under;
         frames_at = subst (λ (l : List Frame). FramesAt file begin l) (append-nil frames) at_file;
       }
+
+  still : (file : List ℕ) → Around live c file → IsSecond file
+  still file around = second_same 0 44 c file (omega arith) (omega arith) around.low r.second
 
   -- the first write of a checkpoint
   first_same : (to len : ℕ) (mid : List ℕ) → IsApart to len begin end → Torn to len c mid → Same 0 128 c mid × Same begin (end + 1) c mid
@@ -127,18 +134,18 @@ module _ (digest c : List ℕ) (live : Bool) (number begin end : ℕ) (frames : 
         )
 
     -- the images of the first part, where the other slot was open
-    pub stage_open : (older was : ℕ) → number ≡ (older + 1) % 2 ^ 64 → Holds c (other_at live + 1) (slot_bytes older was) → (file : List ℕ) → IsStaging to len (other_at live) 1 c file → IsStore digest file frames
+    pub stage_open : (older was : ℕ) → number ≡ (older + 1) % 2 ^ 64 → Holds c (other_at live + 1) (slot_bytes older was) → (file : List ℕ) → IsStaging to len (other_at live) 1 c file → IsStillStore digest frames file
     stage_open older was is holds file staging =
         let same = first_same to len staging.0 apart staging.1 in
         let around = after (other_at live) 1 staging.0 file (omega arith) (omega arith) staging.1 staging.2 in
-        kept file around.0 around.1 (older_gate staging.0 file same.0 staging.2 older was is holds)
+        (still file around.0, stays file around.0 around.1 (older_gate staging.0 file same.0 staging.2 older was is holds))
 
     -- where it was closed
-    pub stage_closed : IsClosed c (other_at live) → (file : List ℕ) → IsStaging to len (other_at live + 1) 8 c file → IsStore digest file frames
+    pub stage_closed : IsClosed c (other_at live) → (file : List ℕ) → IsStaging to len (other_at live + 1) 8 c file → IsStillStore digest frames file
     stage_closed shut file staging =
         let same = first_same to len staging.0 apart staging.1 in
         let around = after (other_at live + 1) 8 staging.0 file (omega arith) (omega arith) staging.1 staging.2 in
-        kept file around.0 around.1 (inl (closed_number 8 staging.0 file same.0 staging.2 shut))
+        (still file around.0, stays file around.0 around.1 (inl (closed_number 8 staging.0 file same.0 staging.2 shut)))
 
     -- once the first part is done
     module _ (f : Frame) (a m : ℕ) (piece file : List ℕ) (low : other_at live ≤ a) (high : a + length piece ≤ other_at live + 17) (fits : len ≡ length (1 ∷ encoded f ++ 0 ∷ [])) (staged : IsStaged to (1 ∷ encoded f ++ 0 ∷ []) a piece c file) where
@@ -165,10 +172,13 @@ module _ (digest c : List ℕ) (live : Bool) (number begin end : ℕ) (frames : 
           let around = after a (length piece) staged.0 file low high one two in
           let older : IsOlder file (other_at live) number = inl shut in
           record {
-            head = head_around digest c file live number begin around.0 r.head older;
+            kept = r.kept;
+            head = head_around r.kept c file live number begin around.0 r.head older;
             from = r.from;
             fits = r.fits;
-            sized = r.sized;
+            sound = sound_same frames c file (second_same 0 44 c file (omega arith) (omega arith) around.0.low) r.sound;
+            second = second_same 0 44 c file (omega arith) (omega arith) around.0.low r.second;
+            under = r.under;
             frames_at = frames_kept file around.1;
             shut = shut;
             behind = apart.0;
@@ -198,14 +208,14 @@ slot_is true = refl
 slot_is false = refl
 
 -- the head once the other slot is open
-new_head : (digest c file : List ℕ) (live : Bool) (number begin to : ℕ) → Around live c file → Head digest c live number begin
-    → IsOpen file (other_at live) → Holds file (other_at live + 1) (slot_bytes ((number + 1) % 2 ^ 64) to) → Head digest file (not live) ((number + 1) % 2 ^ 64) to
-new_head digest c file live number begin to same h is_open says = record {
+new_head : (kept c file : List ℕ) (live : Bool) (number begin to : ℕ) → Around live c file → Head kept c live number begin
+    → IsOpen file (other_at live) → Holds file (other_at live + 1) (slot_bytes ((number + 1) % 2 ^ 64) to) → Head kept file (not live) ((number + 1) % 2 ^ 64) to
+new_head kept c file live number begin to same h is_open says = record {
   gate = open_same 0 44 0 c file (omega arith) (omega arith) same.low h.gate;
   name = holds_same 0 44 1 magic c file (omega arith) (omega arith) same.low h.name;
-  version = holds_same 0 44 8 version_bytes c file (omega arith) (omega arith) same.low h.version;
-  digest_size = h.digest_size;
-  digest_at = holds_same 0 44 12 digest c file (omega arith) (omega (arith, h.digest_size)) same.low h.digest_at;
+  padding = holds_same 0 44 9 (replicate 3 0) c file (omega arith) (omega arith) same.low h.padding;
+  kept_size = h.kept_size;
+  kept_at = holds_same 0 44 12 kept c file (omega arith) (omega (arith, h.kept_size)) same.low h.kept_at;
   slot = subst (IsOpen file) (other_is live) is_open;
   slot_says = subst (λ (k : ℕ). Holds file (k + 1) (slot_bytes ((number + 1) % 2 ^ 64) to)) (other_is live) says;
   older = subst (λ (k : ℕ). IsOlder file k ((number + 1) % 2 ^ 64)) (slot_is live) (inr (
@@ -219,12 +229,13 @@ new_head digest c file live number begin to same h is_open says = record {
 }
 
 -- the second part: the slot's number and begin, and then its gate
-module _ (digest c : List ℕ) (live : Bool) (number begin : ℕ) (frames : List Frame) (to : ℕ) (f : Frame) (is : IsBetween digest c live number begin frames to f) (to_fits : to < 2 ^ 64) (last_fits : f.last < 2 ^ 64) (body_fits : length f.body < 2 ^ 64) where
+module _ (digest c : List ℕ) (live : Bool) (number begin : ℕ) (frames : List Frame) (to : ℕ) (f : Frame) (is : IsBetween digest c live number begin frames to f) (to_fits : to < 2 ^ 64)
+    (block : List ℕ) (whole_block : IsBlock f block) where
   end : ℕ
   end = begin + frames_len frames
 
   whole : IsRegion digest c live number begin (begin + frames_len frames) frames
-  whole = record { head = is.head; from = is.from; fits = is.fits; frames_at = is.frames_at; sized = is.sized; ends = refl }
+  whole = record { kept = is.kept; head = is.head; from = is.from; fits = is.fits; frames_at = is.frames_at; sound = is.sound; second = is.second; under = is.under; ends = refl }
 
   region : end + 1 ≤ length c
   unfolding end
@@ -234,36 +245,42 @@ module _ (digest c : List ℕ) (live : Bool) (number begin : ℕ) (frames : List
   unfolding end
   long_c = omega (arith, is.from, region)
 
-  pub switch : (file : List ℕ) → IsAppending (other_at live) (slot_bytes ((number + 1) % 2 ^ 64) to) c file → IsStore digest file frames ⊎ IsStore digest file (f ∷ [])
+  pub switch : (file : List ℕ) → IsAppending (other_at live) (slot_bytes ((number + 1) % 2 ^ 64) to) c file → IsBeforeOrSnapshot digest frames f file
   unfolding end
   switch file (inl torn) =
       let around = around_torn live (other_at live + 1) 16 c file long_c (omega arith) (omega arith) torn in
       let same = torn_behind (other_at live + 1) 16 begin (end + 1) c file (omega (arith, is.from, other_small live)) region torn in
-      inl (kept digest c live number begin end frames whole file around same (inl (closed_number digest c live number begin end frames whole 16 c file (same_here 0 128 c long_c) torn is.shut)))
+      (still digest c live number begin end frames whole file around, inl (stays digest c live number begin end frames whole file around same (inl (closed_number digest c live number begin end frames whole 16 c file (same_here 0 128 c long_c) torn is.shut))))
   switch file (inr gated) =
       let around = around_torn live (other_at live) 17 c file long_c (omega arith) (omega arith) gated.0 in
       let same = torn_behind (other_at live) 17 begin (end + 1) c file (omega (arith, is.from, other_small live)) region gated.0 in
       let there : other_at live < length file = omega (arith, gated.1.within) in
-      elim (cases_eq (slice_index file (other_at live)) 0) [
-        | inl shut ↦ inl (kept digest c live number begin end frames whole file around same (inl (there, shut)))
-        | inr is_open ↦ inr (record {
-          live = not live;
-          number = (number + 1) % 2 ^ 64;
-          begin = to;
-          head = new_head digest c file live number begin to around is.head (there, is_open) gated.1;
-          from = is.behind;
-          fits = to_fits;
-          sized = (last_fits, body_fits, tt);
-          frames_at =
-              let last = frames_end (f ∷ []) c to (to + frames_len (f ∷ [])) refl is.snapshot_at in
-              let moved = torn_behind (other_at live) 17 to (to + frames_len (f ∷ []) + 1) c file (omega (arith, is.behind, other_small live)) (omega (arith, last.0)) gated.0 in
-              frames_onto (f ∷ []) [] c file to (to + frames_len (f ∷ [])) refl is.snapshot_at (same_within to (to + frames_len (f ∷ []) + 1) to (to + frames_len (f ∷ [])) c file (omega arith) (omega arith) moved)
-              (closed_same to (to + frames_len (f ∷ []) + 1) (to + frames_len (f ∷ [])) c file (omega arith) (omega arith) moved last);
-        })
-      ]
+      let second = still digest c live number begin end frames whole file around in (
+        second,
+        elim (cases_eq (slice_index file (other_at live)) 0) [
+          | inl shut ↦ inl (stays digest c live number begin end frames whole file around same (inl (there, shut)))
+          | inr is_open ↦ inr (record {
+            kept = is.kept;
+            live = not live;
+            number = (number + 1) % 2 ^ 64;
+            begin = to;
+            head = new_head is.kept c file live number begin to around is.head (there, is_open) gated.1;
+            from = is.behind;
+            fits = to_fits;
+            sound = (whole_block.last, whole_block.size, inr (whole_block.snapshot, whole_block.list, second), tt);
+            under = named is.kept f.list whole_block.list;
+            frames_at =
+                let last = frames_end (f ∷ []) c to (to + frames_len (f ∷ [])) refl is.snapshot_at in
+                let moved = torn_behind (other_at live) 17 to (to + frames_len (f ∷ []) + 1) c file (omega (arith, is.behind, other_small live)) (omega (arith, last.0)) gated.0 in
+                frames_onto (f ∷ []) [] c file to (to + frames_len (f ∷ [])) refl is.snapshot_at (same_within to (to + frames_len (f ∷ []) + 1) to (to + frames_len (f ∷ [])) c file (omega arith) (omega arith) moved)
+                (closed_same to (to + frames_len (f ∷ []) + 1) (to + frames_len (f ∷ [])) c file (omega arith) (omega arith) moved last);
+          })
+        ],
+      )
 
   -- once the other slot is open
-  pub switched : (file : List ℕ) → Written (other_at live) (1 ∷ slot_bytes ((number + 1) % 2 ^ 64) to) c file → Head digest file (not live) ((number + 1) % 2 ^ 64) to × FramesAt file to (f ∷ [])
+  pub switched : (file : List ℕ) → Written (other_at live) (1 ∷ slot_bytes ((number + 1) % 2 ^ 64) to) c file
+      → IsSecond file × ((kept : List ℕ) × Head kept file (not live) ((number + 1) % 2 ^ 64) to) × FramesAt file to (f ∷ [])
   unfolding end
   switched file w =
       let torn : Torn (other_at live) 17 c file = record { no_shorter = omega (arith, w.len); no_longer = omega (arith, w.len); below = w.below; above = w.above } in
@@ -272,7 +289,8 @@ module _ (digest c : List ℕ) (live : Bool) (number begin : ℕ) (frames : List
       let stands = holds_back file (other_at live) (1 ∷ []) (slot_bytes ((number + 1) % 2 ^ 64) to) (written_holds (other_at live) (1 ∷ slot_bytes ((number + 1) % 2 ^ 64) to) c file w) in
       let last = frames_end (f ∷ []) c to (to + frames_len (f ∷ [])) refl is.snapshot_at in
       let moved = torn_behind (other_at live) 17 to (to + frames_len (f ∷ []) + 1) c file (omega (arith, is.behind, other_small live)) (omega (arith, last.0)) torn in (
-        new_head digest c file live number begin to around is.head (omega (arith, stands.within), one_zero (slice_index file (other_at live)) gate) stands,
+        still digest c live number begin end frames whole file around,
+        (is.kept, new_head is.kept c file live number begin to around is.head (omega (arith, stands.within), one_zero (slice_index file (other_at live)) gate) stands),
         frames_onto (f ∷ []) [] c file to (to + frames_len (f ∷ [])) refl is.snapshot_at (same_within to (to + frames_len (f ∷ []) + 1) to (to + frames_len (f ∷ [])) c file (omega arith) (omega arith) moved)
             (closed_same to (to + frames_len (f ∷ []) + 1) (to + frames_len (f ∷ [])) c file (omega arith) (omega arith) moved last),
       )

@@ -33,7 +33,6 @@ IsReady old new = ((1 < length old) × (new ≡ old))
 abbrev pub IsSettling : List ℕ → List ℕ → Type 0
 IsSettling old new = (new ≡ old) ⊎ ((length old ≤ 1) × (length new ≤ 1))
 
--- how many changing calls that takes: one sync, and for a file of at most one byte a write and a
--- sync
+-- how many changing calls that takes: for a file of at most one byte a write and a sync
 abbrev pub settle_calls : List ℕ → ℕ
-settle_calls file = if nat_le (length file) 1 then 3 else 1
+settle_calls file = if nat_le (length file) 1 then 2 else 0

@@ -1,21 +1,30 @@
 -- A checkpoint between its two parts.
 -- Source: none.
-use Rattle.std.specs.Prelude.{◌≡◌, ◌⊎◌, ℕ, ◌+◌, ◌%◌, ◌^◌, ◌<◌, ◌≤◌, Bool, not, List, [], ◌∷◌, ◌++◌}
-use Rattle.std.specs.Prelude.{length, Some, Result, OnOk}
+use Rattle.std.specs.Prelude.{◌≡◌, ◌⊎◌, ℕ, ◌+◌, ◌%◌, ◌^◌, ◌<◌, ◌≤◌, Bool, true, not, List, []}
+use Rattle.std.specs.Prelude.{◌∷◌, ◌++◌, length, Some, Result, OnOk}
 use Rattle.disk_model.specs.Disk.{View, IsSettled, LeavesOnly}
-use Rattle.journal.specs.Store.{Frame, IsClosed, Head, FramesAt, AreSized, frames_len, other_at}
-use Rattle.journal.specs.Store.{encoded}
+use Rattle.journal.specs.Frame.{Frame, IsSecond, AreSound}
+use Rattle.journal.specs.Store.{IsClosed, IsStore, Head, FramesAt}
+use Rattle.journal.specs.Frame.{region_digest, frames_len, encoded, digest_len}
+use Rattle.journal.specs.Store.{other_at}
 use Rattle.journal.specs.Journal.{IsBeforeOrSnapshot}
 
--- a live region of these frames, up to its closed gate
+-- a live region of these frames in a file of version 2, up to its closed gate
 pub record IsRegion (digest file : List ℕ) (live : Bool) (number begin end : ℕ)
     (frames : List Frame) : Type 0 where
-  pub head : Head digest file live number begin
+  pub kept : List ℕ
+  pub head : Head kept file live number begin
   pub from : 128 ≤ begin
   pub fits : begin < 2 ^ 64
   pub frames_at : FramesAt file begin frames
-  pub sized : AreSized frames
+  pub sound : AreSound file frames
+  pub second : IsSecond file
+  pub under : digest ≡ region_digest kept frames
   pub ends : end ≡ begin + frames_len frames
+
+-- a store of version 2 with these frames
+abbrev pub IsStillStore : List ℕ → List Frame → List ℕ → Type 0
+IsStillStore digest frames file = IsSecond file × IsStore digest file frames
 
 -- the disk is settled, its file has a head, and a block of so many bytes at `to` and this number of
 -- writes take no memory
@@ -33,20 +42,25 @@ IsApart to len begin end = (128 ≤ to) × ((to + len ≤ begin) ⊎ (to ≡ end
 -- the old region is live, the other slot's gate is closed, and the snapshot's frame stands whole
 pub record IsBetween (digest file : List ℕ) (live : Bool) (number begin : ℕ) (frames : List Frame)
     (to : ℕ) (f : Frame) : Type 0 where
-  pub head : Head digest file live number begin
+  pub kept : List ℕ
+  pub head : Head kept file live number begin
   pub from : 128 ≤ begin
   pub frames_at : FramesAt file begin frames
   pub shut : IsClosed file (other_at live)
   pub fits : begin < 2 ^ 64
-  pub sized : AreSized frames
+  pub sound : AreSound file frames
+  pub second : IsSecond file
+  pub under : digest ≡ region_digest kept frames
   pub behind : 128 ≤ to
   pub snapshot_at : FramesAt file to (f ∷ [])
 
--- a snapshot's frame with its open gate, and a closed gate behind it
+-- the frame of a snapshot that names a list, with its open gate, and a closed gate behind it
 pub record IsBlock (f : Frame) (block : List ℕ) : Type 0 where
   pub bytes : block ≡ 1 ∷ encoded f ++ 0 ∷ []
   pub last : f.last < 2 ^ 64
-  pub size : length f.body < 2 ^ 64
+  pub size : length f.list + length f.body < 2 ^ 64
+  pub snapshot : f.snapshot ≡ true
+  pub list : length f.list ≡ digest_len
 
 -- what a switch to a snapshot's frame at `to` leaves of each store that the disk may tell
 pub record Switches {T E : Type 0} (result : Result T E) (old new : View)
@@ -59,5 +73,6 @@ pub record Switches {T E : Type 0} (result : Result T E) (old new : View)
   pub switched : OnOk result ((c digest : List ℕ) (begin end : ℕ) (frames : List Frame) (f : Frame)
       → old.contents ≡ Some c → IsRegion digest c live number begin end frames
       → IsApart to (length block) begin end → IsBlock f block
-      → (d : List ℕ) × (new.contents ≡ Some d)
-      × Head digest d (not live) ((number + 1) % 2 ^ 64) to × FramesAt d to (f ∷ []))
+      → (d : List ℕ) × (new.contents ≡ Some d) × IsSecond d
+      × ((kept : List ℕ) × Head kept d (not live) ((number + 1) % 2 ^ 64) to)
+      × FramesAt d to (f ∷ []))

@@ -1,19 +1,19 @@
 -- The first fault of the head of a file that is not unborn.
 -- Source: none.
 -- Our own choice: the rows and their order. Each row holds only where none before it does.
-use Rattle.std.specs.Prelude.{◌≡◌, ◌≢◌, ◌⊎◌, ℕ, ◌+◌, ◌^◌, ◌<◌, ◌≤◌, Bool, List, length, replicate}
+use Rattle.std.specs.Prelude.{◌≡◌, ◌⊎◌, ℕ, ◌+◌, ◌^◌, ◌<◌, ◌≤◌, Bool, List, length, replicate}
 use Rattle.std.specs.Prelude.{if◌then◌else◌}
 use Rattle.disk_model.specs.Disk.{Holds}
-use Rattle.journal.specs.Store.{IsOpen, IsClosed, IsOlder, magic, version_bytes, slot_at, other_at}
-use Rattle.journal.specs.Store.{slot_bytes, version_offset, digest_offset, first_slot}
+use Rattle.journal.specs.Store.{IsOpen, IsClosed, IsOlder, magic, slot_at, other_at, slot_bytes}
+use Rattle.journal.specs.Frame.{version_offset}
+use Rattle.journal.specs.Store.{padding_offset, padding_len, first_slot}
 use Rattle.journal.specs.Store.{second_slot, zeros_offset, zeros_len, head_len}
 
 -- what stands before the slots is right
-pub record IsFront (digest file : List ℕ) : Type 0 where
+pub record IsFront (file : List ℕ) : Type 0 where
   pub long : head_len + 1 ≤ length file
   pub name : Holds file 1 magic
-  pub version : Holds file version_offset version_bytes
-  pub digest_at : Holds file digest_offset digest
+  pub padding : Holds file padding_offset (replicate padding_len 0)
 
 -- the slot is live: it is open, and the other one is closed or has the number before
 pub record IsLive (file : List ℕ) (live : Bool) (number begin : ℕ) : Type 0 where
@@ -38,20 +38,12 @@ IsSlotFault file offset =
     × Holds file zeros_offset (replicate zeros_len 0) × (begin < 2 ^ 64)
     × ((begin < head_len) ⊎ (length file ≤ begin)) × (offset ≡ begin_at live))))
 
--- the file is shorter than a head and a gate; its name; its version; its slots
-abbrev pub IsHeadFault : List ℕ → List ℕ → ℕ → Type 0
-IsHeadFault digest file offset =
+-- the file is shorter than a head and a gate; its name; the zeros behind its version, which are
+-- told at the version's place; its slots
+abbrev pub IsHeadFault : List ℕ → ℕ → Type 0
+IsHeadFault file offset =
     ((length file < head_len + 1) × (offset ≡ 0))
     ⊎ (((head_len + 1 ≤ length file) × (Holds file 1 magic → ⊥) × (offset ≡ 1))
     ⊎ (((head_len + 1 ≤ length file) × Holds file 1 magic
-    × (Holds file version_offset version_bytes → ⊥) × (offset ≡ version_offset))
-    ⊎ (IsFront digest file × IsSlotFault file offset)))
-
--- the file is another list's: this is looked at after the version and before the slots
-pub record IsOtherList (digest file kept : List ℕ) : Type 0 where
-  pub long : head_len + 1 ≤ length file
-  pub name : Holds file 1 magic
-  pub version : Holds file version_offset version_bytes
-  pub kept_size : length kept ≡ 32
-  pub kept_at : Holds file digest_offset kept
-  pub other : kept ≢ digest
+    × (Holds file padding_offset (replicate padding_len 0) → ⊥) × (offset ≡ version_offset))
+    ⊎ (IsFront file × IsSlotFault file offset)))

@@ -1,4 +1,5 @@
 -- What has to be believed: the store file, what it stands for, its first fault, and a journal.
+pub mod Frame
 pub mod Store
 pub mod Region
 pub mod HeadFault

@@ -1,15 +1,19 @@
 -- What an opening does to a file, and why it is refused.
 -- Source: none.
 -- Our own choice: a store over 1,073,741,824 bytes is refused where a limit is asked for; this is
--- looked at first. Then comes whether the file is unborn, then the head, then the region.
-use Rattle.std.specs.Prelude.{◌≡◌, ◌⊎◌, ℕ, ◌+◌, ◌-◌, ◌^◌, ◌<◌, ◌≤◌, min, Bool, true, List, [], ◌∷◌, length}
-use Rattle.std.specs.Prelude.{slice_index, nat_le, nat_eq, if◌then◌else◌}
+-- looked at first. Then comes whether the file is unborn, then the head, then the region, and last
+-- whether it stands under the list that is asked for. A store of version 1 becomes one of version 2
+-- once nothing is at fault: its byte 8 is written as 2, and nothing else.
+use Rattle.std.specs.Prelude.{◌≡◌, ◌≢◌, ◌⊎◌, ℕ, ◌+◌, ◌-◌, ◌^◌, ◌<◌, ◌≤◌, max, min, Bool, true, List}
+use Rattle.std.specs.Prelude.{[], ◌∷◌, length, slice_index, nat_le, nat_eq, if◌then◌else◌}
 use Rattle.std.specs.Prelude.{Result, IsErrOf, OnOk}
 use Rattle.agent_base.specs.Counts.{Rose}
-use Rattle.disk_model.specs.Disk.{View, IsPowered, HasFailed}
+use Rattle.disk_model.specs.Disk.{View, Torn, Written, IsPowered, HasFailed}
+use Rattle.journal.specs.Frame.{IsFirst, IsSecond, version_offset}
 use Rattle.journal.specs.Store.{IsOpen, IsStore, IsUnborn, Head}
+use Rattle.journal.specs.Store.{head_len}
 use Rattle.journal.specs.Region.{TakesOf, RefusesOf, IsFault, StandsForState}
-use Rattle.journal.specs.HeadFault.{IsHeadFault, IsOtherList}
+use Rattle.journal.specs.HeadFault.{IsHeadFault}
 use Rattle.journal.specs.declared.open_fault.OpenFault.{OpenFault}
 use Rattle.journal.specs.declared.open_fault.OpenFault.TheVariants.{DeviceFault, NotAStore}
 use Rattle.journal.specs.declared.open_fault.OpenFault.TheVariants.{OtherList, TooLarge, NoMemory}
@@ -32,13 +36,19 @@ abbrev pub IsLimitRefusal : List ℕ → OpenFault → Type 0
 IsLimitRefusal file why = (why ≡ TooLarge (length file)) ⊎ (why ≡ DeviceFault)
 
 -- the file is no store, and this is its first fault
-abbrev pub IsStoreFault : {S : Type 0} → TakesOf S → RefusesOf S → S → List ℕ → List ℕ → ℕ → Type 0
-IsStoreFault {S} takes refuses empty digest file offset =
-    IsHeadFault digest file offset
-    ⊎ ((live : Bool) × (number : ℕ) × (begin : ℕ) × Head digest file live number begin
-    × (128 ≤ begin)
+abbrev pub IsStoreFault : {S : Type 0} → TakesOf S → RefusesOf S → S → List ℕ → ℕ → Type 0
+IsStoreFault {S} takes refuses empty file offset =
+    IsHeadFault file offset
+    ⊎ ((kept : List ℕ) × (live : Bool) × (number : ℕ) × (begin : ℕ)
+    × Head kept file live number begin × (128 ≤ begin)
     × (begin < length file) × (begin < 2 ^ 64)
     × IsFault takes refuses file begin empty offset)
+
+-- the file is a store, and stands for something, under this list and not under the one that is
+-- asked for
+abbrev pub IsOtherList : {S : Type 0} → TakesOf S → S → List ℕ → List ℕ → List ℕ → Type 0
+IsOtherList {S} takes empty digest file kept =
+    (kept ≢ digest) × ((s : S) × (n : ℕ) × StandsForState takes empty kept file s n)
 
 -- want of memory, and a device fault: they say nothing of the file
 abbrev pub IsExcused : OpenFault → Type 0
@@ -60,9 +70,9 @@ IsOfFile (TooLarge len) = Unit {0}
 abbrev pub IsStoreRefusal : {S : Type 0} → TakesOf S → RefusesOf S → S → List ℕ → List ℕ → OpenFault
     → Type 0
 IsStoreRefusal takes refuses empty digest file
-    (NotAStore offset) = IsStoreFault takes refuses empty digest file offset
+    (NotAStore offset) = IsStoreFault takes refuses empty file offset
 IsStoreRefusal takes refuses empty digest file (OtherList kept given) = (given ≡ digest)
-    × IsOtherList digest file kept
+    × IsOtherList takes empty digest file kept
 IsStoreRefusal takes refuses empty digest file (TooLarge len) = ⊥
 IsStoreRefusal takes refuses empty digest file DeviceFault = ⊥
 IsStoreRefusal takes refuses empty digest file NoMemory = Unit {0}
@@ -74,21 +84,36 @@ IsRefusal takes refuses empty limited digest file (TooLarge len) = (limited ≡ 
     × (len ≡ length file) × (limit < len)
 IsRefusal takes refuses empty limited digest file (NotAStore offset) =
     IsWithin limited file × IsOpen file 0 × (1 < length file)
-    × IsStoreFault takes refuses empty digest file offset
+    × IsStoreFault takes refuses empty file offset
 IsRefusal takes refuses empty limited digest file (OtherList kept given) =
     IsWithin limited file × IsOpen file 0 × (1 < length file) × (given ≡ digest)
-    × IsOtherList digest file kept
+    × IsOtherList takes empty digest file kept
 IsRefusal takes refuses empty limited digest file DeviceFault = Unit {0}
 IsRefusal takes refuses empty limited digest file NoMemory = Unit {0}
 
--- what a cut during an opening leaves: the file as it was, or of an unborn file an unborn one or a
--- store without frames
+-- the file had version 1, and at most the byte that says so has changed
+pub record IsUpgrade (old new : List ℕ) : Type 0 where
+  pub first : IsFirst old
+  pub torn : Torn version_offset 1 old new
+
+-- what an opening makes of a born file: 2 stands in the place of version 1, and else it stays
+abbrev pub IsUpgraded : List ℕ → List ℕ → Type 0
+IsUpgraded old new =
+    (IsFirst old × Written version_offset (2 ∷ []) old new) ⊎ (IsSecond old × (new ≡ old))
+
+-- what an opening makes of a file's length: a store keeps it, and a file that is made one has at
+-- least a head and a gate
+abbrev pub IsGrown : List ℕ → List ℕ → Type 0
+IsGrown old new = length new ≡ max (length old) (head_len + 1)
+
+-- what a cut during an opening leaves: the file as it was; of one of version 1 the file but for
+-- that byte; or of an unborn file an unborn one or a store without frames
 abbrev pub IsOpening : List ℕ → List ℕ → List ℕ → Type 0
-IsOpening digest old new = (new ≡ old) ⊎ (IsUnborn old × (IsUnborn new ⊎ IsStore digest new []))
+IsOpening digest old new = (new ≡ old)
+    ⊎ (IsUpgrade old new ⊎ (IsUnborn old × (IsUnborn new ⊎ IsStore digest new [])))
 
 -- what a file stands for: a store for what its frames lead to, and an unborn file for the empty
--- state
--- with 0 changes
+-- state with 0 changes
 abbrev pub FileMeans : {S : Type 0} → TakesOf S → S → List ℕ → List ℕ → S → ℕ → Type 0
 FileMeans takes empty digest file s n =
     StandsForState takes empty digest file s n ⊎ (IsUnborn file × (s ≡ empty) × (n ≡ 0))
@@ -109,10 +134,12 @@ pub record Opens {T : Type 0} (result : Result T OpenFault) (old new : View) : T
   pub only : IsErrOf result DeviceFault ⊎ HasNoFault old new
   pub ok : OnOk result (IsPowered old new)
 
--- how many changing calls an opening makes
+-- how many changing calls an opening makes: for a file that is made a store, for one of version 1,
+-- and for any other
 abbrev pub opening_calls : List ℕ → ℕ
-opening_calls file = if nat_le (length file) 1 then 7 else if nat_eq
-    (slice_index file 0) 0 then 5 else 1
+opening_calls file =
+    if nat_le (length file) 1 then 7 else if nat_eq (slice_index file 0) 0 then 5 else if nat_eq
+    (slice_index file version_offset) 1 then 3 else 1
 
 -- the answer by the cuts to come, of an opening of so many calls while the power is on: at `Ok` the
 -- first lies past them, and a device fault is that cut, within them; with none there is no fault

@@ -1,13 +1,16 @@
 -- What the frames of a region stand for, and the first fault of a region.
 -- Source: none.
--- Our own choice: a snapshot stands only at the beginning of a region. Changes have a body that is
+-- Our own choice: a snapshot stands only at the beginning of a region, and one that names a list
+-- only in a file of version 2. Changes have a body that is
 -- not empty, and their number is the one before them and their count, modulo 2^64. Faults come in
 -- the order of `IsFaultAt`. What a body means is given by two relations, of the caller.
 use Rattle.std.specs.Prelude.{◌≡◌, ◌≢◌, ◌⊎◌, ℕ, ◌+◌, ◌%◌, ◌^◌, ◌<◌, ◌≤◌, Bool, true, false, List}
 use Rattle.std.specs.Prelude.{[], ◌∷◌, length, slice_index, if◌then◌else◌}
 use Rattle.std.specs.Int.{w64, to_le_bytes}
 use Rattle.disk_model.specs.Disk.{Holds}
-use Rattle.journal.specs.Store.{Frame, IsOpen, IsStore, AreSized, encoded, frame_len, frames_len}
+use Rattle.journal.specs.Frame.{Frame, IsFirst, IsSecond, IsListed, AreSound}
+use Rattle.journal.specs.Store.{IsOpen, IsStore}
+use Rattle.journal.specs.Frame.{encoded, frame_len, frames_len, digest_len}
 
 -- from a state a body, of a snapshot or of changes, leads to a state, by so many changes
 abbrev pub TakesOf : Type 0 → Type 1
@@ -66,32 +69,39 @@ abbrev pub IsSized : List ℕ → ℕ → ℕ → Type 0
 IsSized file at size = IsOpen file at × Holds file (at + 10) (to_le_bytes w64 size)
     × (at + 18 + size ≤ length file)
 
--- a wrong kind: neither changes nor a snapshot, or a snapshot behind another frame
+-- a wrong kind: neither changes nor a snapshot, a snapshot behind another frame, or one that names
+-- a list in a file of version 1
 abbrev pub IsWrongKind : List ℕ → ℕ → Bool → Type 0
 IsWrongKind file at fresh = (size : ℕ) × IsSized file at size × (slice_index file (at + 1) ≢ 1)
     × ((slice_index file (at + 1) ≡ 2) → fresh ≡ false)
+    × ((slice_index file (at + 1) ≡ 3) → (fresh ≡ false) ⊎ IsFirst file)
 
--- changes with an empty body
-abbrev pub IsEmpty : List ℕ → ℕ → Type 0
-IsEmpty file at = IsSized file at 0 × (slice_index file (at + 1) ≡ 1)
+-- changes with an empty body, or a snapshot of kind 3 that is shorter than a digest
+abbrev pub IsShort : List ℕ → ℕ → Bool → Type 0
+IsShort file at fresh =
+    (IsSized file at 0 × (slice_index file (at + 1) ≡ 1))
+    ⊎ ((size : ℕ) × IsSized file at size × (slice_index file (at + 1) ≡ 3) × (fresh ≡ true)
+    × IsSecond file × (size < digest_len))
 
 -- a frame that lies whole within the file, of a right kind
 abbrev pub IsFrameAt : List ℕ → ℕ → Bool → Frame → Type 0
 IsFrameAt file at fresh f =
     IsOpen file at × Holds file (at + 1) (encoded f) × IsRightKind fresh f.snapshot f.body
-    × (at + frame_len f ≤ length file) × (f.last < 2 ^ 64) × (length f.body < 2 ^ 64)
+    × (at + frame_len f ≤ length file) × (f.last < 2 ^ 64)
+    × (length f.list + length f.body < 2 ^ 64) × IsListed file f
 
 -- The first fault of what stands at an offset, from a state and a number. First a frame that is cut
--- off, second its kind, third an empty body, fourth the body's first fault, fifth its number.
+-- off, second its kind, third a body that is too short, fourth the body's first fault, which is
+-- looked for behind the digest that a snapshot begins with, fifth its number.
 -- `refuses s kind body o` says that the body has its first fault at o.
 abbrev pub IsFaultAt : {S : Type 0} → TakesOf S → RefusesOf S → List ℕ → ℕ → Bool → S → ℕ → ℕ
     → Type 0
 IsFaultAt {S} takes refuses file at fresh s last offset =
     (IsCut file at × (offset ≡ at))
     ⊎ ((IsWrongKind file at fresh × (offset ≡ at + 1))
-    ⊎ ((IsEmpty file at × (offset ≡ at + 10))
+    ⊎ ((IsShort file at fresh × (offset ≡ at + 10))
     ⊎ (((f : Frame) × IsFrameAt file at fresh f
-    × ((o : ℕ) × refuses s f.snapshot f.body o × (offset ≡ at + 18 + o)))
+    × ((o : ℕ) × refuses s f.snapshot f.body o × (offset ≡ at + 18 + length f.list + o)))
     ⊎ ((f : Frame) × IsFrameAt file at fresh f × ((t : S) × (n : ℕ) × takes s f.snapshot f.body t n
     × (IsRightLast f.snapshot last n f.last → ⊥) × (offset ≡ at + 2))))))
 
@@ -103,6 +113,6 @@ is_first (f ∷ frames) = false
 -- the first fault of a region: some frames are right, and then it stands
 abbrev pub IsFault : {S : Type 0} → TakesOf S → RefusesOf S → List ℕ → ℕ → S → ℕ → Type 0
 IsFault {S} takes refuses file begin empty offset =
-    (frames : List Frame) × (s : S) × (last : ℕ) × OpensAt file begin frames × AreSized frames
+    (frames : List Frame) × (s : S) × (last : ℕ) × OpensAt file begin frames × AreSound file frames
     × Runs takes true empty 0 frames s last
     × IsFaultAt takes refuses file (begin + frames_len frames) (is_first frames) s last offset

@@ -3,10 +3,12 @@ ghost use Rattle.std.specs.Prelude.{◌≡◌, ◌⊎◌, is_err, ◌+◌, ◌-�
 ghost use Rattle.std.specs.Prelude.{not, Bool, List, ℕ, length, slice_index, Some, true, false};
 ghost use Rattle.std.specs.Prelude.{IfOk, OnOk, OnErr, nat_le, if◌then◌else◌};
 ghost use Rattle.disk_model.specs.Disk.{IsSettled, LeavesOnly, Stays, Device};
-ghost use Rattle.journal.specs.Store.{Frame, IsStore, encoded, slot_bytes, other_at};
+ghost use Rattle.journal.specs.Frame.{Frame};
+ghost use Rattle.journal.specs.Store.{slot_bytes, other_at};
 ghost use Rattle.journal.specs.Journal.{JournalView, StandsInFile, IsAtRest, HasRoom, IsBeforeOrSnapshot};
 ghost use Rattle.journal.specs.Journal.{snapshot_frame, snapshot_at, since_of};
-ghost use Rattle.journal.specs.CheckpointParts.{IsRegion, IsApart, IsBetween, Switches, TakesBlock};
+ghost use Rattle.journal.specs.CheckpointParts.{IsRegion, IsApart, IsBetween, IsBlock, IsStillStore};
+ghost use Rattle.journal.specs.CheckpointParts.{Switches, TakesBlock};
 
 use crate::gated::{append, stage};
 use crate::journal::{DeviceFault, Journal, fill};
@@ -45,12 +47,12 @@ fn stage_snapshot<D: Disk>(
     ensures any_moment { (c digest : List ℕ) (begin end : ℕ) (frames : List Frame)
         → (D.view disk.old).contents ≡ Some c
         → IsRegion digest c live number begin end frames → IsApart to (length block.now) begin end
-        → LeavesOnly (D.view disk.old) (D.view disk.new) (λ image. IsStore digest image frames) }
+        → LeavesOnly (D.view disk.old) (D.view disk.new) (IsStillStore digest frames) }
     ensures between { OnOk result
         ((c digest : List ℕ) (begin end : ℕ) (frames : List Frame) (f : Frame)
         → (D.view disk.old).contents ≡ Some c
         → IsRegion digest c live number begin end frames → IsApart to (length block.now) begin end
-        → block.now ≡ 1 ∷ encoded f ++ 0 ∷ []
+        → IsBlock f block.now
         → (d : List ℕ) × ((D.view disk.new).contents ≡ Some d)
         × IsBetween digest d live number begin frames to f) }
     ensures long { OnOk result ((d : List ℕ) → (D.view disk.new).contents ≡ Some d
@@ -117,12 +119,17 @@ fn snapshot_place(len: u64, begin: u64, end: u64) -> u64
 }
 
 impl Journal {
-    /// Puts a snapshot of the state in the place of the frames. Takes no memory. Seven changing
-    /// calls.
+    /// Puts a snapshot of the state that is to stand, under a list of this digest, in the place of
+    /// the frames. Takes no memory. Seven changing calls.
     ///
     /// The number of changes stays. After `DeviceFault` the journal is shut, and the store has the
-    /// frames from before or the snapshot.
-    pub fn checkpoint<D: Disk>(&mut self, disk: &mut D, body: &[u8]) -> Result<(), DeviceFault>
+    /// frames from before, under the digest from before, or the snapshot, under the new one.
+    pub fn checkpoint<D: Disk>(
+        &mut self,
+        disk: &mut D,
+        digest: &[u8; 32],
+        body: &[u8],
+    ) -> Result<(), DeviceFault>
         requires usable { self.old.shut ≡ false }
         requires at_rest { IsAtRest self.old (D.view disk.old) }
         requires room { HasRoom self.old (D.view disk.old) (length body.now) }
@@ -131,24 +138,27 @@ impl Journal {
         ensures acknowledged { OnOk result ((c : List ℕ) (frames : List Frame)
             → (D.view disk.old).contents ≡ Some c → StandsInFile self.old c frames
             → (d : List ℕ) × ((D.view disk.new).contents ≡ Some d)
-            × StandsInFile self.new d (snapshot_frame self.old body.now ∷ [])) }
+            × StandsInFile self.new d (snapshot_frame self.old digest.now body.now ∷ [])) }
         ensures settled { OnOk result (IsSettled (D.view disk.new)) }
         ensures at_rest { OnOk result (IsAtRest self.new (D.view disk.new)) }
         ensures done { OnOk result (self.new ≡ record self.old {
+          digest = digest.now;
           live = not self.old.live;
           number = (self.old.number + 1) % 2 ^ 64;
           begin = snapshot_at self.old (length body.now);
-          end = snapshot_at self.old (length body.now) + 18 + length body.now;
+          end = snapshot_at self.old (length body.now) + 50 + length body.now;
           base = self.old.changes;
           room = self.new.room;
         }) }
 
-        // A cut at any moment leaves the frames from before, or the snapshot alone.
+        // A cut at any moment leaves the frames from before, under the digest from before, or the
+        // snapshot alone, under the new one.
         ensures any_moment { (c : List ℕ) (frames : List Frame)
             → (D.view disk.old).contents ≡ Some c
             → StandsInFile self.old c frames
             → LeavesOnly (D.view disk.old) (D.view disk.new)
-            (IsBeforeOrSnapshot self.old.digest frames (snapshot_frame self.old body.now)) }
+            (IsBeforeOrSnapshot self.old.digest frames
+            (snapshot_frame self.old digest.now body.now)) }
 
         ensures failed { OnErr result
             (self.new ≡ record self.old { shut = true; room = self.new.room }) }
@@ -157,17 +167,18 @@ impl Journal {
         ensures device { Device 7 4 result (D.view disk.old) (D.view disk.new) }
     {
         self.shut = true;
-        let Ok(()) = fill(&mut self.block, true, self.changes, body) else {
+        let Ok(()) = fill(&mut self.block, true, self.changes, digest, body) else {
             return Err(DeviceFault);
         };
         let to = snapshot_place(self.block.len() as u64, self.begin, self.end);
         let Ok(()) = switch(disk, self.live, self.number, to, &self.block) else {
             return Err(DeviceFault);
         };
+        self.digest = *digest;
         self.live = !self.live;
         self.number = self.number.wrapping_add(1);
         self.begin = to;
-        self.end = to + 18 + body.len() as u64;
+        self.end = to + 50 + body.len() as u64;
         self.base = self.changes;
         self.shut = false;
         Ok(())

@@ -2,6 +2,7 @@
 ghost use Rattle.std.specs.Prelude.{◌≡◌, ◌+◌, ◌<◌, ◌≤◌, List, ℕ, length};
 ghost use Rattle.std.specs.Int.{w64, to_le_bytes};
 ghost use Rattle.disk_model.specs.Disk.{Holds};
+ghost use Rattle.journal.specs.Region.{IsSized};
 ghost use Rattle.journal.specs.ReaderAnswers.{IsRead};
 
 // The number of eight bytes there.
@@ -30,10 +31,16 @@ pub enum Read {
     Cut,
     /// A wrong kind.
     Kind,
-    /// Changes without a body.
-    Empty,
-    /// A frame: whether it is a snapshot, its number and its body's size.
-    Whole(bool, u64, usize),
+    /// Changes without a body, or a digest that is cut off.
+    Short,
+    /// A frame. `list` bytes of the `size` behind its front are the digest of a list, the others
+    /// its body.
+    Whole {
+        snapshot: bool,
+        last: u64,
+        list: usize,
+        size: usize,
+    },
 }
 
 /// Finds what stands at an offset, with the first three faults of a frame.
@@ -53,16 +60,45 @@ pub fn frame_at(bytes: &[u8], at: usize, fresh: bool) -> Read
     if size > (bytes.len() - at - 18) as u64 {
         return Read::Cut;
     }
+    whole_frame(bytes, at, fresh, size as usize)
+}
+
+// What a frame is that lies whole within the bytes.
+fn whole_frame(bytes: &[u8], at: usize, fresh: bool, size: usize) -> Read
+    requires { IsSized bytes.now at size }
+    ensures { IsRead bytes.now at fresh result }
+{
     let last = number_at(bytes, at + 2);
     let kind = bytes[at + 1];
     if kind == 1 {
         if size == 0 {
-            return Read::Empty;
+            return Read::Short;
         }
-        return Read::Whole(false, last, size as usize);
+        return Read::Whole {
+            snapshot: false,
+            last,
+            list: 0,
+            size,
+        };
     }
     if kind == 2 && fresh {
-        return Read::Whole(true, last, size as usize);
+        return Read::Whole {
+            snapshot: true,
+            last,
+            list: 0,
+            size,
+        };
+    }
+    if kind == 3 && fresh && bytes[8] != 1 {
+        if size < 32 {
+            return Read::Short;
+        }
+        return Read::Whole {
+            snapshot: true,
+            last,
+            list: 32,
+            size,
+        };
     }
     Read::Kind
 }

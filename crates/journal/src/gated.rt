@@ -1,6 +1,7 @@
 //! A block is appended behind a closed gate, which is opened once the block is on the disk.
-ghost use Rattle.std.specs.Prelude.{◌≡◌, ◌+◌, ◌<◌, ◌≤◌, ◌∷◌, List, ℕ, length, Some, IfOk, OnOk};
-ghost use Rattle.disk_model.specs.Disk.{Written, Goes, IsSettled, LeavesOnly, Faults, Makes};
+ghost use Rattle.std.specs.Prelude.{◌≡◌, ◌+◌, ◌<◌, ◌≤◌, ◌∷◌, [], List, ℕ, length, Some, IfOk};
+ghost use Rattle.std.specs.Prelude.{OnOk, false};
+ghost use Rattle.disk_model.specs.Disk.{Written, Torn, Goes, IsSettled, LeavesOnly, Faults, Makes};
 ghost use Rattle.disk_model.specs.Disk.{UsesRoom, Device};
 ghost use Rattle.journal.specs.Append.{IsAppending, IsStaging, IsStaged, IsReady, IsSettling};
 ghost use Rattle.journal.specs.Append.{settle_calls};
@@ -57,8 +58,10 @@ pub fn stage<D: Disk>(
     disk.sync() // both are whole on the disk before the slot's gate may open
 }
 
-/// Syncs, and closes the first byte of a file that has at most one. Its length is given.
+/// Closes the first byte of a file that has at most one, and syncs. Its length is given.
 pub fn settle<D: Disk>(disk: &mut D, len: u64) -> Result<u64, Failed>
+    requires settled { IsSettled (D.view disk.old) }
+    requires on { (D.view disk.old).off ≡ false }
     requires len { (c : List ℕ) → (D.view disk.old).contents ≡ Some c → len ≡ length c }
     requires room { 1 ≤ (D.view disk.old).room_end }
     requires writes { 1 ≤ (D.view disk.old).room_writes }
@@ -67,8 +70,7 @@ pub fn settle<D: Disk>(disk: &mut D, len: u64) -> Result<u64, Failed>
         (Goes IsReady (D.view disk.old).contents (D.view disk.new).contents) }
     ensures len { IfOk result (λ n. (d : List ℕ) → (D.view disk.new).contents ≡ Some d
         → n ≡ length d) }
-    ensures any_moment { IsSettled (D.view disk.old) → (c : List ℕ)
-        → (D.view disk.old).contents ≡ Some c
+    ensures any_moment { (c : List ℕ) → (D.view disk.old).contents ≡ Some c
         → LeavesOnly (D.view disk.old) (D.view disk.new) (IsSettling c) }
     ensures kept { (c : List ℕ) → (D.view disk.old).contents ≡ Some c → 1 < length c
         → (D.view disk.new).contents ≡ Some c }
@@ -77,11 +79,28 @@ pub fn settle<D: Disk>(disk: &mut D, len: u64) -> Result<u64, Failed>
         → Makes (settle_calls c) result (D.view disk.old) (D.view disk.new) }
     ensures room { UsesRoom 1 (D.view disk.old) (D.view disk.new) }
 {
-    disk.sync()?; // what is read from now on is what a cut leaves
     if len > 1 {
         return Ok(len);
     }
     disk.write_at(0, &[0])?;
     disk.sync()?; // the gate is closed on the disk before the head is written behind it
     Ok(1)
+}
+
+/// Writes 2 in the place of a version, and syncs.
+pub fn upgrade<D: Disk>(disk: &mut D) -> Result<(), Failed>
+    requires settled { IsSettled (D.view disk.old) }
+    requires place { (c : List ℕ) → (D.view disk.old).contents ≡ Some c → 9 ≤ length c }
+    requires room { 9 ≤ (D.view disk.old).room_end }
+    requires writes { 1 ≤ (D.view disk.old).room_writes }
+    ensures written { OnOk result (Goes (Written 8 (2 ∷ [])) (D.view disk.old).contents
+        (D.view disk.new).contents) }
+    ensures torn { Goes (Torn 8 1) (D.view disk.old).contents (D.view disk.new).contents }
+    ensures settled { OnOk result (IsSettled (D.view disk.new)) }
+    ensures any_moment { (c : List ℕ) → (D.view disk.old).contents ≡ Some c
+        → LeavesOnly (D.view disk.old) (D.view disk.new) (Torn 8 1 c) }
+    ensures device { Device 2 1 result (D.view disk.old) (D.view disk.new) }
+{
+    disk.write_at(8, &[2])?;
+    disk.sync() // kind 3 may be written from now on
 }

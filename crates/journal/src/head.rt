@@ -15,8 +15,6 @@ pub enum HeadRead {
     Live(bool, u64, u64),
     /// The first fault.
     Bad(u64),
-    /// The digest of another list.
-    Other([u8; 32]),
 }
 
 // Whether these bytes stand there.
@@ -27,14 +25,14 @@ fn holds(bytes: &[u8], at: usize, want: &[u8]) -> bool
     &bytes[at..at + want.len()] == want
 }
 
-// The digest that stands in a head.
-fn digest_of(bytes: &[u8]) -> [u8; 32]
-    requires { 44 ≤ length bytes.now }
+/// The digest of a list that stands there.
+pub fn digest_at(bytes: &[u8], at: usize) -> [u8; 32]
+    requires { at + 32 ≤ length bytes.now }
     ensures len { length result ≡ 32 }
-    ensures at { Holds bytes.now 12 result }
+    ensures at { Holds bytes.now at result }
 {
     let mut digest = [0; 32];
-    digest.copy_from_slice(&bytes[12..44]);
+    digest.copy_from_slice(&bytes[at..at + 32]);
     digest
 }
 
@@ -115,9 +113,9 @@ fn read_slots(bytes: &[u8]) -> HeadRead
 }
 
 /// Reads a head, with its faults in their order.
-pub fn read_head(bytes: &[u8], digest: &[u8; 32]) -> HeadRead
+pub fn read_head(bytes: &[u8]) -> HeadRead
     requires { IsOpen bytes.now 0 }
-    ensures { IsHeadRead digest.now bytes.now result }
+    ensures { IsHeadRead bytes.now result }
 {
     if bytes.len() < 129 {
         return HeadRead::Bad(0);
@@ -125,11 +123,8 @@ pub fn read_head(bytes: &[u8], digest: &[u8; 32]) -> HeadRead
     if !holds(bytes, 1, b"PBSTORE") {
         return HeadRead::Bad(1);
     }
-    if !holds(bytes, 8, &[1, 0, 0, 0]) {
+    if !holds(bytes, 9, &[0; 3]) {
         return HeadRead::Bad(8);
-    }
-    if !holds(bytes, 12, digest) {
-        return HeadRead::Other(digest_of(bytes));
     }
     read_slots(bytes)
 }

@@ -1,9 +1,10 @@
 //! The journal: frames behind gates in the live region of a store.
 ghost use Rattle.std.specs.Prelude.{◌≡◌, ◌⊎◌, ◌↔◌, ◌+◌, ◌-◌, ◌%◌, ◌^◌, ◌<◌, ◌≤◌, ◌∷◌, ◌++◌, []};
 ghost use Rattle.std.specs.Prelude.{List, ℕ, Bool, length, Some, true, false, OnOk, OnErr, is_err};
+ghost use Rattle.std.specs.Prelude.{if◌then◌else◌};
 ghost use Rattle.std.specs.Prelude.{vec_capacity};
 ghost use Rattle.disk_model.specs.Disk.{IsSettled, LeavesOnly, Stays, Device};
-ghost use Rattle.journal.specs.Store.{Frame, encoded};
+ghost use Rattle.journal.specs.Frame.{Frame, encoded, snapshot_kind};
 ghost use Rattle.journal.specs.Region.{Runs, StandsForState};
 ghost use Rattle.journal.specs.Journal.{JournalView, StandsInFile, IsAtRest, HasRoom, IsBeforeOrAfter};
 ghost use Rattle.journal.specs.Journal.{next_frame, since_of};
@@ -53,19 +54,44 @@ impl Model for Journal {
     ghost invariant = { λ j. (128 ≤ j.begin) × (j.begin ≤ j.end) };
 }
 
-// A frame with an open gate, and the closed gate behind it, in the room that is there.
-#[tactic(auto, unfolding(crate::specs::Store::encoded))]
-pub fn fill(block: &mut Vec<u8>, snapshot: bool, last: u64, body: &[u8]) -> Result<(), AllocError>
-    ensures items { OnOk result (block.new.items
-        ≡ 1 ∷ encoded (record { snapshot = snapshot; last = last; body = body.now }) ++ 0 ∷ []) }
-    ensures capacity { vec_capacity block.old ≤ vec_capacity block.new }
-    ensures full { OnErr result (vec_capacity block.old < length body.now + 19) }
+// The kind of a frame: changes, a snapshot, or a snapshot that names a list.
+fn frame_kind(snapshot: bool, list: &[u8]) -> u8
+    ensures { result ≡ (if snapshot then snapshot_kind list.now else 1) }
 {
-    let kind = if snapshot { 2 } else { 1 };
+    if !snapshot {
+        1
+    } else if list.is_empty() {
+        2
+    } else {
+        3
+    }
+}
+
+// A frame with an open gate, and the closed gate behind it, in the room that is there.
+#[tactic(auto, unfolding(crate::specs::Frame::encoded))]
+pub fn fill(
+    block: &mut Vec<u8>,
+    snapshot: bool,
+    last: u64,
+    list: &[u8],
+    body: &[u8],
+) -> Result<(), AllocError>
+    requires fits { length list.now + length body.now < 18446744073709551616 }
+    ensures items { OnOk result (block.new.items ≡ 1 ∷ encoded (record {
+      snapshot = snapshot;
+      last = last;
+      list = list.now;
+      body = body.now;
+    }) ++ 0 ∷ []) }
+    ensures capacity { vec_capacity block.old ≤ vec_capacity block.new }
+    ensures full { OnErr result
+        (vec_capacity block.old < length list.now + length body.now + 19) }
+{
     block.clear();
-    block.extend_from_slice(&[1, kind])?;
+    block.extend_from_slice(&[1, frame_kind(snapshot, list)])?;
     block.extend_from_slice(&last.to_le_bytes())?;
-    block.extend_from_slice(&(body.len() as u64).to_le_bytes())?;
+    block.extend_from_slice(&((list.len() + body.len()) as u64).to_le_bytes())?;
+    block.extend_from_slice(list)?;
     block.extend_from_slice(body)?;
     block.extend_from_slice(&[0])
 }
@@ -90,12 +116,12 @@ impl Journal {
             × ((D.view disk.new).failures ≡ (D.view disk.old).failures)
             × ((D.view disk.new).cuts ≡ (D.view disk.old).cuts) }
     {
-        let size = body.checked_add(19).ok_or(NoMemory)?;
+        let size = body.checked_add(51).ok_or(NoMemory)?;
         let end = self
             .end
             .checked_add(body as u64)
             .ok_or(NoMemory)?
-            .checked_add(148)
+            .checked_add(180)
             .ok_or(NoMemory)?;
         self.block.clear();
         let Ok(()) = self.block.reserve(size) else {
@@ -152,7 +178,7 @@ impl Journal {
     {
         let last = self.changes.wrapping_add(changes);
         self.shut = true;
-        let Ok(()) = fill(&mut self.block, false, last, body) else {
+        let Ok(()) = fill(&mut self.block, false, last, &[], body) else {
             return Err(DeviceFault);
         };
         let Ok(()) = append(disk, self.end, &self.block[1..]) else {
@@ -176,6 +202,14 @@ impl Journal {
         ensures { result ≡ since_of self.now }
     {
         self.changes.wrapping_sub(self.base)
+    }
+
+    /// The digest of the suffix list under which the store stands: that of the last snapshot, where
+    /// the live region begins with one that names a list, and else that of the head.
+    pub fn digest(&self) -> &[u8; 32]
+        ensures { result.now ≡ self.now.digest }
+    {
+        &self.digest
     }
 
     /// Whether a device call failed, so that no commit and no checkpoint may follow.

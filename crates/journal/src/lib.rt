@@ -19,8 +19,8 @@ mod replay;
 
 pub use journal::{DeviceFault, Journal};
 pub use laws::{
-    checkpoint_meaning, commit_meaning, one_list_of_frames, one_meaning, opening_cuts,
-    opening_meaning, since_meaning,
+    checkpoint_meaning, commit_meaning, one_list_of_frames, one_meaning, one_verdict, opening_cuts,
+    opening_meaning, since_meaning, upgrade_keeps,
 };
 pub use open_fault::OpenFault;
 pub use replay::{Replay, ReplayFault};

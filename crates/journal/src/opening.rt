@@ -1,23 +1,27 @@
 //! Opens a store, or makes one.
-ghost use Rattle.std.specs.Prelude.{◌≡◌, ◌⊎◌, ◌+◌, ◌-◌, ◌^◌, ◌<◌, ◌≤◌, ◌++◌, ◌∷◌, [], min, List, ℕ};
-ghost use Rattle.std.specs.Prelude.{length, slice_index, true, false, Some, IfOk, IfErr, OnOk};
-ghost use Rattle.std.specs.Prelude.{IsErrOf, MatchResult};
-ghost use Rattle.disk_model.specs.Disk.{IsSettled, LeavesOnly, Makes, Stays, UsesRoom};
-ghost use Rattle.journal.specs.Store.{Frame, IsOpen, IsUnborn, IsStore, new_head};
+ghost use Rattle.std.specs.Prelude.{◌≡◌, ◌≢◌, ◌⊎◌, ◌+◌, ◌-◌, ◌^◌, ◌<◌, ◌≤◌, ◌++◌, ◌∷◌, [], min};
+ghost use Rattle.std.specs.Prelude.{List, ℕ, length, slice_index, true, false, Some, IfOk, IfErr};
+ghost use Rattle.std.specs.Prelude.{OnOk, IsErrOf, MatchResult};
+ghost use Rattle.disk_model.specs.Disk.{Faults, Goes, IsSettled, LeavesOnly, Makes, Stays, UsesRoom};
+ghost use Rattle.journal.specs.Frame.{Frame};
+ghost use Rattle.journal.specs.Store.{IsOpen, IsUnborn, IsStore, new_head};
 ghost use Rattle.journal.specs.Region.{Runs};
 ghost use Rattle.journal.specs.Opening.{IsWithin, IsRefusal, IsStoreRefusal, IsOfFile, IsExcused};
 ghost use Rattle.journal.specs.Opening.{IsOpening, FileMeans, Opens, IsLimitRefusal, IsOver};
-ghost use Rattle.journal.specs.Opening.{opening_calls};
+ghost use Rattle.journal.specs.Opening.{IsGrown, IsUpgrade, IsUpgraded, opening_calls};
 ghost use Rattle.journal.specs.Journal.{StandsInFile};
-ghost use Rattle.journal.specs.ReaderAnswers.{IsUsable, LeadsTo};
+ghost use Rattle.journal.specs.ReaderAnswers.{IsUsable, IsKept, ReadsAs, OpensAs};
+ghost use Rattle.journal.specs.ReaderAnswers.{upgrade_calls, behind_sync};
 ghost use Rattle.journal.specs.declared.open_fault.OpenFault.{OpenFault};
+ghost use Rattle.journal.specs.declared.open_fault.OpenFault.TheVariants.{DeviceFault};
 
-use crate::gated::{append, settle};
+use crate::gated::{append, settle, upgrade};
 use crate::head::{HeadRead, read_head};
 use crate::journal::Journal;
 use crate::open_fault::OpenFault;
-use crate::region::{RegionFault, read_region};
+use crate::region::{RegionFault, read_region, region_digest};
 use crate::replay::Replay;
+use agent_base::Failed;
 use disk_model::Disk;
 use std::alloc::{AllocError, Global};
 
@@ -44,7 +48,7 @@ fn read_all<D: Disk>(alloc: Global, disk: &mut D, len: u64) -> Result<Vec<u8>, O
     Ok(bytes)
 }
 
-// What a born file stands for.
+// What a born file stands for, under the list that is asked for.
 fn read_store<R: Replay>(
     alloc: Global,
     bytes: &[u8],
@@ -54,36 +58,99 @@ fn read_store<R: Replay>(
     requires { IsOpen bytes.now 0 }
     ensures usable { IfOk result (IsUsable digest.now) }
     ensures frames { IfOk result
-        (λ j. LeadsTo (R.takes (R.rules into.old)) R.empty (R.state into.new) j bytes.now) }
+        (λ j. ReadsAs (R.takes (R.rules into.old)) R.empty (R.state into.new) j bytes.now) }
     ensures refused { IfErr result (IsStoreRefusal (R.takes (R.rules into.old))
         (R.refuses (R.rules into.old)) R.empty digest.now bytes.now) }
     ensures rules { R.rules into.new ≡ R.rules into.old }
 {
-    let (live, number, begin) = match read_head(bytes, digest) {
+    let (live, number, begin) = match read_head(bytes) {
         HeadRead::Live(live, number, begin) => (live, number, begin),
         HeadRead::Bad(offset) => return Err(OpenFault::NotAStore(offset)),
-        HeadRead::Other(kept) => {
-            return Err(OpenFault::OtherList {
-                kept,
-                given: *digest,
-            });
-        }
     };
-    match read_region(bytes, begin as usize, into) {
-        Ok(region) => Ok(Journal {
-            digest: *digest,
-            live,
-            number,
-            begin,
-            end: region.end as u64,
-            changes: region.last,
-            base: region.base,
-            shut: false,
-            block: Vec::new(alloc),
-        }),
-        Err(RegionFault::NotAStore(offset)) => Err(OpenFault::NotAStore(offset as u64)),
-        Err(RegionFault::NoMemory) => Err(OpenFault::NoMemory),
+    let region = match read_region(bytes, begin as usize, into) {
+        Ok(region) => region,
+        Err(RegionFault::NotAStore(offset)) => return Err(OpenFault::NotAStore(offset as u64)),
+        Err(RegionFault::NoMemory) => return Err(OpenFault::NoMemory),
+    };
+    let kept = region_digest(bytes, begin as usize);
+    if kept != *digest {
+        return Err(OpenFault::OtherList {
+            kept,
+            given: *digest,
+        });
     }
+    Ok(Journal {
+        digest: kept,
+        live,
+        number,
+        begin,
+        end: region.end as u64,
+        changes: region.last,
+        base: region.base,
+        shut: false,
+        block: Vec::new(alloc),
+    })
+}
+
+// Makes a file that was read, of version 1, one of version 2.
+fn leave_first<D: Disk>(disk: &mut D, bytes: &[u8]) -> Result<(), Failed>
+    requires long { 9 ≤ length bytes.now }
+    requires settled { IsSettled (D.view disk.old) }
+    requires on { (D.view disk.old).off ≡ false }
+    requires bytes { (c : List ℕ) → (D.view disk.old).contents ≡ Some c → bytes.now ≡ c }
+    requires room { 9 ≤ (D.view disk.old).room_end }
+    requires writes { 1 ≤ (D.view disk.old).room_writes }
+    ensures settled { OnOk result (IsSettled (D.view disk.new)) }
+    ensures upgraded { OnOk result
+        (Goes IsUpgraded (D.view disk.old).contents (D.view disk.new).contents) }
+    ensures kept { Goes IsKept (D.view disk.old).contents (D.view disk.new).contents }
+    ensures faults { Faults result (D.view disk.old) (D.view disk.new) }
+    ensures calls { (c : List ℕ) → (D.view disk.old).contents ≡ Some c
+        → Makes (upgrade_calls c) result (D.view disk.old) (D.view disk.new) }
+    ensures any_moment { (c : List ℕ) → (D.view disk.old).contents ≡ Some c
+        → LeavesOnly (D.view disk.old) (D.view disk.new) (IsKept c) }
+{
+    if bytes[8] == 1 { upgrade(disk) } else { Ok(()) }
+}
+
+// Opens a born file, which was read.
+fn open_born<D: Disk, R: Replay>(
+    alloc: Global,
+    disk: &mut D,
+    bytes: &[u8],
+    digest: &[u8; 32],
+    into: &mut R,
+) -> Result<Journal, OpenFault>
+    requires gate { IsOpen bytes.now 0 }
+    requires settled { IsSettled (D.view disk.old) }
+    requires on { (D.view disk.old).off ≡ false }
+    requires bytes { (c : List ℕ) → (D.view disk.old).contents ≡ Some c → bytes.now ≡ c }
+    requires room { 9 ≤ (D.view disk.old).room_end }
+    requires writes { 1 ≤ (D.view disk.old).room_writes }
+    ensures frames { IfOk result
+        (λ j. ReadsAs (R.takes (R.rules into.old)) R.empty (R.state into.new) j bytes.now) }
+    ensures usable { IfOk result (IsUsable digest.now) }
+    ensures rules { R.rules into.new ≡ R.rules into.old }
+    ensures refused { (why : OpenFault) → IsErrOf result why → (why ≡ DeviceFault)
+        ⊎ IsStoreRefusal (R.takes (R.rules into.old)) (R.refuses (R.rules into.old)) R.empty
+        digest.now bytes.now why }
+    ensures settled { OnOk result (IsSettled (D.view disk.new)) }
+    ensures upgraded { OnOk result
+        (Goes IsUpgraded (D.view disk.old).contents (D.view disk.new).contents) }
+    ensures kept { Goes IsKept (D.view disk.old).contents (D.view disk.new).contents }
+    ensures unchanged { (why : OpenFault) → IsErrOf result why → IsOfFile why
+        → Stays (D.view disk.old) (D.view disk.new) }
+    ensures device { Opens result (D.view disk.old) (D.view disk.new) }
+    ensures calls { (c : List ℕ) → (D.view disk.old).contents ≡ Some c
+        → Makes (upgrade_calls c) result (D.view disk.old) (D.view disk.new) }
+    ensures any_moment { (c : List ℕ) → (D.view disk.old).contents ≡ Some c
+        → LeavesOnly (D.view disk.old) (D.view disk.new) (IsKept c) }
+{
+    let journal = read_store(alloc, bytes, digest, into)?;
+    let Ok(()) = leave_first(disk, bytes) else {
+        return Err(OpenFault::DeviceFault);
+    };
+    Ok(journal)
 }
 
 // The head of a new store, behind its gate, and the closed gate of its region.
@@ -92,7 +159,7 @@ fn head_of(alloc: Global, digest: &[u8; 32]) -> Result<Vec<u8>, AllocError>
 {
     let mut block = Vec::new(alloc);
     block.extend_from_slice(b"PBSTORE")?;
-    block.extend_from_slice(&[1, 0, 0, 0])?;
+    block.extend_from_slice(&[2, 0, 0, 0])?;
     block.extend_from_slice(digest)?;
     block.extend_from_slice(&[1, 1, 0, 0, 0, 0, 0, 0, 0, 128, 0, 0, 0, 0, 0, 0, 0])?;
     block.extend_from_slice(&[0; 17])?;
@@ -115,9 +182,10 @@ fn make<D: Disk, R: Replay>(
     requires writes { 2 ≤ (D.view disk.old).room_writes }
     ensures made { IfOk result (λ j. (d : List ℕ) → (D.view disk.new).contents ≡ Some d
         → StandsInFile j d []) }
+    ensures long { OnOk result (Goes IsGrown (D.view disk.old).contents
+        (D.view disk.new).contents) }
     ensures usable { IfOk result (IsUsable digest.now) }
-    ensures changes { IfOk result (λ j. j.changes ≡ 0) }
-    ensures empty { OnOk result (R.state into.new ≡ R.empty) }
+    ensures empty { IfOk result (λ j. (R.state into.new ≡ R.empty) × (j.changes ≡ 0)) }
     ensures rules { R.rules into.new ≡ R.rules into.old }
     ensures settled { OnOk result (IsSettled (D.view disk.new)) }
     ensures excused { IfErr result IsExcused }
@@ -158,6 +226,49 @@ fn gate_of(bytes: &[u8]) -> u8
     bytes[0]
 }
 
+// Opens what a settled disk has, of this length, or makes a store of it.
+fn open_settled<D: Disk, R: Replay>(
+    alloc: Global,
+    disk: &mut D,
+    digest: &[u8; 32],
+    len: u64,
+    into: &mut R,
+) -> Result<Journal, OpenFault>
+    requires settled { IsSettled (D.view disk.old) }
+    requires on { (D.view disk.old).off ≡ false }
+    requires len { (c : List ℕ) → (D.view disk.old).contents ≡ Some c → len ≡ length c }
+    requires room { 129 ≤ (D.view disk.old).room_end }
+    requires writes { 3 ≤ (D.view disk.old).room_writes }
+    ensures opened { IfOk result (λ j. Goes (OpensAs (R.takes (R.rules into.old)) R.empty
+        (R.state into.new) j) (D.view disk.old).contents (D.view disk.new).contents) }
+    ensures rules { R.rules into.new ≡ R.rules into.old }
+    ensures usable { IfOk result (IsUsable digest.now) }
+    ensures settled { OnOk result (IsSettled (D.view disk.new)) }
+    ensures refused { (why : OpenFault) → IsErrOf result why → (c : List ℕ)
+        → (D.view disk.old).contents ≡ Some c
+        → IsRefusal (R.takes (R.rules into.old)) (R.refuses (R.rules into.old)) R.empty false
+        digest.now c why }
+    ensures kept { (c : List ℕ) → (D.view disk.old).contents ≡ Some c → IsOpen c 0 → 1 < length c
+        → (d : List ℕ) × ((D.view disk.new).contents ≡ Some d) × IsKept c d }
+    ensures unchanged { (why : OpenFault) → IsErrOf result why → IsOfFile why
+        → (D.view disk.new).contents ≡ (D.view disk.old).contents }
+    ensures device { Opens result (D.view disk.old) (D.view disk.new) }
+    ensures calls { (c : List ℕ) → (D.view disk.old).contents ≡ Some c
+        → Makes (behind_sync c) result (D.view disk.old) (D.view disk.new) }
+    ensures any_moment { (c : List ℕ) → (D.view disk.old).contents ≡ Some c
+        → LeavesOnly (D.view disk.old) (D.view disk.new) (IsOpening digest.now c) }
+{
+    let Ok(len) = settle(disk, len) else {
+        return Err(OpenFault::DeviceFault);
+    };
+    let bytes = read_all(alloc, disk, len)?;
+    if gate_of(&bytes) == 0 {
+        make(alloc, disk, digest, into)
+    } else {
+        open_born(alloc, disk, &bytes, digest, into)
+    }
+}
+
 // Opens a store or makes one, without the laws on what the file stands for.
 fn open_store<D: Disk, R: Replay>(
     alloc: Global,
@@ -166,24 +277,21 @@ fn open_store<D: Disk, R: Replay>(
     limit: bool,
     into: &mut R,
 ) -> Result<Journal, OpenFault>
-    ensures opened { IfOk result (λ j. (d : List ℕ) → (D.view disk.new).contents ≡ Some d
-        → LeadsTo (R.takes (R.rules into.old)) R.empty (R.state into.new) j d) }
+    ensures opened { IfOk result (λ j. Goes (OpensAs (R.takes (R.rules into.old)) R.empty
+        (R.state into.new) j) (D.view disk.old).contents (D.view disk.new).contents) }
     ensures rules { R.rules into.new ≡ R.rules into.old }
     ensures usable { IfOk result (IsUsable digest.now) }
     ensures settled { OnOk result (IsSettled (D.view disk.new)) }
     ensures within { OnOk result ((c : List ℕ) → (D.view disk.old).contents ≡ Some c
         → IsWithin limit c) }
-    ensures kept { (c : List ℕ) → (D.view disk.old).contents ≡ Some c → IsOpen c 0 → 1 < length c
-        → (D.view disk.new).contents ≡ Some c }
-    ensures unborn { IfOk result (λ j. (c : List ℕ) → (D.view disk.old).contents ≡ Some c
-        → IsUnborn c
-        → (R.state into.new ≡ R.empty) × (j.changes ≡ 0)) }
     ensures refused { (why : OpenFault) → IsErrOf result why → (c : List ℕ)
         → (D.view disk.old).contents ≡ Some c
         → IsRefusal (R.takes (R.rules into.old)) (R.refuses (R.rules into.old)) R.empty limit
         digest.now c why }
     ensures limit { (c : List ℕ) → (D.view disk.old).contents ≡ Some c → IsOver limit c
         → MatchResult result (λ _. ⊥) (IsLimitRefusal c) }
+    ensures kept { (c : List ℕ) → (D.view disk.old).contents ≡ Some c → IsOpen c 0 → 1 < length c
+        → (d : List ℕ) × ((D.view disk.new).contents ≡ Some d) × IsKept c d }
     ensures unchanged { (why : OpenFault) → IsErrOf result why → IsOfFile why
         → (D.view disk.new).contents ≡ (D.view disk.old).contents }
     ensures device { Opens result (D.view disk.old) (D.view disk.new) }
@@ -193,6 +301,10 @@ fn open_store<D: Disk, R: Replay>(
         → (D.view disk.old).contents ≡ Some c
         → LeavesOnly (D.view disk.old) (D.view disk.new) (IsOpening digest.now c) }
 {
+    // What is read from now on is what a cut leaves.
+    let Ok(()) = disk.sync() else {
+        return Err(OpenFault::DeviceFault);
+    };
     let Ok(len) = disk.len() else {
         return Err(OpenFault::DeviceFault);
     };
@@ -202,23 +314,15 @@ fn open_store<D: Disk, R: Replay>(
     let Ok(()) = disk.reserve(129, 3) else {
         return Err(OpenFault::NoMemory);
     };
-    let Ok(len) = settle(disk, len) else {
-        return Err(OpenFault::DeviceFault);
-    };
-    let bytes = read_all(alloc, disk, len)?;
-    if gate_of(&bytes) == 0 {
-        make(alloc, disk, digest, into)
-    } else {
-        read_store(alloc, &bytes, digest, into)
-    }
+    open_settled(alloc, disk, digest, len, into)
 }
 
 impl Journal {
     /// Opens a store under the digest of a suffix list, and gives its frames to `into` in order.
     ///
-    /// A file that is no store yet is made one. With `limit` a file over 1,073,741,824 bytes is
-    /// refused, before any memory is taken. After a refusal nothing is told of the state of `into`,
-    /// and its `begin` makes it usable again.
+    /// A file that is no store yet is made one, and a store of version 1 becomes one of version 2.
+    /// With `limit` a file over 1,073,741,824 bytes is refused, before any memory is taken. After a
+    /// refusal nothing is told of the state of `into`, and its `begin` makes it usable again.
     pub fn open<D: Disk, R: Replay>(
         alloc: Global,
         disk: &mut D,
@@ -233,9 +337,19 @@ impl Journal {
             j.changes) }
         ensures usable { IfOk result (λ j. (j.shut ≡ false) × (j.digest ≡ digest.now)) }
         ensures settled { OnOk result (IsSettled (D.view disk.new)) }
+
+        // A born file is as it was, but for the version's byte where it had version 1. Once it is
+        // opened, that byte is 2.
         ensures kept { (c : List ℕ) → (D.view disk.old).contents ≡ Some c → IsOpen c 0
             → 1 < length c
-            → (D.view disk.new).contents ≡ Some c }
+            → (d : List ℕ) × ((D.view disk.new).contents ≡ Some d) × ((d ≡ c) ⊎ IsUpgrade c d) }
+        ensures upgraded { OnOk result ((c d : List ℕ) → (D.view disk.old).contents ≡ Some c
+            → (D.view disk.new).contents ≡ Some d → IsOpen c 0 → 1 < length c
+            → IsUpgraded c d) }
+
+        // A file that was made a store has 129 bytes or as many as it had, and a store as many.
+        ensures long { OnOk result ((c d : List ℕ) → (D.view disk.old).contents ≡ Some c
+            → (D.view disk.new).contents ≡ Some d → IsGrown c d) }
 
         // The state and the number of changes are those that the file stands for.
         ensures means { (c : List ℕ) (s : R.State) (n : ℕ) → (D.view disk.old).contents ≡ Some c
@@ -273,8 +387,8 @@ impl Journal {
         ensures calls { (c : List ℕ) → (D.view disk.old).contents ≡ Some c
             → Makes (opening_calls c) result (D.view disk.old) (D.view disk.new) }
 
-        // A cut at any moment leaves the file as it was, or of an unborn file an unborn one or a
-        // store without frames.
+        // A cut at any moment leaves the file as it was, or of one of version 1 the file but for
+        // that byte, or of an unborn file an unborn one or a store without frames.
         ensures any_moment { IsSettled (D.view disk.old) → (c : List ℕ)
             → (D.view disk.old).contents ≡ Some c
             → LeavesOnly (D.view disk.old) (D.view disk.new) (IsOpening digest.now c) }

@@ -1,13 +1,17 @@
 //! Reads the frames of a region, in order.
 ghost use Rattle.std.specs.Prelude.{◌≡◌, ◌+◌, ◌<◌, ◌≤◌, if◌then◌else◌, List, ℕ, length};
 ghost use Rattle.std.specs.Prelude.{slice_index, true, Ok, Err, None, Some, IfOk};
-ghost use Rattle.journal.specs.Store.{Frame, IsClosed, FramesAt, AreSized, frames_len, base_of};
+ghost use Rattle.disk_model.specs.Disk.{Holds};
+ghost use Rattle.journal.specs.Frame.{Frame, AreSound, frames_len, base_of};
+ghost use Rattle.journal.specs.Store.{IsClosed, FramesAt};
+ghost use Rattle.journal.specs.Frame.{region_digest};
 ghost use Rattle.journal.specs.Region.{IsFaultAt, IsFault, Runs};
 ghost use Rattle.journal.specs.ReaderAnswers.{IsTaken};
 ghost use Rattle.journal.specs.declared.region.RegionFault.TheVariants.{NotAStore};
 ghost use Rattle.journal.specs.declared.region.Taken.{Taken};
 
 use crate::fields::{Read, frame_at};
+use crate::head::digest_at;
 use crate::replay::{Replay, ReplayFault};
 
 /// Why a region was not read: its first fault, or want of memory.
@@ -17,7 +21,7 @@ pub enum RegionFault {
     NoMemory,
 }
 
-/// A frame that was taken.
+/// A frame that was taken. `size` is that of its digest and its body.
 #[derive(Clone, Copy)]
 pub struct Taken {
     pub snapshot: bool,
@@ -47,9 +51,15 @@ fn take_frame<R: Replay>(
         Read::End => Ok(None),
         Read::Cut => Err(RegionFault::NotAStore(at)),
         Read::Kind => Err(RegionFault::NotAStore(at + 1)),
-        Read::Empty => Err(RegionFault::NotAStore(at + 10)),
-        Read::Whole(snapshot, next, size) => {
-            let body = &bytes[at + 18..at + 18 + size];
+        Read::Short => Err(RegionFault::NotAStore(at + 10)),
+        Read::Whole {
+            snapshot,
+            last: next,
+            list,
+            size,
+        } => {
+            let begin = at + 18 + list;
+            let body = &bytes[begin..at + 18 + size];
             match into.frame(snapshot, body) {
                 Ok(changes) => {
                     if !snapshot && next != last.wrapping_add(changes) {
@@ -62,9 +72,9 @@ fn take_frame<R: Replay>(
                         changes,
                     }))
                 }
-                Err(ReplayFault::Bad(offset)) => Err(RegionFault::NotAStore(
-                    at + 18 + offset as usize,
-                )),
+                Err(ReplayFault::Bad(offset)) => {
+                    Err(RegionFault::NotAStore(begin + offset as usize))
+                }
                 Err(ReplayFault::NoMemory) => Err(RegionFault::NoMemory),
             }
         }
@@ -93,7 +103,7 @@ pub fn read_region<R: Replay>(
     into: &mut R,
 ) -> Result<Region, RegionFault>
     ensures frames { IfOk result (λ r. (frames : List Frame) × FramesAt bytes.now begin frames
-        × AreSized frames
+        × AreSound bytes.now frames
         × Runs (R.takes (R.rules into.old)) true R.empty 0 frames (R.state into.new) r.last
         × (r.end ≡ begin + frames_len frames) × (r.base ≡ base_of frames)) }
     ensures bad { (o : ℕ) → result ≡ Err (NotAStore o)
@@ -117,4 +127,22 @@ pub fn read_region<R: Replay>(
         last,
         base,
     })
+}
+
+/// The digest of the list under which a region stands: that which its snapshot names, and else that
+/// of the head.
+pub fn region_digest(bytes: &[u8], begin: usize) -> [u8; 32]
+    requires long { 129 ≤ length bytes.now }
+    requires region { (frames : List Frame) × FramesAt bytes.now begin frames
+        × AreSound bytes.now frames }
+    ensures len { length result ≡ 32 }
+    ensures digest { (kept : List ℕ) (frames : List Frame) → length kept ≡ 32
+        → Holds bytes.now 12 kept → FramesAt bytes.now begin frames → AreSound bytes.now frames
+        → result ≡ region_digest kept frames }
+{
+    if bytes[begin] != 0 && bytes[begin + 1] == 3 {
+        digest_at(bytes, begin + 18)
+    } else {
+        digest_at(bytes, 12)
+    }
 }

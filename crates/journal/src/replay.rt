@@ -1,5 +1,5 @@
 //! Who takes the frames of a store, without the journal knowing what they say.
-ghost use Rattle.std.specs.Prelude.{◌≡◌, ◌≤◌, ◌+◌, List, ℕ, Bool, length, IsErrOf, IfOk, OnErr};
+ghost use Rattle.std.specs.Prelude.{◌≡◌, ◌⊎◌, ◌≤◌, ◌+◌, List, ℕ, Bool, length, IsErrOf, IfOk, OnErr};
 ghost use Rattle.journal.specs.declared.replay.ReplayFault.TheVariants.{Bad};
 
 /// Why a frame was not taken.
@@ -61,4 +61,9 @@ pub trait Replay {
 
     ghost apart: { (by : Rules) (s : State) (kind : Bool) (body : List ℕ) (t : State) (n o : ℕ)
         → takes by s kind body t n → refuses by s kind body o → ⊥ };
+
+    // A body is taken or refused.
+    ghost either: { (by : Rules) (s : State) (kind : Bool) (body : List ℕ)
+        → ((t : State) × (n : ℕ) × takes by s kind body t n)
+        ⊎ ((o : ℕ) × refuses by s kind body o) };
 }

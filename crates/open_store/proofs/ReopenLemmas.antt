@@ -5,8 +5,9 @@ use Rattle.std.proofs.lemmas.Bool.{cases_lt}
 use Rattle.std.proofs.lemmas.Bool.Decides.{nat_tests}
 use Rattle.disk_model.specs.Disk.{Goes, IsSettled, LeavesOnly, Makes, View}
 use Rattle.disk_model.specs.DiskLaws.{IsLawful}
-use Rattle.journal.specs.Opening.{FileMeans, IsExcused, IsOpening, opening_calls}
+use Rattle.journal.specs.Opening.{FileMeans, IsExcused, IsOpening, IsUpgrade, opening_calls}
 use Rattle.journal.specs.Region.{StandsForState}
+use Rattle.journal.specs.Frame.{IsSecond}
 use Rattle.journal.specs.Store.{IsOpen, IsStore, IsUnborn}
 use Rattle.journal.specs.declared.open_fault.OpenFault.{OpenFault}
 use Rattle.journal.specs.declared.open_fault.OpenFault.TheVariants.{DeviceFault}
@@ -14,10 +15,11 @@ use Rattle.journal.proofs.Moments.{goes_from}
 use Rattle.journal.proofs.Refusals.{store_born, store_is_born}
 use Rattle.open_store.specs.Reopens.{IsFound, IsReopening, LeavesAnew, LeavesStores}
 
--- the opening of a born file is one sync
-born_calls : (file : List ℕ) → IsOpen file 0 × (1 < length file) → opening_calls file ≡ 1
-born_calls file (gate, long) =
-    let shut = gate.1 in grind (arith, nat_tests, shut, long)
+-- the opening of a born file of version 2 is one sync
+born_calls : (file : List ℕ) → IsOpen file 0 × (1 < length file) → IsSecond file
+    → opening_calls file ≡ 1
+born_calls file (gate, long) second =
+    let shut = gate.1 in grind (arith, nat_tests, shut, long, second)
 
 -- the calls of an opening of this file are all that are made
 same_calls : {T : Type 0} (result : Result T OpenFault) (file : List ℕ) (v r w : View)
@@ -45,7 +47,7 @@ module _ {S : Type 0} (takes : S → Bool → List ℕ → S → ℕ → Type 0)
       goes_from (λ _ d. v.may_leave d) v.contents now told.0 goes told.1
 
   left_stands : (base : S) × (last : ℕ) × StandsForState takes empty digest left.0 base last
-  left_stands = stores tells left.0 left.2
+  left_stands = (stores tells left.0 left.2).1
 
   module _ {T : Type 0} (state : S) (changes : T → ℕ) where
     abbrev Means : Result T OpenFault → Type 0
@@ -83,7 +85,7 @@ module _ {S : Type 0} (takes : S → Bool → List ℕ → S → ℕ → Type 0)
       let here = left in
       let stands = left_stands in
       same_calls result here.0 v r w
-      (born_calls here.0 (store_born digest here.0 stands.2.0 stands.2.1)) same
+      (born_calls here.0 (store_born digest here.0 stands.2.0 stands.2.1) (stores tells here.0 here.2).0) same
       (made here.0 (is ∙ here.1))
 
 -- ---- moments since the restart
@@ -153,11 +155,13 @@ nothing_made takes empty digest v laws stores file there =
     let was = there.0 in
     let may = there.1 in
     let tells = laws.untold v.moment was (laws.counts_now v.moment was (omega arith) may) in
-    let stood = stores tells was may in
+    let second = (stores tells was may).0 in
+    let stood = (stores tells was may).1 in
     let frames = stood.2.0 in
     ⊎_elim (λ (same : file ≡ was). subst (λ (c : List ℕ). v.may_leave c) (sym same) may)
+    (⊎_elim (λ (up : IsUpgrade was file). absurd (second up.first))
     (λ (made : IsUnborn was × (IsUnborn file ⊎ IsStore digest file [])).
-    absurd (store_is_born digest was frames stood.2.1 made.0))
+    absurd (store_is_born digest was frames stood.2.1 made.0)))
     there.2
 
 -- what a cut may leave now, it might have left before

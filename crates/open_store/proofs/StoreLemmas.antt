@@ -1,15 +1,16 @@
 -- What a store stands for, and what a commit and a checkpoint make of it.
-use Rattle.std.proofs.Common.{◌≡◌, inl, inr, ⊎_elim, ℕ, ◌+◌, ◌%◌, ◌^◌, ◌<◌, true, false, Bool, List, [], ◌∷◌, ◌++◌, length, Some, refl, sym, ap, subst, ◌∙◌, arith}
+use Rattle.std.proofs.Common.{◌≡◌, inl, inr, ℕ, ◌+◌, ◌%◌, ◌^◌, ◌<◌, true, false, Bool, List, [], ◌∷◌, ◌++◌, length, Some, refl, sym, ap, subst, ◌∙◌, arith}
 use Rattle.std.specs.Prelude.{Err, Ok, OnErr, OnOk, Result, is_err}
 use Rattle.disk_model.specs.Disk.{Device, LeavesOnly, View}
 use Rattle.disk_model.specs.DiskLaws.{IsLawful}
 use Rattle.journal.specs.Journal.{IsAtRest, IsBeforeOrAfter, IsBeforeOrSnapshot, JournalView, StandsInFile, next_frame, since_of, snapshot_frame}
 use Rattle.journal.specs.Region.{Runs, StandsForState}
-use Rattle.journal.specs.Store.{Frame, IsStore}
-use Rattle.journal.proofs.Meanings.{commit_stands_for}
+use Rattle.journal.specs.Frame.{Frame, IsSecond}
+use Rattle.journal.proofs.Meanings.{checkpoint_stands_for, commit_stands_for}
 use Rattle.journal.proofs.Moments.{started, weaker}
+use Rattle.journal.proofs.Refusals.{store_of}
 use Rattle.journal.proofs.Runs.{runs_push}
-use Rattle.open_store.specs.Commits.{BodyLeads, CommitDevice, IsEither}
+use Rattle.open_store.specs.Commits.{BodyLeads, CommitDevice, IsEither, IsEither2}
 use Rattle.open_store.specs.Standing.{IsReady, StandsAt}
 
 some_is : {A : Type 0} (a b : A) → Some a ≡ Some b → a ≡ b
@@ -18,25 +19,12 @@ some_is a b e = cc
 twice : (n : ℕ) → n % 2 ^ 64 % 2 ^ 64 ≡ n % 2 ^ 64
 twice n = omega arith
 
-pub stands_store : (j : JournalView) (file : List ℕ) (frames : List Frame) → StandsInFile j file frames
-    → IsStore j.digest file frames
-stands_store j file frames s = record {
-  live = j.live;
-  number = j.number;
-  begin = j.begin;
-  head = s.head;
-  from = s.from;
-  fits = s.fits;
-  frames_at = s.frames_at;
-  sized = s.sized;
-}
-
 module _ {S : Type 0} (takes : S → Bool → List ℕ → S → ℕ → Type 0) (empty : S) where
   module _ (j : JournalView) (v : View) (base : S) (at : StandsAt takes empty j v base) where
     pub contents_stand : (c : List ℕ) → v.contents ≡ Some c
         → StandsForState takes empty j.digest c base j.changes
     contents_stand c told =
-        let here = at.stands c told in (here.0, stands_store j c here.0 here.1, here.2)
+        let here = at.stands c told in (here.0, store_of j c here.0 here.1, here.2)
 
     pub images_stand : (c : List ℕ) → v.may_leave c
         → StandsForState takes empty j.digest c base j.changes
@@ -85,12 +73,16 @@ module _ {S : Type 0} (takes : S → Bool → List ℕ → S → ℕ → Type 0)
       let same = nothing_leads base next body changes none leads in
       (subst (λ (d : S). StandsAt takes empty j v d) (sym same.1) at, omega (arith, same.0))
 
+  -- and it has version 2
+  pub images_second : (j : JournalView) (v : View) (base : S) → StandsAt takes empty j v base → (c : List ℕ) → v.may_leave c → IsSecond c
+  images_second j v base at c left = (at.stands c (at.rests.settled c left)).1.second
+
   pub nothing_moments : (j : JournalView) (v : View) (base next : S) (later : ℕ) → IsLawful v
       → StandsAt takes empty j v base
       → LeavesOnly v v (IsEither takes empty j.digest base j.changes next later)
   nothing_moments j v base next later laws at =
       started v (IsEither takes empty j.digest base j.changes next later) laws.only_now
-      (λ c left. inl (images_stand j v base at c left))
+      (λ c left. (images_second j v base at c left, inl (images_stand j v base at c left)))
 
   -- ---- a body with a byte
 
@@ -142,21 +134,24 @@ module _ {S : Type 0} (takes : S → Bool → List ℕ → S → ℕ → Type 0)
         let stood = at.stands told.0 told.1 in
         weaker v w (IsBeforeOrAfter j.digest stood.0 (next_frame j body changes))
         (IsEither takes empty j.digest base j.changes next ((j.changes + changes) % 2 ^ 64))
-        (λ file. commit_stands_for takes empty j.digest file body stood.0 base next j.changes
-        changes stood.2 some (something_leads base next body changes some leads))
+        (λ file there. (
+          there.0,
+          commit_stands_for takes empty j.digest file body stood.0 base next
+              j.changes changes stood.2 some (something_leads base next body changes some leads) there,
+        ))
         (moments told.0 stood.0 told.1 stood.1)
 
   -- ---- a snapshot
 
   -- the snapshot alone stands for the state that its body is of
-  snapshot_runs : (j : JournalView) (body : List ℕ) (next : S) (counted : ℕ)
+  snapshot_runs : (j : JournalView) (digest body : List ℕ) (next : S) (counted : ℕ)
       → takes empty true body next counted
-      → Runs takes true empty 0 (snapshot_frame j body ∷ []) next j.changes
-  snapshot_runs j body next counted taken = (next, counted, refl, taken, tt, (refl, refl))
+      → Runs takes true empty 0 (snapshot_frame j digest body ∷ []) next j.changes
+  snapshot_runs j digest body next counted taken = (next, counted, refl, taken, tt, (refl, refl))
 
-  module _ (j k : JournalView) (v w : View) (body : List ℕ) where
+  module _ (j k : JournalView) (v w : View) (digest body : List ℕ) where
     abbrev Snapped : Type 0
-    Snapped = Leaves j k v w (λ frames. snapshot_frame j body ∷ [])
+    Snapped = Leaves j k v w (λ frames. snapshot_frame j digest body ∷ [])
 
     pub checkpoint_done : {T E : Type 0} (result : Result T E) → IsLawful v → IsLawful w
         → w.tells ≡ v.tells → OnOk result (IsAtRest k w) → k.shut ≡ is_err result
@@ -166,27 +161,30 @@ module _ {S : Type 0} (takes : S → Bool → List ℕ → S → ℕ → Type 0)
         → takes empty true body next counted → StandsAt takes empty k w next)
     checkpoint_done (Ok x) before after tells rests shut count acknowledged =
         λ base next counted at taken.
-        let snapshot = snapshot_frame j body ∷ [] in
+        let snapshot = snapshot_frame j digest body ∷ [] in
         leaves_at j k v w (λ frames. snapshot) base next before after tells rests shut at
         acknowledged (λ frames runs.
         subst (λ (n : ℕ). Runs takes true empty 0 snapshot next n) (sym count)
-        (snapshot_runs j body next counted taken))
+        (snapshot_runs j digest body next counted taken))
     checkpoint_done (Err e) before after tells rests shut count acknowledged = tt
 
     pub checkpoint_moments : (base next : S) (counted : ℕ) → StandsAt takes empty j v base
         → takes empty true body next counted → IsLawful v → v.tells ≡ true
         → ((c : List ℕ) (frames : List Frame) → v.contents ≡ Some c → StandsInFile j c frames
-        → LeavesOnly v w (IsBeforeOrSnapshot j.digest frames (snapshot_frame j body)))
-        → LeavesOnly v w (IsEither takes empty j.digest base j.changes next j.changes)
+        → LeavesOnly v w (IsBeforeOrSnapshot j.digest frames (snapshot_frame j digest body)))
+        → LeavesOnly v w
+        (IsEither2 takes empty j.digest base j.changes digest next j.changes)
     checkpoint_moments base next counted at taken laws tells moments =
         let told = laws.told tells in
         let stood = at.stands told.0 told.1 in
-        let snapshot = snapshot_frame j body in
+        let snapshot = snapshot_frame j digest body in
         weaker v w (IsBeforeOrSnapshot j.digest stood.0 snapshot)
-        (IsEither takes empty j.digest base j.changes next j.changes)
-        (λ file. ⊎_elim (λ (was : IsStore j.digest file stood.0). inl (stood.0, was, stood.2))
-        (λ (now : IsStore j.digest file (snapshot ∷ [])).
-        inr (snapshot ∷ [], now, snapshot_runs j body next counted taken)))
+        (IsEither2 takes empty j.digest base j.changes digest next j.changes)
+        (λ file there. (
+          there.0,
+          checkpoint_stands_for takes empty j.digest digest file body stood.0
+              base next j.changes counted stood.2 taken there,
+        ))
         (moments told.0 stood.0 told.1 stood.1)
 
 -- no change was made since a snapshot

@@ -8,6 +8,7 @@ use Rattle.disk_model.specs.Disk.{HasFailed, View}
 use Rattle.journal.specs.Journal.{HasRoom, JournalView}
 use Rattle.journal.specs.Opening.{HasNoFault}
 use Rattle.journal.specs.Region.{StandsForState, TakesOf}
+use Rattle.journal.specs.Frame.{IsSecond}
 
 -- the body of a batch leads from a state to another by so many changes, and by none to the same
 -- where it is empty
@@ -16,12 +17,19 @@ BodyLeads takes base body changes next =
     ((body ≡ []) × (changes ≡ 0) × (next ≡ base))
     ⊎ ((0 < length body) × takes base false body next changes)
 
--- a file stands for one state and number of changes, or for another
+-- a file of version 2 stands for one state and number of changes under one list's digest, or for
+-- another under another
+abbrev pub IsEither2 : {S : Type 0} → TakesOf S → S → (digest : List ℕ) → S → ℕ
+    → (given : List ℕ) → S → ℕ → List ℕ → Type 0
+IsEither2 takes empty digest base last given next later file =
+    IsSecond file × (StandsForState takes empty digest file base last
+    ⊎ StandsForState takes empty given file next later)
+
+-- and under the same
 abbrev pub IsEither : {S : Type 0} → TakesOf S → S → (digest : List ℕ) → S → ℕ → S → ℕ → List ℕ
     → Type 0
 IsEither takes empty digest base last next later file =
-    StandsForState takes empty digest file base last
-    ⊎ StandsForState takes empty digest file next later
+    IsEither2 takes empty digest base last digest next later file
 
 -- the commit of a body of so many bytes takes no memory
 abbrev pub HasRoomFor : JournalView → View → ℕ → Type 0

@@ -5,22 +5,24 @@ use Rattle.agent_base.specs.Counts.{Rose}
 use Rattle.disk_model.specs.Disk.{HasFailed, IsNextCut, View, WasOff}
 use Rattle.journal.specs.Opening.{IsOpening}
 use Rattle.journal.specs.Region.{StandsForState, TakesOf}
+use Rattle.journal.specs.Frame.{IsSecond}
 use Rattle.journal.specs.declared.open_fault.OpenFault.{OpenFault}
 use Rattle.journal.specs.declared.open_fault.OpenFault.TheVariants.{DeviceFault}
 
--- whatever a cut leaves of a disk that tells its contents is a store that stands for some state
+-- whatever a cut leaves of a disk that tells its contents is a store of version 2 that stands for
+-- some state
 abbrev pub LeavesStores : {S : Type 0} → TakesOf S → S → (digest : List ℕ) → View → Type 0
 LeavesStores {S} takes empty digest view =
     view.tells ≡ true → (file : List ℕ) → view.may_leave file
-    → (base : S) × (last : ℕ) × StandsForState takes empty digest file base last
+    → IsSecond file × ((base : S) × (last : ℕ) × StandsForState takes empty digest file base last)
 
 -- a cut may leave a store that stands for this, after so many changes
 abbrev pub IsFound : {S : Type 0} → TakesOf S → S → (digest : List ℕ) → View → S → ℕ → Type 0
 IsFound takes empty digest view base last =
     (file : List ℕ) × view.may_leave file × StandsForState takes empty digest file base last
 
--- what an opening leaves of a file that a cut might have left: that file, or of an unborn one what
--- is made of it
+-- what an opening leaves of a file that a cut might have left: that file, one of version 1 but for
+-- its version, or of an unborn one what is made of it
 abbrev pub IsReopening : (digest : List ℕ) → View → List ℕ → Type 0
 IsReopening digest view file = (was : List ℕ) × view.may_leave was × IsOpening digest was file
 

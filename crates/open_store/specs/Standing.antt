@@ -5,7 +5,7 @@ use Rattle.disk_model.specs.Disk.{Stays, View}
 use Rattle.journal.specs.Journal.{IsAtRest, JournalView, StandsInFile}
 use Rattle.journal.specs.Opening.{HasNoFault}
 use Rattle.journal.specs.Region.{Runs, TakesOf}
-use Rattle.journal.specs.Store.{Frame}
+use Rattle.journal.specs.Frame.{Frame}
 
 -- a call of the store may follow
 pub record IsReady (journal : JournalView) (view : View) : Type 0 where

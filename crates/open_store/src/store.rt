@@ -1,8 +1,9 @@
 //! The store.
-ghost use Rattle.std.specs.Prelude.{◌≡◌, ◌+◌, ◌%◌, ◌^◌, true, ℕ, List, [], length, IsOk, OnOk};
+ghost use Rattle.std.specs.Prelude.{◌≡◌, ◌+◌, ◌%◌, ◌^◌, true, ℕ, List, [], length, IsOk, OnErr, OnOk};
 ghost use Rattle.disk_model.specs.Disk.{LeavesOnly};
 ghost use Rattle.journal.specs.Journal.{HasRoom, since_of};
 ghost use Rattle.open_store.specs.Commits.{BodyLeads, CommitDevice, HasRoomFor, IsEither};
+ghost use Rattle.open_store.specs.Commits.{IsEither2};
 ghost use Rattle.open_store.specs.Standing.{IsReady, IsRoomier, StandsAt};
 
 use agent_base::NoMemory;
@@ -64,34 +65,42 @@ impl<D: Disk + Drop> Store<D> {
         self.journal.commit(&mut self.disk, body, changes)
     }
 
-    /// Puts a snapshot in the place of the frames. Takes no memory. At most seven changing calls.
-    pub fn checkpoint<R: Replay>(&mut self, body: &[u8]) -> Result<(), DeviceFault>
+    /// Puts a snapshot of the state that is to stand, under a list of this digest, in the place of
+    /// the frames. Takes no memory. At most seven changing calls.
+    pub fn checkpoint<R: Replay>(
+        &mut self,
+        digest: &[u8; 32],
+        body: &[u8],
+    ) -> Result<(), DeviceFault>
         requires ready { IsReady self.old.journal (D.view self.old.disk) }
         requires room { HasRoom self.old.journal (D.view self.old.disk) (length body.now) }
 
-        // The store stands for the state that the body is a snapshot of, after as many changes as
-        // before, none of them since the snapshot.
+        // The store stands for the state that the body is a snapshot of, under the new digest,
+        // after as many changes as before, none of them since the snapshot.
         ensures done { OnOk result ((by : R.Rules) (base next : R.State) (counted : ℕ)
             → StandsAt (R.takes by) R.empty self.old.journal (D.view self.old.disk) base
             → R.takes by R.empty true body.now next counted
             → StandsAt (R.takes by) R.empty self.new.journal (D.view self.new.disk) next) }
         ensures ready { OnOk result (IsReady self.new.journal (D.view self.new.disk)) }
+        ensures digest { OnOk result (self.new.journal.digest ≡ digest.now) }
         ensures changes { OnOk result (self.new.journal.changes ≡ self.old.journal.changes) }
         ensures since { OnOk result (since_of self.new.journal ≡ 0) }
 
-        // A cut at any moment leaves the one state or the other, after as many changes.
+        // A cut at any moment leaves the one state under the old digest, or the other under the new
+        // one, after as many changes.
         ensures any_moment { (by : R.Rules) (base next : R.State) (counted : ℕ)
             → StandsAt (R.takes by) R.empty self.old.journal (D.view self.old.disk) base
             → R.takes by R.empty true body.now next counted
             → (D.view self.old.disk).tells ≡ true
             → LeavesOnly (D.view self.old.disk) (D.view self.new.disk)
-            (IsEither (R.takes by) R.empty self.old.journal.digest
-            base self.old.journal.changes next self.old.journal.changes) }
+            (IsEither2 (R.takes by) R.empty
+            self.old.journal.digest base self.old.journal.changes
+            digest.now next self.old.journal.changes) }
 
-        ensures digest { self.new.journal.digest ≡ self.old.journal.digest }
+        ensures failed { OnErr result (self.new.journal.digest ≡ self.old.journal.digest) }
         ensures device { CommitDevice 7 result (D.view self.old.disk) (D.view self.new.disk) }
     {
         let _changes = self.journal.changes();
-        self.journal.checkpoint(&mut self.disk, body)
+        self.journal.checkpoint(&mut self.disk, digest, body)
     }
 }

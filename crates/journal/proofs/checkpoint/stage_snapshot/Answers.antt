@@ -2,8 +2,9 @@ use Rattle.std.proofs.Common.{◌≡◌, ◌≤◌, ◌+◌, ◌%◌, ◌^◌, �
 use Rattle.std.specs.Prelude.{Option, Some}
 use Rattle.disk_model.specs.Disk.{View, Goes, IsSettled, Stays, LeavesOnly, Holds}
 use Rattle.journal.specs.Append.{IsStaging, IsStaged}
-use Rattle.journal.specs.CheckpointParts.{IsRegion}
-use Rattle.journal.specs.Store.{Frame, IsStore, IsClosed, IsOlder, slot_bytes, other_at}
+use Rattle.journal.specs.CheckpointParts.{IsRegion, IsStillStore}
+use Rattle.journal.specs.Frame.{Frame}
+use Rattle.journal.specs.Store.{IsStore, IsClosed, IsOlder, slot_bytes, other_at}
 use Rattle.journal.proofs.Moments.{weaker, goes_from, goes_back, started, stays_on, and_then, settled_images}
 use Rattle.journal.proofs.Snapshots.{stage_closed, stage_open, between_closed, between_open, other_small}
 use Rattle.std.proofs.lemmas.Result.{on_ok_weaker}
@@ -11,11 +12,11 @@ use Rattle.journal.proofs.checkpoint.stage_snapshot.Goals as goal
 
 -- the frames stand while the gate is read, and in each moment of the writes that leave them
 stands_through : (v w y : View) (digest file : List ℕ) (live : Bool) (number begin end : ℕ) (frames : List Frame) (Q : List ℕ → Type 0) → ((c : List ℕ) → v.left_since v.moment c → v.may_leave c) → IsSettled v → v.contents ≡ Some file
-    → IsRegion digest file live number begin end frames → Stays v w → ((image : List ℕ) → Q image → IsStore digest image frames) → LeavesOnly w y Q → LeavesOnly v y (λ image. IsStore digest image frames)
+    → IsRegion digest file live number begin end frames → Stays v w → ((image : List ℕ) → Q image → IsStillStore digest frames image) → LeavesOnly w y Q → LeavesOnly v y (IsStillStore digest frames)
 stands_through v w y digest file live number begin end frames Q only settled is r stays to moments =
-    let P = λ (image : List ℕ). IsStore digest image frames in
-    let store : IsStore digest file frames = record { live = live; number = number; begin = begin; head = r.head; from = r.from; fits = r.fits; frames_at = r.frames_at; sized = r.sized } in
-    let read = stays_on v v w P (started v P only (settled_images v file P settled is store)) stays in
+    let P = IsStillStore digest frames in
+    let store : IsStore digest file frames = record { kept = r.kept; live = live; number = number; begin = begin; head = r.head; from = r.from; fits = r.fits; frames_at = r.frames_at; sound = r.sound; under = r.under } in
+    let read = stays_on v v w P (started v P only (settled_images v file P settled is (r.second, store))) stays in
     and_then v w y P read (weaker w y Q P to moments)
 
 -- the gate that was read is that of the head's other slot
@@ -67,7 +68,7 @@ returns-else-gate-eq0-clause-any_moment g c = λ x digest begin end frames is r 
     (stage_open digest x live c.args.number begin end frames r to len apart o.0 o.1 o.2 o.3) moments
 
 pub returns-then-gate-eq0-clause-between : goal.returns-then-gate-eq0-clause-between
-returns-then-gate-eq0-clause-between g c = on_ok_weaker c.stage.result (λ goes. λ x digest begin end frames f is r apart block_is.
+returns-then-gate-eq0-clause-between g c = on_ok_weaker c.stage.result (λ goes. λ x digest begin end frames f is r apart block.
     let live = c.args.live in
     let to = c.args.to in
     let len = length c.args.block.now in
@@ -79,11 +80,11 @@ returns-then-gate-eq0-clause-between g c = on_ok_weaker c.stage.result (λ goes.
       next.0,
       next.1,
       between_closed digest x live c.args.number begin end frames r to len apart f (c.other_slot-other.result + 1) 8 c.to_le_bytes.result next.0
-          (omega (arith, other)) (omega (arith, other, eight)) (ap (λ (l : List ℕ). length l) block_is) (subst B block_is next.2) (omega (arith, other)) shut,
+          (omega (arith, other)) (omega (arith, other, eight)) (ap (λ (l : List ℕ). length l) block.bytes) (subst B block.bytes next.2) (omega (arith, other)) shut,
     )) c.stage.ensures.written
 
 pub returns-else-gate-eq0-clause-between : goal.returns-else-gate-eq0-clause-between
-returns-else-gate-eq0-clause-between g c = on_ok_weaker c.stage-else-gate-eq0.result (λ goes. λ x digest begin end frames f is r apart block_is.
+returns-else-gate-eq0-clause-between g c = on_ok_weaker c.stage-else-gate-eq0.result (λ goes. λ x digest begin end frames f is r apart block.
     let to = c.args.to in
     let other = c.other_slot-other.ensures in
     let next = goes_from _ _ _ x goes (c.byte_at.ensures.stays.contents ∙ is) in
@@ -91,7 +92,7 @@ returns-else-gate-eq0-clause-between g c = on_ok_weaker c.stage-else-gate-eq0.re
       next.0,
       next.1,
       between_open digest x c.args.live c.args.number begin end frames r to (length c.args.block.now) apart f c.other_slot-other.result 1 (0 ∷ []) next.0
-          (omega (arith, other)) (omega (arith, other)) (ap (λ (l : List ℕ). length l) block_is) (subst B block_is next.2) other refl,
+          (omega (arith, other)) (omega (arith, other)) (ap (λ (l : List ℕ). length l) block.bytes) (subst B block.bytes next.2) other refl,
     )) c.stage-else-gate-eq0.ensures.written
 
 -- what is written over a long file leaves it long

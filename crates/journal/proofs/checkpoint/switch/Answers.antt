@@ -35,10 +35,10 @@ returns-clause-switches g c =
     record {
       settled = c.append.ensures.settled;
       any_moment = λ y digest begin end frames f is region apart block.
-          let b = c.in_ok-stage_snapshot.ensures.between y digest begin end frames f is region apart block.bytes in
-          then_switched v w x c.args.live c.args.number c.args.to digest b.0 begin frames f to_fits block.last block.size b.1 b.2 c.other_slot.result c.slot_piece.result c.other_slot.ensures piece
+          let b = c.in_ok-stage_snapshot.ensures.between y digest begin end frames f is region apart block in
+          then_switched v w x c.args.live c.args.number c.args.to digest b.0 begin frames f to_fits c.args.block.now block b.1 b.2 c.other_slot.result c.slot_piece.result c.other_slot.ensures piece
           (c.stage_snapshot.ensures.any_moment y digest begin end frames is region apart) c.append.ensures.any_moment;
       switched = on_ok_weaker c.append.result (λ goes. λ y digest begin end frames f is region apart block.
-          let b = c.in_ok-stage_snapshot.ensures.between y digest begin end frames f is region apart block.bytes in
-          is_switched v w x c.args.live c.args.number c.args.to digest b.0 begin frames f to_fits block.last block.size b.1 b.2 c.other_slot.result c.slot_piece.result c.other_slot.ensures piece goes) c.append.ensures.written;
+          let b = c.in_ok-stage_snapshot.ensures.between y digest begin end frames f is region apart block in
+          is_switched v w x c.args.live c.args.number c.args.to digest b.0 begin frames f to_fits c.args.block.now block b.1 b.2 c.other_slot.result c.slot_piece.result c.other_slot.ensures piece goes) c.append.ensures.written;
     }

@@ -1,9 +1,10 @@
-use Rattle.std.proofs.Common.{◌≡◌, ◌⊎◌, ◌≤◌, ◌∷◌, [], List, ℕ, length, slice_index, arith, ◌∙◌, subst, refl, rules}
+use Rattle.std.proofs.Common.{◌≡◌, ◌⊎◌, ◌≤◌, ◌∷◌, [], List, ℕ, length, slice_index, arith, ap, ◌∙◌, subst, refl, rules}
 use Rattle.disk_model.specs.Disk.{View, Written, LeavesOnly}
 use Rattle.journal.specs.Append.{IsAppending}
 use Rattle.journal.specs.Store.{IsUnborn, IsStore, new_head}
-use Rattle.journal.proofs.Moments.{weaker, goes_back}
-use Rattle.journal.proofs.Birth.{birth, born_parts, opened}
+use Rattle.journal.specs.Opening.{IsGrown}
+use Rattle.journal.proofs.Moments.{weaker, goes_back, goes_weaker}
+use Rattle.journal.proofs.Birth.{birth, born_parts, is_second, opened, head_long}
 use Rattle.journal.proofs.opening.make.Goals as goal
 
 -- what an append of the head leaves at each moment
@@ -31,4 +32,13 @@ returns-clause-made g c = λ d told.
     let written = subst (λ (b : List ℕ). Written 0 (1 ∷ b) was.0 d) block was.2 in
     let o = opened digest was.0 d written in
     let parts = born_parts digest d size o.1 o.0 in
-    record { head = parts.0; from = omega arith; fits = omega arith; frames_at = parts.1; sized = tt; end = refl; last = refl; base = refl }
+    record { kept = digest; head = parts.0; from = omega arith; fits = omega arith; frames_at = parts.1; sound = tt; second = is_second digest d size o.1; under = refl; end = refl; last = refl; base = refl }
+
+pub returns-clause-long : goal.returns-clause-long
+returns-clause-long g c =
+    let V = g.D.Disk.view in
+    let digest = c.args.digest.now in
+    let size : length digest ≡ 32 = search rules in
+    let block = c.deref.ensures.value ∙ c.in-Ok.ensures in
+    goes_weaker _ IsGrown (V c.args.disk.now).contents (V c.append.new.disk).contents c.in-Ok-append.ensures.written
+    (λ x d is w. omega (arith, w.len, ap length block, head_long digest size))

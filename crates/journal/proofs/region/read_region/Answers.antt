@@ -1,11 +1,11 @@
 use Rattle.std.proofs.Common.{◌≡◌, ◌+◌, ◌∷◌, ◌++◌, [], List, ap, ℕ, Bool, Ok, Err, None, Some, true, arith, sym, ◌∙◌, subst, rules}
 use Rattle.std.specs.Prelude.{if◌then◌else◌}
-use Rattle.journal.specs.Store.{Frame, frames_len, base_of}
+use Rattle.journal.specs.Frame.{Frame, frames_len, base_of}
 use Rattle.journal.specs.Region.{is_first, IsRightKind, IsFaultAt, Runs}
 use Rattle.journal.specs.declared.region.Taken.{Taken}
 use Rattle.journal.specs.declared.region.RegionFault.TheVariants.{NotAStore}
 use Rattle.journal.proofs.Runs.{opens_push, opens_end, runs_push, fresh_is, frames_len-push, is_first-push, base-push}
-use Rattle.journal.proofs.Sized.{sized_push}
+use Rattle.journal.proofs.Frames.{sound_push}
 use Rattle.journal.proofs.region.read_region.Goals as goal
 
 base_is : (frames : List Frame) (f : Frame) (base : ℕ) (taken : Taken) → IsRightKind (is_first frames) f.snapshot f.body → base ≡ base_of frames → f.snapshot ≡ taken.snapshot → f.last ≡ taken.last
@@ -42,7 +42,7 @@ loop-taken-preserved g c =
       subst Q t.5 runs,
       omega (arith, frames_len-push i.0 f, t.6, i.3),
       sym (is_first-push i.0 f),
-      sized_push i.0 f i.5 t.1.4 t.1.5,
+      sound_push c.args.bytes.now i.0 f i.5 t.1.4 t.1.5 t.1.6,
       c.base_after-base.ensures ∙ sym (base_is i.0 f c.loop-taken.base c.in-Some.taken (subst (λ (b : Bool). IsRightKind b f.snapshot f.body) i.4 t.1.2) i.6 t.4 t.5),
       c.take_frame.ensures.rules ∙ i.7,
     )

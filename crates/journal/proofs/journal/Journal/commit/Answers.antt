@@ -1,13 +1,13 @@
 use Rattle.std.proofs.Common.{◌≡◌, ◌+◌, ◌%◌, ◌^◌, ◌-◌, ◌∷◌, ◌++◌, [], false, List, ℕ, length, take, drop, arith, length-append, sym, ap, ◌∙◌, subst}
 use Rattle.std.specs.Prelude.{vec_capacity}
-use Rattle.journal.specs.Store.{Frame, encoded}
+use Rattle.journal.specs.Frame.{Frame, encoded}
 use Rattle.journal.specs.Journal.{JournalView, IsAtRest}
 use Rattle.journal.proofs.Frames.{length-encoded}
 use Rattle.journal.proofs.Committed.{place_of, behind_first, inside_of, commit_moments, commit_stands, commit_rests}
 use Rattle.journal.proofs.journal.Journal.commit.Goals as goal
 
 -- how long a frame's block is, without its gate
-block_long : (f : Frame) (block : List ℕ) → block ≡ 1 ∷ encoded f ++ 0 ∷ [] → length (take (length block - 1) (drop 1 block)) ≡ 18 + length f.body
+block_long : (f : Frame) (block : List ℕ) → block ≡ 1 ∷ encoded f ++ 0 ∷ [] → length (take (length block - 1) (drop 1 block)) ≡ 18 + (length f.list + length f.body)
 block_long f block is = ap length (behind_first 1 block (encoded f ++ 0 ∷ []) is) ∙ omega (arith, length-append (encoded f) (0 ∷ []), length-encoded f)
 
 pub append-requires-clause-place : goal.append-requires-clause-place
@@ -17,13 +17,13 @@ append-requires-clause-place g c =
 
 pub append-requires-clause-room : goal.append-requires-clause-room
 append-requires-clause-room g c =
-    let f : Frame = record { snapshot = false; last = (c.self.inside.changes + c.args.changes) % 2 ^ 64; body = c.args.body.now } in
+    let f : Frame = record { snapshot = false; last = (c.self.inside.changes + c.args.changes) % 2 ^ 64; list = []; body = c.args.body.now } in
     let end : c.self.inside.end ≡ c.args.self.now.end = ap (λ (j : JournalView). j.end) c.self.view_is in
     omega (arith, c.requires.room.end, block_long f c.deref.result.now (c.deref.ensures.value ∙ c.in-Ok.ensures.items), end)
 
 pub append-requires-clause-fits : goal.append-requires-clause-fits
 append-requires-clause-fits g c =
-    let f : Frame = record { snapshot = false; last = (c.self.inside.changes + c.args.changes) % 2 ^ 64; body = c.args.body.now } in
+    let f : Frame = record { snapshot = false; last = (c.self.inside.changes + c.args.changes) % 2 ^ 64; list = []; body = c.args.body.now } in
     let end : c.self.inside.end ≡ c.args.self.now.end = ap (λ (j : JournalView). j.end) c.self.view_is in
     omega (arith, c.requires.room.fits, block_long f c.deref.result.now (c.deref.ensures.value ∙ c.in-Ok.ensures.items), end)
 

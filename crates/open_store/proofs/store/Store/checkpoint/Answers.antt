@@ -20,7 +20,7 @@ returns-clause-done g c =
     → StandsAt (g.R.Replay.takes by) g.R.Replay.empty c.checkpoint.new.self w next)
     (λ by.
     checkpoint_done (g.R.Replay.takes by) g.R.Replay.empty j c.checkpoint.new.self v w
-    c.args.body.now c.checkpoint.result (g.met.D.Disk.lawful c.args.self.now.disk)
+    c.args.digest.now c.args.body.now c.checkpoint.result (g.met.D.Disk.lawful c.args.self.now.disk)
     (g.met.D.Disk.lawful c.checkpoint.new.disk) e.device.faults.tells e.at_rest e.shut
     (on_ok_weaker c.checkpoint.result (λ done. ap (λ (i : JournalView). i.changes) done) e.done)
     e.acknowledged)
@@ -29,5 +29,5 @@ pub returns-clause-any_moment : goal.returns-clause-any_moment
 returns-clause-any_moment g c = λ by base next counted at taken tells.
     checkpoint_moments (g.R.Replay.takes by) g.R.Replay.empty c.args.self.now.journal
     c.checkpoint.new.self (g.D.Disk.view c.args.self.now.disk) (g.D.Disk.view c.checkpoint.new.disk)
-    c.args.body.now base next counted at taken (g.met.D.Disk.lawful c.args.self.now.disk) tells
+    c.args.digest.now c.args.body.now base next counted at taken (g.met.D.Disk.lawful c.args.self.now.disk) tells
     c.checkpoint.ensures.any_moment

@@ -7,7 +7,7 @@ use Rattle.unwinding.specs.Durable.{IsKeptOf, apply_all}
 use Rattle.disk_model.specs.Disk.{LeavesOnly, View}
 use Rattle.disk_model.specs.DiskLaws.{IsLawful}
 use Rattle.journal.specs.Journal.{JournalView}
-use Rattle.open_store.specs.Commits.{IsEither}
+use Rattle.open_store.specs.Commits.{IsEither2}
 use Rattle.suffix_list.specs.Suffix.{Rule}
 use Rattle.access_grants.specs.Grant.{HasDistinctPairs}
 use Rattle.reply_lines.specs.Plain.{reply_of}
@@ -77,12 +77,22 @@ module _ (rules : List Rule) (a : AgentSeen) (none : length a.pending ≡ 0) whe
 
 -- ---- what a checkpoint does to a store
 
--- what each moment of it leaves, whatever the store stands for
-abbrev pub LeavesSnapshot : JournalView → View → View → List ℕ → Type 0
-LeavesSnapshot j v w body =
+-- what each moment of it leaves, whatever the store stands for, under a list of this digest
+abbrev pub LeavesUnder : JournalView → View → View → (body given : List ℕ) → Type 0
+LeavesUnder j v w body given =
     (rules : List Rule) (base next : Saved) (counted : ℕ) → IsAtBase rules j v base
     → Takes rules nothing_saved true body next counted → v.tells ≡ true
-    → LeavesOnly v w (IsEither (Takes rules) nothing_saved j.digest base j.changes next j.changes)
+    → LeavesOnly v w
+    (IsEither2 (Takes rules) nothing_saved j.digest base j.changes given next j.changes)
+
+-- and under the store's own
+abbrev pub LeavesSnapshot : JournalView → View → View → List ℕ → Type 0
+LeavesSnapshot j v w body = LeavesUnder j v w body j.digest
+
+pub leaves_own : (j : JournalView) (v w : View) (body given : List ℕ) → given ≡ j.digest
+    → LeavesUnder j v w body given → LeavesSnapshot j v w body
+leaves_own j v w body given same leaves =
+    subst (λ (d : List ℕ). LeavesUnder j v w body d) same leaves
 
 -- what it makes of what the store stands for
 abbrev pub PutsSnapshot : JournalView → JournalView → View → View → List ℕ → Type 0

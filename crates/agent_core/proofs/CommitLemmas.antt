@@ -145,7 +145,7 @@ module _ {D : Type 0} (x : AgentView D) (v : View) (a : AgentSeen) (held : IsHel
       x.journal.changes). (held.base, x.journal.changes, s, inl (sym held.state)))
       (λ (s : StandsForState (Takes x.memory.rules) nothing_saved x.journal.digest file next later).
       (next, later, s, inr is))
-      either)
+      either.1)
       leaves
 
 -- ---- the open batch of an agent that is up
@@ -179,14 +179,16 @@ module _ {D : Type 0} (x : AgentView D) (v : View) (a : AgentSeen) (up : IsUp x 
         moments.each file (after.counts_now v.moment file moments.later left)
 
     pub failed_stores : LeavesStores x.memory.rules x.journal.digest w
-    failed_stores tells file left =
-        ⊎_elim
-        (λ (s : StandsForState (Takes x.memory.rules) nothing_saved x.journal.digest file up.base
-        x.journal.changes).
-        store_of x.memory.rules x.journal.digest file up.base x.journal.changes s)
-        (λ (s : StandsForState (Takes x.memory.rules) nothing_saved x.journal.digest file next later).
-        store_of x.memory.rules x.journal.digest file next later s)
-        (either file left)
+    failed_stores tells file left = (
+      (either file left).0,
+      ⊎_elim
+          (λ (s : StandsForState (Takes x.memory.rules) nothing_saved x.journal.digest file up.base
+          x.journal.changes).
+          store_of x.memory.rules x.journal.digest file up.base x.journal.changes s)
+          (λ (s : StandsForState (Takes x.memory.rules) nothing_saved x.journal.digest file next later).
+          store_of x.memory.rules x.journal.digest file next later s)
+          (either file left).1,
+    )
 
     pub failed_may : (d : AgentDurable) (n : ℕ)
         → may_find x.memory.rules x.journal.digest x.opened w d n
@@ -211,7 +213,7 @@ module _ {D : Type 0} (x : AgentView D) (v : View) (a : AgentSeen) (up : IsUp x 
           left.5 ∙ ap durable_of same.0 ∙ state,
           left.6 ∙ ap (λ (i : ℕ). since_opening i x.opened) same.1 ∙ sym count,
         ))
-        (either left.0 left.1)
+        (either left.0 left.1).1
 
 -- ---- a commit that succeeded
 

@@ -8,7 +8,7 @@ use Rattle.journal.specs.Opening.{FileMeans, HasNoFault, IsWithin, Opens, limit}
 use Rattle.journal.specs.declared.open_fault.OpenFault.{OpenFault}
 use Rattle.journal.specs.declared.open_fault.OpenFault.TheVariants as fault
 use Rattle.journal.specs.Region.{Runs}
-use Rattle.journal.specs.Store.{Frame}
+use Rattle.journal.specs.Frame.{Frame}
 use Rattle.suffix_list.specs.ListText.{RuleList}
 use Rattle.suffix_list.specs.Suffix.{Rule}
 use Rattle.durable_model.specs.Saved.{IsValid, Saved, nothing_saved}

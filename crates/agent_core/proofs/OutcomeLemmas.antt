@@ -7,6 +7,7 @@ use Rattle.disk_model.specs.Disk.{FailedPowered, HasFailed, IsNextCut, View, Was
 use Rattle.journal.specs.Journal.{JournalView}
 use Rattle.journal.specs.Opening.{HasNoFault}
 use Rattle.journal.specs.Region.{StandsForState}
+use Rattle.journal.specs.Frame.{IsSecond}
 use Rattle.suffix_list.specs.Suffix.{Rule}
 use Rattle.script_actions.specs.Action.{PlainAction}
 use Rattle.reply_lines.specs.Reply.{PlainReply}
@@ -170,8 +171,8 @@ module _ (j j' : JournalView) (v w : View) (roomier : IsRoomier j j' v w) where
       → LeavesStores rules j'.digest w
   roomier_stores rules stores tells file left =
       subst
-      (λ (i : JournalView). (base : Saved) × (last : ℕ)
-      × StandsForState (Takes rules) nothing_saved i.digest file base last)
+      (λ (i : JournalView). IsSecond file × ((base : Saved) × (last : ℕ)
+      × StandsForState (Takes rules) nothing_saved i.digest file base last))
       (sym roomier.journal)
       (stores (sym roomier.stays.tells ∙ tells) file (roomier.stays.no_more file left))
 

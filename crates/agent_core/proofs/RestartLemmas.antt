@@ -363,7 +363,7 @@ module _ {D : Type 0} (told : D → View) (was old : AgentView D) (list : RuleLi
       nothing_made (Takes list.rules) nothing_saved list.digest v laws (stores_here a here) file
       there in
       let tells = laws.untold v.moment file (laws.counts_now v.moment file (omega arith) may) in
-      let stood = here.stores tells file may in (
+      let stood = (here.stores tells file may).1 in (
         may,
         stood.0,
         stood.1,

@@ -35,7 +35,7 @@ use Rattle.agent_core.specs.Seen.{AgentSeen, IsAtBase, IsBatch, IsUp, LeavesStor
 use Rattle.agent_core.specs.Standing.{IsHeld}
 use Rattle.agent_core.specs.declared.agent.Power.{Power}
 use Rattle.agent_core.proofs.BatchLemmas.{after_append, body_append, line_rows, made_texts, made_writable, valid_append}
-use Rattle.agent_core.proofs.StoreLemmas.{contents_stand, images_stand, roomier_base, stands_one}
+use Rattle.agent_core.proofs.StoreLemmas.{contents_stand, images_second, images_stand, roomier_base, stands_one}
 
 -- an agent of these parts
 abbrev pub from_parts : {D : Type 0} → AgentState → ℕ → PlainBatch → JournalView → ℕ → ℕ → Power → D
@@ -210,9 +210,12 @@ up_at_base x v a up d n left =
 pub up_stores : {D : Type 0} (x : AgentView D) (v : View) (a : AgentSeen) → IsUp x v a
     → LeavesStores x.memory.rules x.journal.digest v
 up_stores x v a up tells file left = (
-  up.base,
-  x.journal.changes,
-  images_stand x.memory.rules x.journal v up.base up.store file left,
+  images_second x.memory.rules x.journal v up.base up.store file left,
+  (
+    up.base,
+    x.journal.changes,
+    images_stand x.memory.rules x.journal v up.base up.store file left,
+  ),
 )
 
 -- and it may find it

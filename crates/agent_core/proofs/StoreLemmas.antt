@@ -7,6 +7,7 @@ use Rattle.disk_model.specs.DiskLaws.{IsLawful}
 use Rattle.journal.specs.Journal.{JournalView}
 use Rattle.journal.specs.Opening.{FileMeans}
 use Rattle.journal.specs.Region.{Runs, StandsForState}
+use Rattle.journal.specs.Frame.{IsSecond}
 use Rattle.journal.proofs.Moments.{started, stays_on}
 use Rattle.journal.proofs.Refusals.{means_unique}
 use Rattle.open_store.specs.Standing.{IsRoomier}
@@ -46,6 +47,10 @@ pub images_stand : (rules : List Rule) (j : JournalView) (v : View) (base : Save
     → IsAtBase rules j v base → (c : List ℕ) → v.may_leave c
     → StandsForState (Takes rules) nothing_saved j.digest c base j.changes
 images_stand rules j v base at = store.images_stand (Takes rules) nothing_saved j v base at
+
+pub images_second : (rules : List Rule) (j : JournalView) (v : View) (base : Saved)
+    → IsAtBase rules j v base → (c : List ℕ) → v.may_leave c → IsSecond c
+images_second rules j v base at = store.images_second (Takes rules) nothing_saved j v base at
 
 -- nothing was done but that room was made
 pub nothing_left : (v w : View) (P : List ℕ → Type 0) → IsLawful v → Stays v w

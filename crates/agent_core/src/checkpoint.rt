@@ -110,7 +110,8 @@ impl<'l, D: Disk + Drop> Agent<'l, D> {
         ensures tidy { IsTidy result self.new }
     {
         bodies_mean_states();
-        match self.store.checkpoint::<Rows>(body) {
+        let digest = *self.store.journal.digest();
+        match self.store.checkpoint::<Rows>(&digest, body) {
             Err(DeviceFault) => {
                 self.power = Power::Down;
                 Outcome::Down

@@ -154,12 +154,13 @@ impl<'l> Rows<'l> {
 }
 
 impl<'l> Replay for Rows<'l> {
-    ghost use Rattle.std.proofs.Common.{ap, subst, sym, ◌∙◌};
-    ghost use Rattle.std.specs.Prelude.{◌≡◌, ⊤, ℕ, List, MatchResult, Result, unwrap_or};
+    ghost use Rattle.std.proofs.Common.{ap, inl, inr, refl, subst, sym, ◌∙◌};
+    ghost use Rattle.std.specs.Prelude.{◌≡◌, ◌⊎◌, ⊤, ℕ, Err, List, MatchResult, Ok, Result};
+    ghost use Rattle.std.specs.Prelude.{unwrap_or};
     ghost use Rattle.std.specs.Result.{result_err, result_unwrap_or};
     ghost use Rattle.suffix_list.specs.Suffix.{Rule};
     ghost use Rattle.durable_model.specs.Saved.{Saved, nothing_saved};
-    ghost use Rattle.row_store.specs.Bodies.{Counted, Refuses, Takes};
+    ghost use Rattle.row_store.specs.Bodies.{Counted, Refuses, Takes, body_means};
     ghost use Rattle.row_store.specs.Stored.{saved_of};
 
     ghost State = { Saved };
@@ -187,6 +188,14 @@ impl<'l> Replay for Rows<'l> {
 
     ghost apart = { λ by s kind body t n o took refused.
         subst (λ r. MatchResult r (λ _. ⊤) (λ _. ⊥)) (sym took ∙ refused) tt };
+
+    ghost either = { λ by s kind body.
+        (elim (body_means by s kind body) as (λ (r : Result Counted ℕ).
+        body_means by s kind body ≡ r → ((t : Saved) × (n : ℕ) × Takes by s kind body t n)
+        ⊎ ((o : ℕ) × Refuses by s kind body o)) [
+          | Ok read ↦ λ is. inl (read.0, read.1, is)
+          | Err offset ↦ λ is. inr (offset, is)
+        ]) refl };
 
     fn begin(&mut self) {
         self.parts = Parts::new(self.alloc);

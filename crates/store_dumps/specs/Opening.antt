@@ -6,7 +6,7 @@ use Rattle.std.specs.Prelude.{◌≡◌, ◌⊎◌, ◌<◌, ℕ, List, length, 
 use Rattle.std.specs.Prelude.{IfErr, IsErrOf, MatchResult, OnOk}
 use Rattle.disk_model.specs.Disk.{IsSettled, LeavesOnly, Makes, View}
 use Rattle.journal.specs.Opening.{FileMeans, IsExcused, IsLimitRefusal, IsOfFile, IsOpening}
-use Rattle.journal.specs.Opening.{IsOver, IsRefusal, IsWithin, Opens, opening_calls}
+use Rattle.journal.specs.Opening.{IsOver, IsRefusal, IsUpgrade, IsWithin, Opens, opening_calls}
 use Rattle.journal.specs.Store.{IsOpen}
 use Rattle.journal.specs.declared.open_fault.OpenFault.{OpenFault}
 use Rattle.suffix_list.specs.ListText.{RuleList}
@@ -46,11 +46,11 @@ pub record OpensStore {T : Type 0} (list : RuleList) (old new : View) (result : 
   -- a file that stands for a state is opened, but for want of memory and device faults
   pub excused : (c : List ℕ) (d : Saved) (n : ℕ) → old.contents ≡ Some c → IsWithin true c
       → FileMeans (Takes list.rules) nothing_saved list.digest c d n → IfErr result IsExcused
-  -- a file that is refused stays as it is, and so does a store
+  -- a file that is refused stays as it is, and so does a store, but for the byte of its version
   pub unchanged : (why : OpenFault) → IsErrOf result why → IsOfFile why
       → new.contents ≡ old.contents
   pub kept : (c : List ℕ) → old.contents ≡ Some c → IsOpen c 0 → 1 < length c
-      → new.contents ≡ Some c
+      → (d : List ℕ) × (new.contents ≡ Some d) × ((d ≡ c) ⊎ IsUpgrade c d)
   -- a device fault comes where a call of the disk failed
   pub device : Opens result old new
   pub settled : OnOk result (IsSettled new)

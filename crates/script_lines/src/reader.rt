@@ -1,6 +1,6 @@
 //! Reading a script.
 ghost use Rattle.std.specs.Prelude.{◌≡◌, ◌≤◌, ◌<◌, ◌∷◌, ◌++◌, ◌+◌, IfErr, IfOk, IsErrOf, OnOk};
-ghost use Rattle.std.specs.Prelude.{[], Ok, Err, ◌==◌, ◌⊎◌, IfSome, MatchOption, MatchResult};
+ghost use Rattle.std.specs.Prelude.{[], Ok, Err, None, ◌==◌, ◌⊎◌, IfSome, MatchOption, MatchResult};
 ghost use Rattle.std.specs.Prelude.{option_to_list};
 ghost use Rattle.std.specs.Prelude.{false, position, true, length, map, Some, option_copied, option_map};
 ghost use Rattle.std.specs.List.{All};
@@ -196,13 +196,23 @@ fn line_end(bytes: &[u8]) -> Option<usize>
     memchr(b'\n', bytes)
 }
 
-fn read_line(
+/// Reads one line of bytes, which has this number in its script: the line that they are, none where
+/// they are blank, or their first fault. The scratch is kept from line to line.
+///
+/// A line of a script has no line feed. Here one is white space, as it is to JSON.
+pub fn read_line(
     alloc: Global,
     line: &[u8],
     number: u32,
     scratch: &mut Scratch,
 ) -> Result<Option<Line>, ScriptFault>
-    ensures { Reads (option_map line_of) (line_of_bytes number line.now) result }
+    ensures line { Reads (option_map line_of) (line_of_bytes number line.now) result }
+    // What takes no memory is never told as want of it.
+    ensures blank { spec.is_blank line.now ≡ true → MatchResult result (λ l. l ≡ None) (λ _. ⊥) }
+    ensures too_long { spec.is_blank line.now ≡ false → spec.line_limit < length line.now
+        → IsErrOf result (ScriptFault.LineTooLong number) }
+    ensures not_utf8 { spec.is_blank line.now ≡ false → length line.now ≤ spec.line_limit
+        → is_utf8 line.now ≡ false → IsErrOf result (ScriptFault.NotUtf8 number) }
 {
     if is_blank(line) {
         return Ok(None);
@@ -226,7 +236,11 @@ pub fn json_in<'a>(
     number: u32,
     scratch: &'a mut Scratch,
 ) -> Result<JsonLine<'a>, ScriptFault>
-    ensures { Reads data_of_line (spec.data_of_bytes number line.now) result }
+    ensures data { Reads data_of_line (spec.data_of_bytes number line.now) result }
+    ensures too_long { spec.line_limit < length line.now
+        → IsErrOf result (ScriptFault.LineTooLong number) }
+    ensures not_utf8 { length line.now ≤ spec.line_limit → is_utf8 line.now ≡ false
+        → IsErrOf result (ScriptFault.NotUtf8 number) }
 {
     if line.len() > LINE_LIMIT {
         return Err(ScriptFault::LineTooLong(number));

@@ -28,7 +28,8 @@ use Rattle.agent_core.specs.declared.outcome.Outcome.{Outcome}
 use Rattle.agent_core.specs.declared.outcome.Outcome.TheVariants.{Replies, Held, Down, NoMemory}
 use Rattle.store_runs.specs.Courses.{Steps}
 use Rattle.store_runs.specs.CutCourses.{moment_of}
-use Rattle.store_runs.specs.Calls.{BreaksOff, Called, FailsAgain, IsQuiet, OpensAgain, Pays, StaysOrRose, Stepped, Stops, ToldAt, over_call, spent}
+use Rattle.store_runs.specs.Calls.{BreaksOff, Called, FailsAgain, IsQuiet, OpensAgain, Pays, StaysOrRose, Stops, ToldAt, over_call, spent}
+use Rattle.store_runs.specs.Moments.{StopsBefore}
 use Rattle.store_runs.specs.Closing.{Ends}
 use Rattle.printed_model.specs.Histories.{down_reply, restart_reply}
 use Rattle.store_runs.specs.Waiting.{replies_text}
@@ -466,24 +467,27 @@ module _ {D : Type 0} (tell : D → View) (old new : AgentView D) where
   restart_called (Err (fault.OtherList kept given)) means device makes told some a seen fits = absurd (means told a seen).2
   restart_called (Err (fault.TooLarge len)) means device makes told some a seen fits = absurd (means told a seen).2
 
-  -- no line ran
-  pub memory_stops : (step : PlainStep) → Called tell old new (ToldAt step (tell old.disk)) ⊥ [] []
-      → Stops tell old new step Memory
-  memory_stops step called = ([], inl refl, ([], called))
-
-  -- a restart that was refused stops the run
+  -- a restart that was refused did not run
   pub restart_stops : (why : OpenFault) → (why ≡ fault.DeviceFault → ⊥)
       → ((tell old.disk).tells ≡ true → (a : AgentSeen) → IsSeen old (tell old.disk) a
       → (b : AgentSeen) × IsSeen new (tell new.disk) b
       × RestartMeans old.memory.rules a (may_of old (tell old.disk)) b (may_of new (tell new.disk)) (Err why))
       → RestartDevice (Err why) (tell old.disk) (tell new.disk)
       → ((tell old.disk).tells ≡ true → (a : AgentSeen) → IsSeen old (tell old.disk) a
-      → Makes {T = ℕ} 1 (Err why) (tell old.disk) (tell new.disk)) → Stops tell old new Reopens (ending_of why)
+      → Makes {T = ℕ} 1 (Err why) (tell old.disk) (tell new.disk)) → StopsBefore tell old new Reopens (ending_of why)
   restart_stops fault.DeviceFault other means device makes = absurd (other refl)
-  restart_stops fault.NoMemory other means device makes = memory_stops Reopens (restart_called (Err fault.NoMemory) means device makes)
-  restart_stops (fault.NotAStore offset) other means device makes = (tt, λ told a seen. (means told a seen).2)
-  restart_stops (fault.OtherList kept given) other means device makes = (tt, λ told a seen. (means told a seen).2)
-  restart_stops (fault.TooLarge len) other means device makes = (tt, λ told a seen. (means told a seen).2)
+  restart_stops fault.NoMemory other means device makes = restart_called (Err fault.NoMemory) means device makes
+  restart_stops (fault.NotAStore offset) other means device makes = (tt, refl, λ told a seen. (means told a seen).2)
+  restart_stops (fault.OtherList kept given) other means device makes = (tt, refl, λ told a seen. (means told a seen).2)
+  restart_stops (fault.TooLarge len) other means device makes = (tt, refl, λ told a seen. (means told a seen).2)
+
+  -- a line that did not run stops the run
+  pub stops_within : (step : PlainStep) (ending : Ending) → StopsBefore tell old new step ending → Stops tell old new step ending
+  stops_within step Memory called = ([], inl refl, ([], called))
+  stops_within step (Store why) stops = (stops.0, λ told a seen. stops.2 (subst (λ s. ToldAt s (tell old.disk)) stops.1 told) a seen)
+  stops_within step Done stops = absurd stops
+  stops_within step Device stops = absurd stops
+  stops_within step Write stops = absurd stops
 
   -- a line ran, and its text has no room to wait
   stops_ran : (step : PlainStep) (text : List ℕ)
@@ -504,17 +508,19 @@ module _ {D : Type 0} (tell : D → View) (old new : AgentView D) where
     ),
   )
 
-  -- a call that stepped, and one whose text has no room to wait, of the step that is asked for
-  module _ (asked step : PlainStep) (text : List ℕ) (same : asked ≡ step)
-      (called : Called tell old new (ToldAt step (tell old.disk)) (Unit {0}) (step ∷ []) text) where
-    pub stepped_as : (before now : List ℕ) → now ≡ before ++ text → Stepped tell old new asked before now
-    stepped_as before now shows =
-        subst (λ s. Stepped tell old new s before now) (sym same) (text, shows, called)
+  -- one whose text has no room to wait
+  pub wanting_ran : {T : Type 0} (step : PlainStep) (text : List ℕ)
+      → Called tell old new (ToldAt step (tell old.disk)) (Unit {0}) (step ∷ []) text
+      → (r : Result T Ending) → IsErrAnd r (λ e. e ≡ Memory) → IfErr r (Stops tell old new step)
+  wanting_ran step text called r err = wanting_stops r (Stops tell old new step) err (stops_ran step text called)
 
-    pub wanting_ran : {T : Type 0} (r : Result T Ending) → IsErrAnd r (λ e. e ≡ Memory) → IfErr r (Stops tell old new asked)
-    wanting_ran r err =
-        wanting_stops r (Stops tell old new asked) err
-        (subst (λ s. Stops tell old new s Memory) (sym same) (stops_ran step text called))
+  -- a call that ran a line, of the step that is asked for and with the text that is shown
+  pub called_as : (asked step : PlainStep) (text shown : List ℕ) → asked ≡ step → shown ≡ text
+      → Called tell old new (ToldAt step (tell old.disk)) (Unit {0}) (step ∷ []) text
+      → Called tell old new (ToldAt asked (tell old.disk)) (Unit {0}) (asked ∷ []) shown
+  called_as asked step text shown same is called =
+      subst (λ s. Called tell old new (ToldAt s (tell old.disk)) (Unit {0}) (s ∷ []) shown) (sym same)
+      (subst (λ t. Called tell old new (ToldAt step (tell old.disk)) (Unit {0}) (step ∷ []) t) (sym is) called)
 
   -- the last commit, by what it is answered
   module _ (outcome : Outcome)

@@ -12,7 +12,7 @@ use Rattle.disk_model.specs.History.{Event, Past, held}
 use Rattle.disk_model.specs.MemDisk.{numbers_of}
 use Rattle.disk_model.specs.declared.schedule.Cut.{Cut}
 use Rattle.journal.specs.Journal.{StandsInFile, since_of}
-use Rattle.journal.specs.Opening.{AnswersByCuts, IsExcused, IsOfFile, IsOpening, IsRefusal, opening_calls}
+use Rattle.journal.specs.Opening.{AnswersByCuts, IsExcused, IsOfFile, IsOpening, IsRefusal, IsUpgrade, opening_calls}
 use Rattle.journal.specs.Store.{IsStore, IsUnborn}
 use Rattle.journal.specs.declared.open_fault.OpenFault.{OpenFault}
 use Rattle.journal.specs.declared.open_fault.OpenFault.TheVariants as fault
@@ -27,8 +27,9 @@ use Rattle.agent_core.specs.AgentView.{AgentView, may_of}
 use Rattle.agent_core.specs.Calls.{checkpoint_calls}
 use Rattle.agent_core.specs.Seen.{AgentSeen, IsSeen}
 use Rattle.journal.proofs.Cuts.{fails_by_cut, first_ahead}
-use Rattle.journal.proofs.Refusals.{store_is_born}
+use Rattle.journal.proofs.Refusals.{store_is_born, store_of}
 use Rattle.journal.proofs.Unique.{store_unique}
+use Rattle.journal.proofs.Upgrades.{upgrade_unborn}
 use Rattle.store_runs.specs.CutBounds.{MeetsCuts, fault_places}
 use Rattle.store_runs.specs.Disks.{BeginsWithin, CutsOpening, IsMeantBy, IsRefusedOn, IsUnopened, LeavesDisk, OpensByCuts, WritesInMemory, WritesOn}
 use Rattle.store_runs.specs.Endings.{ending_of}
@@ -45,7 +46,7 @@ use Rattle.store_runs.proofs.EndLemmas.{refused_exactly}
 use Rattle.store_runs.proofs.FrontLemmas.{first_other}
 use Rattle.store_runs.proofs.LoopLemmas.{opens_up}
 use Rattle.store_runs.proofs.StopLemmas.{writes_other}
-use Rattle.store_runs.proofs.TidyLemmas.{since_is, store_of}
+use Rattle.store_runs.proofs.TidyLemmas.{since_is}
 
 -- an empty disk has no bytes
 pub held_nothing : (past : Past) → past.first ≡ [] → past.events ≡ []
@@ -118,11 +119,13 @@ made_none_due agent old view a digest file seen up laws told is unborn only =
     subst (λ d. IsStore d now found.0) is (store_of agent.journal now found.0 found.1) in
     ⊎_elim
     (λ same. absurd (store_is_born digest now found.0 store (subst IsUnborn (sym same) unborn)))
-    (λ made. ⊎_elim
+    (⊎_elim
+    (λ (up : IsUpgrade file now). absurd (store_is_born digest now found.0 store (upgrade_unborn file now unborn up)))
+    (λ (made : IsUnborn file × (IsUnborn now ⊎ IsStore digest now [])). ⊎_elim
     (λ still. absurd (store_is_born digest now found.0 store still))
     (λ fresh. none_due_yet agent now
-    (subst (StandsInFile agent.journal now) (store_unique digest now found.0 [] store fresh) found.1))
-    made.1)
+    (subst (StandsInFile agent.journal now) (store_unique digest digest now found.0 [] store fresh).0 found.1))
+    made.1))
     (only.each now (laws.counts_now old.moment now only.later (laws.contents_may_stay now has.1)))
 
 -- ---- a run over a disk

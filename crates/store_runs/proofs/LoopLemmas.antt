@@ -3,8 +3,8 @@ use Rattle.std.proofs.Common.{◌≡◌, ◌≢◌, ℕ, ◌+◌, ◌<◌, ◌�
 use Rattle.std.proofs.lemmas.Bool.{cases_Bool, false≢true}
 use Rattle.std.proofs.lemmas.List.{length-map, length-take-le, map-append, take-append-drop, take_more}
 use Rattle.agent_base.specs.Counts.{Rose}
-use Rattle.unwinding.specs.Admissible.{History}
-use Rattle.unwinding.specs.Course.{AtBase, IsAt, answer_all, empty_course, executed_lines}
+use Rattle.unwinding.specs.Admissible.{History, IsAdmissible}
+use Rattle.unwinding.specs.Course.{AtBase, Course, IsAt, answer_all, empty_course, executed_lines}
 use Rattle.unwinding.specs.CourseSteps.{base_of, committed, forward, history_of, last_opening, reopened}
 use Rattle.unwinding.proofs.CourseRestarts.{admissible_stretch, ends_answered, ends_lost}
 use Rattle.unwinding.proofs.CourseScript.{steps_answered}
@@ -87,6 +87,34 @@ IsUsual Memory = Unit {0}
 pub opens_up : (rules : List Rule) (x : AgentOpening) → (just_opened rules x).up ≡ true
 unfolding reopened
 opens_up rules x = refl
+
+-- ---- a course that ends where it stands
+
+module _ (rules : List Rule) (batch : ℕ) (x : AgentOpening) (r : Course PlainAction) where
+  -- what waits for its batch is lost
+  abbrev pub cut_off : History PlainAction
+  cut_off = history_of (machine rules) keeping x false r
+
+  pub cut_off_text : history_text rules x cut_off ≡ text_on rules x r
+  unfolding history_replies text_on
+  cut_off_text = refl
+
+  module _ (a : AgentSeen) (may : AgentMay) (on : On rules batch x r a may) where
+    pub cut_off_admissible : IsAdmissible (machine rules) keeping batch x cut_off
+    unfolding On
+    cut_off_admissible = ends_lost (machine rules) keeping batch x r a may on
+
+    pub cut_off_leaves : (rest : List PlainStep) → Leaves rules batch x may rest cut_off
+    unfolding On
+    cut_off_leaves rest d n left =
+        let o = last_opening (machine rules) keeping x r in
+        let kept = admissible_stretch (machine rules) keeping batch x o r on.batches on.whole on.short d n (on.images d n left) in
+        record {
+          left = record { kept = n; may = ⊎_elim (λ k. inl k) (λ t. inr (inl t)) kept.0.2; state = kept.1 };
+          whole = λ some. kept.0.2;
+        }
+
+-- ---- the course of a run
 
 module _ (rules : List Rule) (batch : ℕ) (x : AgentOpening) (watch : Watch) where
   -- no line has run yet
@@ -177,20 +205,16 @@ module _ (rules : List Rule) (batch : ℕ) (x : AgentOpening) (watch : Watch) wh
 
     -- the run ends here, and what waits for its batch is lost
     abbrev lost : History PlainAction
-    lost = history_of (machine rules) keeping x false on.course
+    lost = cut_off rules batch x on.course
 
     lost_is : IsHistoryOf rules batch x watch.Quiet steps lost
-    unfolding On downs_on
+    unfolding downs_on
     lost_is = record {
-      admissible = ends_lost (machine rules) keeping batch x on.course a may on.on;
+      admissible = cut_off_admissible rules batch x on.course a may on.on;
       lines =
           on.runs;
       quiet = on.downs;
     }
-
-    lost_text : history_text rules x lost ≡ text_on rules x on.course
-    unfolding history_replies text_on
-    lost_text = refl
 
     -- so it ends where a line opens the store again, and of its text the front was written
     pub course_began : Began rules batch x watch.Quiet steps (λ text. TakesFront first out text waiting)
@@ -200,7 +224,7 @@ module _ (rules : List Rule) (batch : ℕ) (x : AgentOpening) (watch : Watch) wh
       lost = refl;
       more = [];
       text = subst (λ t. TakesFront first out t waiting)
-          (sym (append-nil (history_text rules x lost) ∙ lost_text)) on.text;
+          (sym (append-nil (history_text rules x lost) ∙ cut_off_text rules batch x on.course)) on.text;
     }
 
     -- the faults that it shows
@@ -251,15 +275,7 @@ module _ (rules : List Rule) (batch : ℕ) (x : AgentOpening) (watch : Watch) wh
     none_left history d left = record { left = left; whole = λ some. absurd (some refl) }
 
     lost_leaves : (rest : List PlainStep) → Leaves rules batch x may rest lost
-    unfolding On
-    lost_leaves rest d n left =
-        let o = last_opening (machine rules) keeping x on.course in
-        let kept = admissible_stretch (machine rules) keeping batch x o on.course on.on.batches on.on.whole on.on.short d n
-        (on.on.images d n left) in
-        record {
-          left = record { kept = n; may = ⊎_elim (λ k. inl k) (λ t. inr (inl t)) kept.0.2; state = kept.1 };
-          whole = λ some. kept.0.2;
-        }
+    lost_leaves = cut_off_leaves rules batch x on.course a may on.on
 
     -- or it was committed
     abbrev answered : History PlainAction
@@ -374,7 +390,7 @@ module _ (rules : List Rule) (batch : ℕ) (x : AgentOpening) (watch : Watch) wh
       history = lost;
       «is» = lost_is;
       whole = λ committed. absurd (false≢true committed);
-      text = subst (TakesPrefix first later) (sym lost_text)
+      text = subst (TakesPrefix first later) (sym (cut_off_text rules batch x on.course))
           (front_part first out later (text_on rules x on.course) waiting on.text took);
       left = left;
     }
@@ -496,7 +512,7 @@ module _ (rules : List Rule) (batch : ℕ) (x : AgentOpening) (watch : Watch) wh
             record {
               history = lost;
               «is» = lost_is;
-              text = subst (Takes first later) (sym lost_text)
+              text = subst (Takes first later) (sym (cut_off_text rules batch x on.course))
                   (front_end first out later (text_on rules x on.course) waiting on.text ok.1.0);
               left = (
                 tried_leaves b may' goes,

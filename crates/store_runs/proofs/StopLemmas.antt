@@ -89,7 +89,7 @@ left_files : {D : Type 0} (v : AgentView D) (view : View) (b : AgentSeen) (list 
     → Leaves list.rules batch x (may_of v view) rest history → LeavesHistory list batch x view.may_leave rest history
 unfolding may_find
 left_files v view b list batch x rest history told seen is_rules is_digest leaves file image =
-    let store = seen.stores told file image in (
+    let store = (seen.stores told file image).1 in (
       store.0,
       store.1,
       subst (λ digest. StandsForState (bodies.Takes list.rules) nothing_saved digest file store.0 store.1) is_digest

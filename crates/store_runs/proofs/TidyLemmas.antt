@@ -4,7 +4,8 @@ use Rattle.std.proofs.lemmas.Bool.{and_cases, eqb-true, leb-false, not-false}
 use Rattle.std.specs.Prelude.{◌==◌, nat_le}
 use Rattle.disk_model.specs.Disk.{View}
 use Rattle.journal.specs.Journal.{JournalView, StandsInFile, since_of}
-use Rattle.journal.specs.Store.{Frame, IsStore, last_of}
+use Rattle.journal.specs.Frame.{Frame, last_of}
+use Rattle.journal.proofs.Refusals.{store_of}
 use Rattle.agent_core.specs.AgentView.{AgentView, is_due}
 use Rattle.agent_core.specs.Seen.{AgentSeen, IsSeen}
 use Rattle.store_runs.specs.Tidy.{LeavesTidy, changes_since}
@@ -23,19 +24,6 @@ pub since_is : (journal : JournalView) (file : List ℕ) (frames : List Frame) �
 since_is journal file frames stands =
     ap (λ changes. (changes + (2 ^ 64 - journal.base)) % 2 ^ 64) stands.last
     ∙ ap (λ base. (last_of 0 frames + (2 ^ 64 - base)) % 2 ^ 64) stands.base
-
-pub store_of : (journal : JournalView) (file : List ℕ) (frames : List Frame) → StandsInFile journal file frames
-    → IsStore journal.digest file frames
-store_of journal file frames stands = record {
-  live = journal.live;
-  number = journal.number;
-  begin = journal.begin;
-  head = stands.head;
-  from = stands.from;
-  fits = stands.fits;
-  frames_at = stands.frames_at;
-  sized = stands.sized;
-}
 
 -- what a cut leaves of an agent's disk is its store
 pub tidy_files : {D : Type 0} (v : AgentView D) (view : View) (a : AgentSeen) → IsSeen v view a → a.up ≡ true

@@ -1,5 +1,4 @@
--- What each call of an agent makes of the courses that it stands on, and of faults. Only private
--- functions see it.
+-- What each call of an agent makes of the courses that it stands on, and of faults.
 -- Source: none; these are the words of the general law.
 use Rattle.std.specs.Prelude.{◌≡◌, ◌⊎◌, ℕ, ◌+◌, ◌*◌, ◌<◌, ◌≤◌, min, Bool, true, false, List, []}
 use Rattle.std.specs.Prelude.{◌∷◌, ◌++◌, Option, Some}

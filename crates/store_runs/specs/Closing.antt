@@ -1,5 +1,4 @@
--- The calls behind the last line: the last commit, and the checkpoint behind it. Only private
--- functions see it.
+-- The calls behind the last line: the last commit, and the checkpoint behind it.
 -- Source: none; these are the words of the general law.
 use Rattle.std.specs.Prelude.{◌≡◌, ◌⊎◌, ℕ, true, List, [], ◌++◌, length}
 use Rattle.unwinding.specs.Course.{AtBase}

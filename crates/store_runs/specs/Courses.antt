@@ -1,4 +1,4 @@
--- How lines go on over an agent. Only private functions see it.
+-- How lines go on over an agent.
 -- Source: none; these are the words of the general law.
 use Rattle.std.specs.Prelude.{◌≡◌, ℕ, ◌+◌, false, List, [], ◌++◌, Option, Some}
 use Rattle.unwinding.specs.Admissible.{History}

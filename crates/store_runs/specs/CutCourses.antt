@@ -1,4 +1,4 @@
--- The faults that a course shows, and the cuts that came until then. Only private functions see it.
+-- The faults that a course shows, and the cuts that came until then.
 -- Source: none; these are the words of the general law.
 use Rattle.std.specs.Prelude.{◌≡◌, ℕ, ◌+◌, ◌≤◌, Bool, true, false, List, [], ◌∷◌, ◌++◌, length}
 use Rattle.std.specs.Prelude.{Option, Some}

@@ -1,5 +1,4 @@
 -- The disk's count of faults over the calls of an agent, whether or not it tells its contents.
--- Only private functions see it.
 -- Source: none; these are the words of the general law.
 use Rattle.std.specs.Prelude.{◌≡◌, ℕ, ◌-◌, ◌^◌, ◌≤◌, min}
 use Rattle.agent_base.specs.Counts.{Rose}

@@ -8,10 +8,11 @@ pub mod CutBounds
 pub mod Fronts
 pub mod Tidy
 pub mod Disks
--- What private functions compute. No public clause rests on it.
 pub mod Waiting
+pub mod Answers
 pub mod CutCourses
 pub mod Courses
 pub mod FaultCounts
 pub mod Calls
 pub mod Closing
+pub mod Moments

@@ -4,7 +4,8 @@
 -- since the store was made.
 use Rattle.std.specs.Prelude.{◌≡◌, ◌⊎◌, ℕ, ◌+◌, ◌-◌, ◌%◌, ◌^◌, ◌<◌, false, List}
 use Rattle.disk_model.specs.Disk.{View}
-use Rattle.journal.specs.Store.{Frame, IsStore, base_of, last_of}
+use Rattle.journal.specs.Frame.{Frame, base_of, last_of}
+use Rattle.journal.specs.Store.{IsStore}
 use Rattle.agent_core.specs.AgentView.{AgentView, is_due}
 
 -- how many durable changes the frames behind a store's snapshot have, modulo 2^64

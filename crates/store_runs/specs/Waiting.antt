@@ -1,4 +1,4 @@
--- Replies that wait in memory, and are written together. Only private functions see it.
+-- Replies that wait in memory, and are written together.
 -- Source: none.
 use Rattle.std.specs.Prelude.{◌≡◌, ◌⊎◌, ℕ, List, ◌++◌, flat_map, Option}
 use Rattle.agent_base.specs.Counts.{Rose}

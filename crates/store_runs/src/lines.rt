@@ -1,10 +1,9 @@
 //! Lines, run one by one over an agent. Their replies wait in memory, and are written together.
 ghost use Rattle.std.specs.Prelude.{◌≡◌, ◌<◌, ◌+◌, ◌^◌, [], IfErr, OnErr, OnOk, false, length};
 ghost use Rattle.std.specs.Prelude.{true};
-ghost use Rattle.unwinding.specs.Admissible.{Acts, Reopens};
 ghost use Rattle.agent_base.specs.Counts.{Rose};
 ghost use Rattle.durable_model.specs.Histories.{AgentOpening};
-ghost use Rattle.script_actions.specs.Plain.{action_of, step_of};
+ghost use Rattle.script_actions.specs.Plain.{step_of};
 ghost use Rattle.agent_core.specs.AgentView.{owes};
 ghost use Rattle.agent_core.specs.declared.agent.Power.TheVariants as power;
 ghost use Rattle.store_runs.specs.FaultCounts.{KeepsCount};
@@ -21,15 +20,12 @@ ghost use Rattle.store_runs.specs.Steps.{steps_of};
 ghost use Rattle.store_runs.specs.Tidy.{IsTidyAt};
 ghost use Rattle.store_runs.specs.Waiting.{Lengthens};
 
-use crate::Ending;
-use crate::ending::refused;
-use crate::replies::{down, restarted};
-use crate::waiting::{end, hold, hold_all};
+use crate::waiting::{end, hold_all};
+use crate::{Ending, run_line};
 use agent_base::{Failed, NoMemory, Sink, write_all};
 use agent_core::{Agent, Outcome};
 use disk_model::Disk;
-use journal::OpenFault;
-use script_actions::{Action, Line, Step};
+use script_actions::{Line, Step};
 use std::alloc::Global;
 use waiting_lines::write_many;
 
@@ -108,59 +104,8 @@ fn step<D: Disk + Drop>(
     ensures counts { KeepsCount D.view agent.old agent.new }
     ensures unchanged { OnErr result (waiting.new.items ≡ waiting.old.items) }
 {
-    match step {
-        Step::Act(action) => act(agent, step, action, text, waiting),
-        Step::Restart => reopen(agent, step, text, waiting),
-    }
-}
-
-// Runs a line that acts.
-fn act<D: Disk + Drop>(
-    agent: &mut Agent<'_, D>,
-    step: &Step,
-    action: &Action,
-    text: &mut Vec<u8>,
-    waiting: &mut Vec<u8>,
-) -> Result<(), Ending>
-    requires { step_of step.now ≡ Acts (action_of action.now) }
-    ensures stepped { OnOk result (Stepped D.view agent.old agent.new (step_of step.now)
-        waiting.old.items waiting.new.items) }
-    ensures stops { IfErr result (Stops D.view agent.old agent.new (step_of step.now)) }
-    ensures goes_on { GoesOn D.view agent.old agent.new }
-    ensures counts { KeepsCount D.view agent.old agent.new }
-    ensures unchanged { OnErr result (waiting.new.items ≡ waiting.old.items) }
-{
-    match agent.line(action) {
-        Outcome::Replies(replies) => Ok(hold_all(&replies, text, waiting)?),
-        Outcome::Held => Ok(()),
-        Outcome::Down => Ok(hold(&down(step), text, waiting)?),
-        Outcome::NoMemory => Err(Ending::Memory),
-    }
-}
-
-// Runs a line that opens the store again. Over a disk that tells its contents, the store of an
-// agent is never refused.
-fn reopen<D: Disk + Drop>(
-    agent: &mut Agent<'_, D>,
-    step: &Step,
-    text: &mut Vec<u8>,
-    waiting: &mut Vec<u8>,
-) -> Result<(), Ending>
-    requires { step_of step.now ≡ Reopens }
-    ensures stepped { OnOk result (Stepped D.view agent.old agent.new (step_of step.now)
-        waiting.old.items waiting.new.items) }
-    ensures stops { IfErr result (Stops D.view agent.old agent.new (step_of step.now)) }
-    ensures goes_on { GoesOn D.view agent.old agent.new }
-    ensures counts { KeepsCount D.view agent.old agent.new }
-    ensures unchanged { OnErr result (waiting.new.items ≡ waiting.old.items) }
-{
-    match agent.restart() {
-        Ok(kept) => Ok(hold(&restarted(kept), text, waiting)?),
-        Err(why) => match why {
-            OpenFault::DeviceFault => Ok(hold(&down(step), text, waiting)?),
-            _ => Err(refused(why)),
-        },
-    }
+    let answer = run_line(agent, step)?;
+    Ok(answer.hold(text, waiting)?)
 }
 
 // Behind a line. Where the agent owes a checkpoint all that waits is written, and then it is made,
@@ -262,6 +207,21 @@ fn last_commit<D: Disk + Drop>(
     }
 }
 
+/// Makes the checkpoint that the agent owes, if it owes one. `Device`: a call of the disk failed.
+pub fn tend<D: Disk + Drop>(agent: &mut Agent<'_, D>) -> Ending
+    ensures closes { Closes D.view agent.old agent.new Ending.Done result }
+    ensures tidy { result ≡ Ending.Done → owes agent.new ≡ false }
+    ensures goes_on { GoesOn D.view agent.old agent.new }
+    ensures counts { KeepsCount D.view agent.old agent.new }
+    ensures fell { result ≡ Ending.Device → agent.new.power ≡ power.Down }
+{
+    if agent.owes_checkpoint() {
+        make_checkpoint(agent)
+    } else {
+        Ending::Done
+    }
+}
+
 // Once all replies are written: the checkpoint that the agent owes, where the run was not stopped.
 fn last_checkpoint<D: Disk + Drop>(agent: &mut Agent<'_, D>, ending: Ending) -> Ending
     ensures closes { Closes D.view agent.old agent.new ending result }
@@ -272,7 +232,7 @@ fn last_checkpoint<D: Disk + Drop>(agent: &mut Agent<'_, D>, ending: Ending) -> 
         → result ≡ Ending.Device → agent.new.power ≡ power.Down }
 {
     match ending {
-        Ending::Done if agent.owes_checkpoint() => make_checkpoint(agent),
+        Ending::Done => tend(agent),
         _ => ending,
     }
 }

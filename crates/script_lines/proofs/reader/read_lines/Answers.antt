@@ -17,7 +17,7 @@ lines-preserved c =
       script = script_goes_on (then_ok (lines_from c.args.number (lines_of c.args.bytes.now)) (after (map line_of c.args.lines.items))) c.lines.number c.lines.rest.now c.next_line.result.0.now (lines_of c.in-Some.later.now)
           c.lines.lines.items c.push_some.new.lines.items c.in_ok-read_line.field-0
           c.lines.invariant.script (c.next_line.ensures.lines ∙ ap (λ o. c.next_line.result.0.now ∷ lines_after (option_copied o)) c.in-Some.is)
-          c.in_ok-read_line.ensures c.in_ok-push_some.ensures;
+          c.in_ok-read_line.ensures.line c.in_ok-push_some.ensures;
     }
 
 pub returns-in-None : goal.returns-in-None
@@ -25,7 +25,7 @@ returns-in-None c =
     script_goes_on (then_ok (lines_from c.args.number (lines_of c.args.bytes.now)) (after (map line_of c.args.lines.items))) c.lines.number c.lines.rest.now c.next_line.result.0.now []
     c.lines.lines.items c.push_some.new.lines.items c.in_ok-read_line.field-0
     c.lines.invariant.script (c.next_line.ensures.lines ∙ ap (λ o. c.next_line.result.0.now ∷ lines_after (option_copied o)) c.in-None.is)
-    c.in_ok-read_line.ensures c.in_ok-push_some.ensures
+    c.in_ok-read_line.ensures.line c.in_ok-push_some.ensures
     ∙ no_more_lines (c.lines.number + 1) (map line_of c.push_some.new.lines.items)
 
 pub returns-in_err-read_line : goal.returns-in_err-read_line
@@ -33,5 +33,5 @@ returns-in_err-read_line c =
     let why : (c.in_err-read_line.field-0.0 ≡ NoMemory) ⊎ (then_ok (lines_from c.args.number (lines_of c.args.bytes.now)) (after (map line_of c.args.lines.items)) ≡ Err (fault_of c.in_err-read_line.field-0.0)) =
     ⊎_elim (λ memory. inl memory)
     (λ fault. inr (script_has_fault (then_ok (lines_from c.args.number (lines_of c.args.bytes.now)) (after (map line_of c.args.lines.items))) c.lines.number c.lines.rest.now c.next_line.result.0.now (lines_after (option_copied c.next_line.result.1))
-    c.lines.lines.items (fault_of c.in_err-read_line.field-0.0) c.lines.invariant.script c.next_line.ensures.lines fault)) c.in_err-read_line.ensures in
+    c.lines.lines.items (fault_of c.in_err-read_line.field-0.0) c.lines.invariant.script c.next_line.ensures.lines fault)) c.in_err-read_line.ensures.line in
     search rules

@@ -5,7 +5,7 @@ use Rattle.agent_base.specs.Counts.{Rose}
 use Rattle.suffix_list.specs.ListText.{RuleList, list_of}
 use Rattle.script_lines.specs.Script.{PlainScript}
 use Rattle.store_runs.specs.declared.ending.Ending.{Ending}
-use Rattle.command_line.specs.Words.{PlainCommand, Dump, Replay}
+use Rattle.command_line.specs.Words.{PlainCommand, Replay}
 use Rattle.hosts.specs.Hosts.{LeavesOtherStores, LeavesOthers, LeavesStores, SameImages, raised}
 use Rattle.replay.specs.BeforeAfter.{BeforeAfter}
 use Rattle.replay.specs.Causes.{DeviceCounts, ListCause, ListFailed, ReadCause, ReadCounts, RoseByStore, StoreUnopened}
@@ -101,17 +101,6 @@ replay_device list store batch checkpoint start stores Read rose = tt
 replay_device list store batch checkpoint start stores Write rose = tt
 replay_device list store batch checkpoint start stores Device rose = rose
 replay_device list store batch checkpoint start stores Memory rose = tt
-
-pub dump_device : (list store : List ℕ) (stores : BeforeAfter ℕ) (status : Status) → StoreCounts status stores → DeviceCounts (Some (Dump list store)) status stores
-dump_device list store stores Done rose = tt
-dump_device list store stores Usage rose = tt
-dump_device list store stores (Script why) rose = tt
-dump_device list store stores (ListStatus why) rose = tt
-dump_device list store stores (Store why) rose = tt
-dump_device list store stores Read rose = tt
-dump_device list store stores Write rose = tt
-dump_device list store stores Device rose = rose
-dump_device list store stores Memory rose = tt
 
 -- ---- what the host told before the list was read
 

@@ -89,7 +89,7 @@ module _ {Hosts Lists Stores Scripts Outs : Type 0} (H : HostTells Hosts Lists S
   obeys_memory (Some (Replay list None batch checkpoint start)) out some is = wanting (Some (Replay list None batch checkpoint start)) out (inl (takes_none (O.taken out))) (λ none. absurd none) tt tt tt
   obeys_memory (Some (Replay list (Some path) batch checkpoint start)) out some is = wanting (Some (Replay list (Some path) batch checkpoint start)) out (inl (takes_none (O.taken out), same_images (H.stores host path))) (λ none. absurd none) tt tt tt
   obeys_memory (Some (Twin site list batch checkpoint start)) out some is = wanting (Some (Twin site list batch checkpoint start)) out (takes_none (O.taken out)) (λ none. tt) tt tt tt
-  obeys_memory (Some (Dump list path)) out some is = wanting (Some (Dump list path)) out (inl (takes_none (O.taken out), same_images (H.stores host path))) (λ none. absurd none) tt tt tt
+  obeys_memory (Some (Dump list path)) out some is = wanting (Some (Dump list path)) out (inl (takes_none (O.taken out), same_images (H.stores host path))) (λ none. absurd none) tt tt refl
   obeys_memory (Some (Selftest seed)) out some is = wanting (Some (Selftest seed)) out (takes_none (O.taken out)) (λ none. absurd none) tt tt tt
 
   -- a self-test

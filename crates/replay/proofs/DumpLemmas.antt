@@ -1,19 +1,19 @@
 -- What a dump makes of the store of a path, and leaves and answers.
-use Rattle.std.proofs.Common.{◌≡◌, ◌⊎◌, ℕ, true, List, [], Option, Some, refl, ap, subst, inl, inr, ⊎_elim, ◌∙◌}
-use Rattle.std.specs.Prelude.{IfErr, MatchResult, Ok, Err, Result}
+use Rattle.std.proofs.Common.{◌≡◌, ◌⊎◌, ℕ, true, List, [], Option, Some, refl, ap, subst, inl, inr, ⊎_elim, ◌∙◌, arith}
+use Rattle.std.specs.Prelude.{IfErr, IsErrOf, MatchResult, Ok, Err, Result}
 use Rattle.agent_base.specs.Streams.{Takes}
 use Rattle.agent_base.specs.declared.sink.Sink.{Ghosts as SinkTells}
 use Rattle.agent_base.specs.declared.source.Source.{Ghosts as SourceTells}
 use Rattle.hosts.specs.declared.host.Host.{Ghosts as HostTells}
 use Rattle.disk_model.specs.Disk.{LeavesOnly, View}
 use Rattle.disk_model.specs.DiskLaws.{IsLawful}
-use Rattle.journal.specs.Opening.{FileMeans, IsExcused, IsLimitRefusal, IsOfFile, IsOpening, IsWithin}
+use Rattle.journal.specs.Opening.{FileMeans, HasNoFault, IsExcused, IsLimitRefusal, IsOfFile, IsOpening, IsWithin, Opens}
 use Rattle.journal.specs.declared.open_fault.OpenFault.{OpenFault}
 use Rattle.journal.specs.declared.open_fault.OpenFault.TheVariants as fault
 use Rattle.suffix_list.specs.ListText.{RuleList}
 use Rattle.command_line.specs.Words.{Dump}
 use Rattle.durable_model.specs.Saved.{IsValid, Saved, nothing_saved}
-use Rattle.hosts.specs.Hosts.{LeavesOthers, LeavesStores, SameImages}
+use Rattle.hosts.specs.Hosts.{LeavesOthers, LeavesStores, SameImages, raised}
 use Rattle.row_store.specs.Bodies as bodies
 use Rattle.spelled_model.specs.Rows.{IsReadSaved}
 use Rattle.store_dumps.specs.Dump.{StandsAsTold, Writes, WritesSome, dump_text}
@@ -25,9 +25,9 @@ use Rattle.store_runs.specs.declared.ending.Ending.{Ending}
 use Rattle.store_runs.specs.declared.ending.Ending.TheVariants as ending
 use Rattle.store_runs.proofs.EndLemmas.{limit_ends}
 use Rattle.replay.specs.BeforeAfter.{BeforeAfter, from_to}
-use Rattle.replay.specs.Causes.{ReadCounts, WriteCounts}
+use Rattle.replay.specs.Causes.{DumpCounts, ReadCounts, WriteCounts}
 use Rattle.replay.specs.Endings.{DumpCanEnd}
-use Rattle.replay.specs.Commands.{HasRun, HostCounts, IsAfterList, LeavesStoreClosed, Obeys, StoreCounts, dump_ending, told_of}
+use Rattle.replay.specs.Commands.{HasRun, HostCounts, IsAfterList, LeavesStoreClosed, Obeys, dump_ending, status_of, told_of}
 use Rattle.replay.specs.Readings.{IsListOf}
 use Rattle.replay.specs.Runs.{ListRead, Written}
 use Rattle.replay.specs.Openings.{Images, IsExcusedEnding, LeavesOpening, Unopened}
@@ -36,7 +36,7 @@ use Rattle.replay.specs.Stores.{LeftAlone}
 use Rattle.replay.specs.declared.status.Status.{Status}
 use Rattle.replay.specs.declared.status.Status.TheVariants.{Done, Usage, Script, List as ListStatus, Store, Read, Device, Memory}
 use Rattle.replay.specs.declared.status.Status.TheVariants as status
-use Rattle.replay.proofs.CauseLemmas.{alone_before, dump_device, later_list, list_fine, list_read, lists_before, others_before, read_cause}
+use Rattle.replay.proofs.CauseLemmas.{alone_before, later_list, list_fine, list_read, lists_before, others_before, read_cause}
 use Rattle.replay.proofs.CommandLemmas.{IsNotUsage, no_usage}
 use Rattle.replay.proofs.StatusLemmas.{written_weaker}
 
@@ -107,6 +107,31 @@ dumped_some list told taken (Err (Open why)) took = inl (why, refl, took)
 dumped_some list told taken (Err Write) (d, valid, spelled, stands, wrote) = inr (d, valid, wrote)
 dumped_some list told taken (Err NoMemory) (d, valid, spelled, stands, wrote) = inr (d, valid, wrote)
 
+-- ---- the count of faults of the stores
+
+module _ (old new : View) (stores : BeforeAfter ℕ) (fresh : old.faults ≡ 0) (back : stores.after ≡ raised new.faults stores.before) where
+  -- no call failed at an opening that no device fault ended
+  no_fault : (opened : Result (Unit {0}) OpenFault) → Opens opened old new → (opened ≡ Err fault.DeviceFault → ⊥) → stores.after ≡ stores.before
+  no_fault opened opens other =
+      ⊎_elim
+      (λ (fails : IsErrOf opened fault.DeviceFault). absurd (other fails))
+      (λ (none : HasNoFault old new).
+      let faults = none.faults in
+      omega (arith, fresh, back, faults)) opens.only
+
+  -- a device fault is counted, and at every other end of a dump none was
+  pub dump_counts : {T : Type 0} (list : RuleList) (r : Result T DumpFault) → OpensStore list old new (opening_of r) → DumpCounts (status_of (dump_ending r)) stores
+  dump_counts list (Ok done) opens = no_fault (Ok tt) opens.device (λ is. cc)
+  dump_counts list (Err (Open fault.DeviceFault)) opens =
+      let rose = opens.device.counted refl in
+      omega (arith, fresh, back, rose)
+  dump_counts list (Err (Open fault.NoMemory)) opens = no_fault (Err fault.NoMemory) opens.device (λ is. cc)
+  dump_counts list (Err (Open (fault.NotAStore offset))) opens = no_fault (Err (fault.NotAStore offset)) opens.device (λ is. cc)
+  dump_counts list (Err (Open (fault.OtherList kept given))) opens = no_fault (Err (fault.OtherList kept given)) opens.device (λ is. cc)
+  dump_counts list (Err (Open (fault.TooLarge len))) opens = no_fault (Err (fault.TooLarge len)) opens.device (λ is. cc)
+  dump_counts list (Err Write) opens = no_fault (Ok tt) opens.device (λ is. cc)
+  dump_counts list (Err NoMemory) opens = no_fault (Ok tt) opens.device (λ is. cc)
+
 -- ---- the command
 
 -- a status of a dump that opened a store, or tried to
@@ -130,7 +155,7 @@ module _ {Hosts Lists Stores Scripts Outs : Type 0} (H : HostTells Hosts Lists S
   pub obeys_dump : (list : RuleList) → IsListOf (H.lists old path) list → LeavesStores (H.stores old) (H.stores mid) → H.faults mid ≡ H.faults old → H.store_faults mid ≡ H.store_faults old
       → H.tells_stores mid ≡ H.tells_stores old → H.lists_out mid ≡ H.lists_out old → LeavesOthers path (H.lists old) (H.lists mid) → LeavesStoreClosed H store (from_to mid new)
       → Written status (LeftAlone (told_of O.taken out) (H.stores mid store) (H.stores new store)) (λ e. DumpedRows (told_of O.taken out) (H.tells_stores mid) (H.stores mid store) (H.stores new store) e list) → HasRun status
-      → HostCounts status (told_of H.faults (from_to mid new)) (told_of H.store_faults (from_to mid new)) → StoreCounts status (told_of H.store_faults (from_to mid new)) → WriteCounts status (told_of O.faults out)
+      → HostCounts status (told_of H.faults (from_to mid new)) (told_of H.store_faults (from_to mid new)) → DumpCounts status (told_of H.store_faults (from_to mid new)) → WriteCounts status (told_of O.faults out)
       → Obeys H I O (Some (Dump path store)) status (from_to old new) (from_to script script) out
   obeys_dump list read stores still none is closed lists left text ran rose device write =
       let told = H.lists old path in
@@ -153,7 +178,7 @@ module _ {Hosts Lists Stores Scripts Outs : Type 0} (H : HostTells Hosts Lists S
         list = later_list status told (by_run IsAfterList tt tt tt tt tt (λ why of. tt) status ran) fine;
         read = read_counts;
         read_told = read_cause (Some (Dump path store)) told (I.left script) host (told_of H.reads (from_to old new)) faults status fine (λ is. inr (subst (λ s. HostCounts s host counts) is counted).1);
-        device = dump_device path store counts status (subst (λ n. StoreCounts status (from_to n (H.store_faults new))) none device);
+        device = subst (λ n. DumpCounts status (from_to n (H.store_faults new))) none device;
         write = write;
         untouched = λ never. absurd never;
         unread = λ is. refl;

@@ -16,10 +16,7 @@ use Rattle.replay.specs.BeforeAfter.{BeforeAfter}
 use Rattle.replay.specs.FaultLines.{fault_line}
 use Rattle.replay.specs.Words.{IsNoSite}
 use Rattle.replay.specs.declared.status.Status.{Status}
-use Rattle.replay.specs.declared.status.Status.TheVariants.{Done, Script, List as ListStatus}
-use Rattle.replay.specs.declared.status.Status.TheVariants.{Store, Read, Write, Device}
-
--- ---- causes
+use Rattle.replay.specs.declared.status.Status.TheVariants.{Done, Script, List as ListStatus, Store, Read, Write, Device}
 
 -- a script may have a line with cuts where it runs over a store in memory
 abbrev pub allows_cuts : (store : Option (List ℕ)) → Bool
@@ -86,11 +83,16 @@ abbrev pub WriteCounts : Status → (out : BeforeAfter ℕ) → Type 0
 WriteCounts Write out = Rose out.before out.after
 WriteCounts status out = out.after ≡ out.before
 
--- the count of faults of the stores that were closed: a call on the store of a path failed
+-- the count of faults of the stores that were closed, at a dump: it rose at 8, and stays else
+abbrev pub DumpCounts : Status → (stores : BeforeAfter ℕ) → Type 0
+DumpCounts Device stores = Rose stores.before stores.after
+DumpCounts status stores = stores.after ≡ stores.before
+
+-- the same of each command: a call failed. A run of a script may go on behind it, and a dump not.
 abbrev pub DeviceCounts : Option PlainCommand → Status → (stores : BeforeAfter ℕ) → Type 0
 DeviceCounts (Some (Replay list (Some store) batch checkpoint start)) Device stores =
     Rose stores.before stores.after
-DeviceCounts (Some (Dump list store)) Device stores = Rose stores.before stores.after
+DeviceCounts (Some (Dump list store)) status stores = DumpCounts status stores
 DeviceCounts command status stores = Unit {0}
 
 -- the store that a command names could not be opened, and the host's count rose. A run comes to its

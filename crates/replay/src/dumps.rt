@@ -2,9 +2,9 @@
 ghost use Rattle.std.specs.Prelude.{◌≡◌, None, Some};
 ghost use Rattle.command_line.specs.Words.{Dump};
 ghost use Rattle.replay.specs.BeforeAfter.{from_to};
-ghost use Rattle.replay.specs.Causes.{WriteCounts};
+ghost use Rattle.replay.specs.Causes.{DumpCounts, WriteCounts};
 ghost use Rattle.replay.specs.Commands.{HasRun, HostCounts, LeavesStoreClosed, Obeys};
-ghost use Rattle.replay.specs.Commands.{StoreCounts, dump_ending, status_of};
+ghost use Rattle.replay.specs.Commands.{dump_ending, status_of};
 ghost use Rattle.replay.specs.Runs.{Written};
 ghost use Rattle.replay.specs.Dumps.{DumpedRows};
 ghost use Rattle.replay.specs.Stores.{LeftAlone};
@@ -53,7 +53,7 @@ fn dump_over<H: Host, O: Sink>(
     ensures ran { HasRun result }
     ensures counts { HostCounts result (from_to (H.faults host.old) (H.faults host.new))
         (from_to (H.store_faults host.old) (H.store_faults host.new)) }
-    ensures device { StoreCounts result
+    ensures device { DumpCounts result
         (from_to (H.store_faults host.old) (H.store_faults host.new)) }
     ensures write { WriteCounts result (from_to (O.faults out.old) (O.faults out.new)) }
     ensures left { LeavesStoreClosed H.Host path.now (from_to host.old host.new) }

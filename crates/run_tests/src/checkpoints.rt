@@ -42,12 +42,12 @@ const SET: &str = concat!(
 const LENGTHS: &[(&[&str], &str, u16, u32, u64)] = &[
     (FIRST, OPENED, 1, 1, 129),
     (BOTH, SET, 1, 0, 199),
-    (BOTH, SET, 1, 1, 266),
+    (BOTH, SET, 1, 1, 298),
     (BOTH, SET, 1, 2, 199),
-    (LINES, CHANGED, 1, 1, 336),
+    (LINES, CHANGED, 1, 1, 467),
     (LINES, CHANGED, 1, 0, 269),
     (LINES, CHANGED, 5, 0, 251),
-    (BOTH, SET, 5, 1, 266),
+    (BOTH, SET, 5, 1, 298),
 ];
 
 /// What the lines of `STORED` print where the checkpoint behind the second one is cut.

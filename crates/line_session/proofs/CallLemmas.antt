@@ -1,0 +1,113 @@
+-- What a list of calls is together.
+use Rattle.std.proofs.Common.{◌≡◌, ℕ, ◌+◌, ◌<◌, ◌≤◌, ◌^◌, List, [], ◌∷◌, ◌++◌, Option, Some, None, Result, Ok, Err, length, sym, ap, subst, ◌∙◌, append-nil, append_assoc, arith}
+use Rattle.std.proofs.lemmas.List.{length-append}
+use Rattle.unwinding.specs.Admissible.{Acts, Reopens}
+use Rattle.disk_model.specs.Disk.{View}
+use Rattle.script_actions.specs.Action.{PlainLine, PlainStep}
+use Rattle.script_lines.specs.Grammar.{line_of_bytes}
+use Rattle.script_lines.specs.Script.{PlainFault}
+use Rattle.durable_model.specs.Histories.{AgentOpening, opened_at}
+use Rattle.agent_core.specs.AgentView.{may_of}
+use Rattle.printed_model.specs.Histories.{HasSameLines, HasSiteLines}
+use Rattle.store_runs.specs.Courses.{On, text_on}
+use Rattle.store_runs.proofs.LoopLemmas.{cut_off, cut_off_admissible, cut_off_leaves, cut_off_text}
+use Rattle.line_session.specs.Asked.{asked_by, steps_in}
+use Rattle.line_session.specs.Calls.{AreCalls, HasCallsSame, HasCallsSites, HasCallsText, LineCall, TellsCalls, call_steps, call_text, ran_by, steps_of_calls, text_of_calls}
+use Rattle.line_session.specs.SessionView.{SessionView}
+use Rattle.line_session.specs.StandsFor.{AreTold, StandsFor}
+use Rattle.line_session.specs.declared.refused.LineRefused.{LineRefused}
+use Rattle.line_session.specs.declared.refused.LineRefused.TheVariants as refused
+
+-- a line asks for one step at most
+few_in : (line : Result (Option PlainLine) PlainFault) → length (steps_in line) ≤ 1
+few_in (Ok (Some line)) = omega arith
+few_in (Ok None) = omega arith
+few_in (Err fault) = omega arith
+
+-- and a call ran no other
+few_ran : {T : Type 0} (answer : Result T LineRefused) (asked : List PlainStep) → length asked ≤ 1
+    → length (ran_by answer asked) ≤ 1
+few_ran (Ok done) asked few = few
+few_ran (Err refused.Unprinted) asked few = few
+few_ran (Err refused.LineFeed) asked few = omega arith
+few_ran (Err refused.TooLong) asked few = omega arith
+few_ran (Err refused.NotUtf8) asked few = omega arith
+few_ran (Err refused.NotJson) asked few = omega arith
+few_ran (Err refused.UnknownAction) asked few = omega arith
+few_ran (Err (refused.BadField name)) asked few = omega arith
+few_ran (Err refused.BadHeader) asked few = omega arith
+few_ran (Err (refused.Store why)) asked few = omega arith
+few_ran (Err refused.Owed) asked few = omega arith
+few_ran (Err refused.NoMemory) asked few = omega arith
+
+-- a disk goes on telling, so that what is known of steps stays known
+told_still : (old new : View) → new.tells ≡ old.tells → (steps : List PlainStep) → AreTold old steps → AreTold new steps
+told_still old new same [] told = tt
+told_still old new same (Acts l ∷ more) told = (tt, told_still old new same more told.1)
+told_still old new same (Reopens ∷ more) told = (same ∙ told.0, told_still old new same more told.1)
+
+module _ {D : Type 0} (tell : D → View) where
+  calls_told : (old new : View) → new.tells ≡ old.tells → (calls : List (LineCall D)) → TellsCalls old calls → TellsCalls new calls
+  calls_told old new same [] told = tt
+  calls_told old new same (c ∷ cs) told = (told_still old new same (asked_by c.line) told.0, calls_told old new same cs told.1)
+
+  -- calls go on with a history and a text, under one list
+  calls_stand : (x : AgentOpening) (calls : List (LineCall D)) (first last : SessionView D) (steps : List PlainStep)
+      (text : List ℕ) → StandsFor tell first x steps text → AreCalls tell first last calls
+      → TellsCalls (tell first.agent.disk) calls → length steps + length calls + 2 < 2 ^ 64
+      → StandsFor tell last x (steps ++ steps_of_calls calls) (text ++ text_of_calls calls)
+      × (last.agent.memory.rules ≡ first.agent.memory.rules)
+  calls_stand x [] first last steps text stands same told few = (
+    subst (λ s. StandsFor tell s x (steps ++ []) (text ++ [])) (sym same)
+        (subst (λ ss. StandsFor tell first x ss (text ++ [])) (sym (append-nil steps))
+        (subst (StandsFor tell first x steps) (sym (append-nil text)) stands)),
+    ap (λ (s : SessionView D). s.agent.memory.rules) same,
+  )
+  calls_stand x (c ∷ cs) first last steps text stands are told few =
+      let goes = are.1 in
+      let one : length (call_steps c) ≤ 1 = few_ran c.answer (asked_by c.line) (few_in (line_of_bytes 1 c.line)) in
+      let next : StandsFor tell c.new x (steps ++ call_steps c) (text ++ call_text c) =
+      goes.means x steps text (subst (λ s. StandsFor tell s x steps text) (sym are.0) stands) (omega (arith, few))
+      (subst (λ (s : SessionView D). AreTold (tell s.agent.disk) (asked_by c.line)) (sym are.0) told.0) in
+      let still = goes.goes_on.tells ∙ ap (λ (s : SessionView D). (tell s.agent.disk).tells) are.0 in
+      let rest = calls_stand x cs c.new last (steps ++ call_steps c) (text ++ call_text c) next are.2
+      (calls_told (tell first.agent.disk) (tell c.new.agent.disk) still cs told.1)
+      (omega (arith, length-append steps (call_steps c), one, few)) in (
+        subst (λ ss. StandsFor tell last x ss (text ++ (call_text c ++ text_of_calls cs)))
+            (append_assoc steps (call_steps c) (steps_of_calls cs))
+            (subst (StandsFor tell last x ((steps ++ call_steps c) ++ steps_of_calls cs))
+            (append_assoc text (call_text c) (text_of_calls cs)) rest.0),
+        rest.1 ∙ goes.goes_on.rules ∙ ap (λ (s : SessionView D). s.agent.memory.rules) are.0,
+      )
+
+  -- the replies are the text of a history of the lines
+  pub calls_text : HasCallsText tell
+  calls_text start saved first last calls began =
+      let x = opened_at start saved in
+      let rules = first.agent.memory.rules in
+      let may = may_of last.agent (tell last.agent.disk) in
+      let all = calls_stand x calls first last [] [] began.begins began.are began.told (omega (arith, began.few)) in
+      let s = all.0 in
+      let on : On rules 1 x s.course s.seen may = subst (λ n. On rules n x s.course s.seen may) s.one
+      (subst (λ rs. On rs last.agent.batch x s.course s.seen may) all.1 s.on) in (
+        cut_off rules 1 x s.course,
+        record {
+          runs = record {
+            admissible = cut_off_admissible rules 1 x s.course s.seen may on;
+            lines = s.lines;
+            quiet = λ never. absurd never;
+          };
+          text = cut_off_text rules 1 x s.course ∙ ap (λ rs. text_on rs x s.course) (sym all.1) ∙ s.replies;
+        },
+        λ d n left. (cut_off_leaves rules 1 x s.course s.seen may on [] d n left).left,
+      )
+
+  pub calls_sites : HasSiteLines → HasCallsSites tell
+  calls_sites sites start saved first last calls began history is site =
+      sites first.agent.memory.rules start saved began.valid history site
+
+  pub calls_same : HasSameLines → HasCallsSame tell
+  calls_same same start other_start saved other_saved first last other_first other_last calls other_calls began
+      other_began history other is other_is site given =
+      same first.agent.memory.rules other_first.agent.memory.rules start other_start saved other_saved began.valid
+      other_began.valid history other site given

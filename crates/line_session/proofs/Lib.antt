@@ -1,0 +1,5 @@
+pub mod ReadingLemmas
+pub mod SessionLemmas
+pub mod RefusalLemmas
+pub mod CallLemmas
+pub mod LineLemmas

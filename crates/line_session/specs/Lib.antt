@@ -1,0 +1,6 @@
+-- What contracts cite.
+pub mod SessionView
+pub mod Asked
+pub mod Refusals
+pub mod StandsFor
+pub mod Calls

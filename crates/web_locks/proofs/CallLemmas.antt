@@ -14,24 +14,20 @@ use Rattle.web_locks.specs.Lock.{PlainLock, has_request, in_line, is_exclusive, 
 use Rattle.web_locks.specs.Queue.{held_modes, is_grantable}
 use Rattle.web_locks.specs.Requests.{holding, waiting, is_reserved, is_unsupported, released, released_by, requested}
 use Rattle.web_locks.specs.Calls.{LockCall, Request, Release, DropOwner, IsGoverned, after_calls, after_call}
-use Rattle.web_locks.proofs.LineLemmas.{AllWaiting, IsFormed, formed_processed, given}
+use Rattle.web_locks.specs.Forms.{IsKept, AllWaiting, IsFormed, same_request}
+use Rattle.web_locks.proofs.LineLemmas.{formed_processed, given}
 use Rattle.web_locks.proofs.PushLemmas.{formed_held, formed_stolen, formed_waiting}
 use Rattle.web_locks.proofs.GovernedLemmas.{formed_governed}
-use Rattle.web_locks.proofs.TableLemmas.{any_kept, distinct_kept, filter_both, granted_distinct, granted_elsewhere, granted_here, in_line-alike, in_line-apart, removed_elsewhere, same_request, same_request-equiv}
+use Rattle.web_locks.proofs.TableLemmas.{any_kept, distinct_kept, filter_both, granted_distinct, granted_elsewhere, granted_here, in_line-alike, in_line-apart, removed_elsewhere, same_request-equiv}
 
 either_false : (a b : Bool) → (a || b) ≡ false → (a ≡ false) × (b ≡ false)
 either_false true b is = absurd (cc is)
 either_false false b is = (refl, is)
 
 module _ {K : Type 0} (cmp : K → K → Ordering) (order : IsTotalOrder cmp) where
-  -- what the calls keep
-  pub record IsKept (table : List (PlainLock K)) : Type 0 where
-    pub distinct : IsDistinct same_request table
-    pub formed : (key : K) (name : List ℕ) → IsFormed (line_of cmp key name table)
-
   -- ---- releases
 
-  release_lines : (owner : Label) (id : ℕ) (table : List (PlainLock K)) (lock : PlainLock K) → find (is_request_of owner id) table ≡ Some lock → IsKept table
+  release_lines : (owner : Label) (id : ℕ) (table : List (PlainLock K)) (lock : PlainLock K) → find (is_request_of owner id) table ≡ Some lock → IsKept cmp table
       → (key : K) (name : List ℕ) → IsFormed (line_of cmp key name (released_by cmp owner id (Some lock) table))
   release_lines owner id table lock found kept key name = at (in_line cmp key name lock) refl
     where
@@ -55,19 +51,19 @@ module _ {K : Type 0} (cmp : K → K → Ordering) (order : IsTotalOrder cmp) wh
           ∙ removed_elsewhere owner id (in_line cmp key name) lock table kept.distinct found off))
           (kept.formed key name)
 
-  kept_by : (owner : Label) (id : ℕ) (table : List (PlainLock K)) (found : Option (PlainLock K)) → find (is_request_of owner id) table ≡ found → IsKept table
-      → IsKept (released_by cmp owner id found table)
+  kept_by : (owner : Label) (id : ℕ) (table : List (PlainLock K)) (found : Option (PlainLock K)) → find (is_request_of owner id) table ≡ found → IsKept cmp table
+      → IsKept cmp (released_by cmp owner id found table)
   kept_by owner id table None found kept = kept
   kept_by owner id table (Some lock) found kept = record {
     distinct = granted_distinct cmp order lock.key lock.name (in_line cmp lock.key lock.name) _ _ (distinct_kept same_request _ table kept.distinct);
     formed = release_lines owner id table lock found kept;
   }
 
-  pub kept_released : (owner : Label) (id : ℕ) (table : List (PlainLock K)) → IsKept table → IsKept (released cmp owner id table)
+  pub kept_released : (owner : Label) (id : ℕ) (table : List (PlainLock K)) → IsKept cmp table → IsKept cmp (released cmp owner id table)
   kept_released owner id table kept = kept_by owner id table (find (is_request_of owner id) table) refl kept
 
-  pub kept_dropped : (owner : Label) (ids : List ℕ) (table : List (PlainLock K)) → IsKept table
-      → IsKept (fold (λ rest id. released cmp owner id rest) table ids)
+  pub kept_dropped : (owner : Label) (ids : List ℕ) (table : List (PlainLock K)) → IsKept cmp table
+      → IsKept cmp (fold (λ rest id. released cmp owner id rest) table ids)
   kept_dropped owner [] table kept = kept
   kept_dropped owner (id ∷ ids) table kept =
       kept_dropped owner ids (released cmp owner id table) (kept_released owner id table kept)
@@ -75,11 +71,11 @@ module _ {K : Type 0} (cmp : K → K → Ordering) (order : IsTotalOrder cmp) wh
   -- ---- requests
 
   -- one more, of which its own name is told
-  pushed : (x : PlainLock K) (table : List (PlainLock K)) → has_request x.owner x.id table ≡ false → IsKept table
+  pushed : (x : PlainLock K) (table : List (PlainLock K)) → has_request x.owner x.id table ≡ false → IsKept cmp table
       → (start : List (PlainLock K)) → IsDistinct same_request start → list_any (is_request_of x.owner x.id) start ≡ false
       → ((key : K) (name : List ℕ) → in_line cmp key name x ≡ false → line_of cmp key name start ≡ line_of cmp key name table)
       → ((key : K) (name : List ℕ) → in_line cmp key name x ≡ true → IsFormed (line_of cmp key name start ++ x ∷ []))
-      → IsKept (start ++ x ∷ [])
+      → IsKept cmp (start ++ x ∷ [])
   pushed x table free kept start d none elsewhere here = record {
     distinct = IsDistinct-push same_request-equiv start x d none;
     formed = λ key name.
@@ -131,7 +127,7 @@ module _ {K : Type 0} (cmp : K → K → Ordering) (order : IsTotalOrder cmp) wh
   exclusive_of Shared is = absurd (cc is)
 
   -- a steal that is supported is exclusive
-  steal_mode : (if_available : Bool) (x : PlainLock K) → is_unsupported if_available x ≡ false → x.stole ≡ true → x.mode ≡ Exclusive
+  pub steal_mode : (if_available : Bool) (x : PlainLock K) → is_unsupported if_available x ≡ false → x.stole ≡ true → x.mode ≡ Exclusive
   steal_mode if_available x is stole =
       let steals = (either_false (is_reserved x.name) (x.stole && (if_available || not (is_exclusive x.mode))) is).1 in
       let now : (if_available || not (is_exclusive x.mode)) ≡ false = subst (λ b. (b && (if_available || not (is_exclusive x.mode))) ≡ false) stole steals in
@@ -146,18 +142,18 @@ module _ {K : Type 0} (cmp : K → K → Ordering) (order : IsTotalOrder cmp) wh
       → line_of cmp x.key x.name table ≡ line_of cmp key name table
   own_line x table key name is = ap (λ t. filter t table) (λ i q. in_line-alike cmp order key name x is q i)
 
-  kept_requested : (if_available : Bool) (x : PlainLock K) (table : List (PlainLock K)) → is_unsupported if_available x ≡ false
-      → has_request x.owner x.id table ≡ false → IsKept table → IsKept (requested cmp if_available x table)
+  pub kept_requested : (if_available : Bool) (x : PlainLock K) (table : List (PlainLock K)) → is_unsupported if_available x ≡ false
+      → has_request x.owner x.id table ≡ false → IsKept cmp table → IsKept cmp (requested cmp if_available x table)
   kept_requested if_available x table supported free kept =
       at x.stole refl (is_grantable x.mode (line_of cmp x.key x.name table)) refl if_available
     where
       more : (y : PlainLock K) → has_request y.owner y.id table ≡ false
           → ((key : K) (name : List ℕ) → in_line cmp key name y ≡ true → IsFormed (line_of cmp key name table ++ y ∷ []))
-          → IsKept (table ++ y ∷ [])
+          → IsKept cmp (table ++ y ∷ [])
       more y none here = pushed y table none kept table kept.distinct none (λ key name off. refl) here
 
       at : (s : Bool) → x.stole ≡ s → (g : Bool) → is_grantable x.mode (line_of cmp x.key x.name table) ≡ g → (i : Bool)
-          → IsKept (cond s (filter (λ y. not (in_line cmp x.key x.name y && y.held)) table ++ holding x ∷ [])
+          → IsKept cmp (cond s (filter (λ y. not (in_line cmp x.key x.name y && y.held)) table ++ holding x ∷ [])
           (cond g (table ++ holding x ∷ []) (cond i table (table ++ waiting x ∷ []))))
       at true stole g can i =
           pushed (holding x) table free kept (filter (λ y. not (in_line cmp x.key x.name y && y.held)) table)
@@ -177,23 +173,23 @@ module _ {K : Type 0} (cmp : K → K → Ordering) (order : IsTotalOrder cmp) wh
 
   -- ---- calls
 
-  kept_called : (call : LockCall K) (table : List (PlainLock K)) → IsKept table → IsKept (after_call cmp call table)
+  kept_called : (call : LockCall K) (table : List (PlainLock K)) → IsKept cmp table → IsKept cmp (after_call cmp call table)
   kept_called (Request if_available x) table kept =
       at (is_unsupported if_available x) refl (has_request x.owner x.id table) refl
     where
       at : (a : Bool) → is_unsupported if_available x ≡ a → (b : Bool) → has_request x.owner x.id table ≡ b
-          → IsKept (cond (a || b) table (requested cmp if_available x table))
+          → IsKept cmp (cond (a || b) table (requested cmp if_available x table))
       at true e b f = kept
       at false e true f = kept
       at false e false f = kept_requested if_available x table e f kept
   kept_called (Release owner id) table kept = kept_released owner id table kept
   kept_called (DropOwner owner) table kept = kept_dropped owner (owned_ids owner table) table kept
 
-  kept_calls : (calls : List (LockCall K)) (table : List (PlainLock K)) → IsKept table → IsKept (fold (λ t call. after_call cmp call t) table calls)
+  kept_calls : (calls : List (LockCall K)) (table : List (PlainLock K)) → IsKept cmp table → IsKept cmp (fold (λ t call. after_call cmp call t) table calls)
   kept_calls [] table kept = kept
   kept_calls (call ∷ calls) table kept = kept_calls calls (after_call cmp call table) (kept_called call table kept)
 
-  none_kept : IsKept []
+  pub none_kept : IsKept cmp []
   unfolding IsDistinct
   none_kept = record { distinct = tt; formed = λ key name. inl tt }
 

@@ -5,7 +5,8 @@ use Rattle.web_locks.specs.declared.request.LockMode.TheVariants.{Exclusive}
 use Rattle.web_locks.specs.Lock.{PlainLock, is_exclusive}
 use Rattle.web_locks.specs.Queue.{fits, held_modes, has_waiting}
 use Rattle.web_locks.specs.Calls.{IsGovernedLine}
-use Rattle.web_locks.proofs.LineLemmas.{AllWaiting, IsRun, IsStolen, IsFormed, none_exclusive, fits_alone, modes_alone, modes_loose, run_loose}
+use Rattle.web_locks.specs.Forms.{AllWaiting, IsRun, IsStolen, IsFormed}
+use Rattle.web_locks.proofs.LineLemmas.{none_exclusive, fits_alone, modes_alone, modes_loose, run_loose}
 use Rattle.web_locks.proofs.PushLemmas.{waits_behind, waits_first}
 
 module _ {K : Type 0} where

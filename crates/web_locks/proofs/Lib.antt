@@ -5,3 +5,16 @@ pub mod GovernedLemmas
 pub mod TableLemmas
 pub mod CallLemmas
 pub mod PartLemmas
+pub mod NumberLemmas
+pub mod GroupLemmas
+pub mod RowLemmas
+pub mod ProcessLemmas
+pub mod IndexLemmas
+pub mod ToldLemmas
+pub mod StandingLemmas
+pub mod ServedLemmas
+pub mod OwnedLemmas
+pub mod ListedLemmas
+pub mod OwnerLemmas
+pub mod StealLemmas
+pub mod RequestLemmas

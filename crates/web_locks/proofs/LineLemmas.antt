@@ -8,6 +8,7 @@ use Rattle.web_locks.specs.declared.request.LockMode.TheVariants.{Exclusive, Sha
 use Rattle.web_locks.specs.Lock.{PlainLock, is_exclusive}
 use Rattle.web_locks.specs.Queue.{fits, held_modes}
 use Rattle.web_locks.specs.Requests.{holding}
+use Rattle.web_locks.specs.Forms.{AllWaiting, IsRun, IsLoose, IsStolen, IsAlone, IsFormed}
 
 -- ---- modes
 
@@ -36,39 +37,6 @@ one_part false b is = inr (refl, is)
 
 module _ {K : Type 0} where
   -- ---- forms
-
-  abbrev pub AllWaiting : List (PlainLock K) → Type 0
-  AllWaiting [] = Unit {0}
-  AllWaiting (l ∷ ls) = (l.held ≡ false) × AllWaiting ls
-
-  -- shared ones are held, and an exclusive one waits first, behind one that is held
-  abbrev pub IsRun : Bool → List (PlainLock K) → Type 0
-  IsRun some [] = Unit {0}
-  IsRun some (l ∷ ls) =
-      ((l.held ≡ true) × (l.mode ≡ Shared) × IsRun true ls)
-      ⊎ ((l.held ≡ false) × (some ≡ true) × (l.mode ≡ Exclusive) × AllWaiting ls)
-
-  -- the same, where any may wait first
-  abbrev pub IsLoose : List (PlainLock K) → Type 0
-  IsLoose [] = Unit {0}
-  IsLoose (l ∷ ls) =
-      ((l.held ≡ true) × (l.mode ≡ Shared) × IsLoose ls) ⊎ ((l.held ≡ false) × AllWaiting ls)
-
-  -- an exclusive one is held by a steal
-  abbrev pub IsStolen : List (PlainLock K) → Type 0
-  IsStolen [] = ⊥
-  IsStolen (l ∷ ls) =
-      ((l.held ≡ true) × (l.mode ≡ Exclusive) × (l.stole ≡ true) × AllWaiting ls)
-      ⊎ ((l.held ≡ false) × IsStolen ls)
-
-  -- an exclusive one is held, by a steal where it is not the first
-  abbrev pub IsAlone : List (PlainLock K) → Type 0
-  IsAlone [] = ⊥
-  IsAlone (l ∷ ls) =
-      ((l.held ≡ true) × (l.mode ≡ Exclusive) × AllWaiting ls) ⊎ ((l.held ≡ false) × IsStolen ls)
-
-  abbrev pub IsFormed : List (PlainLock K) → Type 0
-  IsFormed ls = IsRun false ls ⊎ IsAlone ls
 
   pub waiting_loose : (ls : List (PlainLock K)) → AllWaiting ls → IsLoose ls
   waiting_loose [] w = tt
@@ -188,7 +156,7 @@ module _ {K : Type 0} where
         at true later = (w.0, later)
         at false later = later
 
-    loose_kept : (ls : List (PlainLock K)) → IsLoose ls → IsLoose (filter test ls)
+    pub loose_kept : (ls : List (PlainLock K)) → IsLoose ls → IsLoose (filter test ls)
     loose_kept [] r = tt
     loose_kept (l ∷ ls) (inl r) = at (test l) (loose_kept ls r.2)
       where
@@ -213,7 +181,7 @@ module _ {K : Type 0} where
         at true (inr later) = inr (s.0, later)
         at false later = later
 
-    alone_kept : (ls : List (PlainLock K)) → IsAlone ls → IsLoose (filter test ls) ⊎ IsAlone (filter test ls)
+    pub alone_kept : (ls : List (PlainLock K)) → IsAlone ls → IsLoose (filter test ls) ⊎ IsAlone (filter test ls)
     alone_kept [] a = absurd a
     alone_kept (l ∷ ls) (inl a) = at (test l) (waiting_kept ls a.2)
       where
@@ -230,7 +198,7 @@ module _ {K : Type 0} where
         at false (inl later) = inr (stolen_alone (filter test ls) later)
         at false (inr later) = inl (waiting_loose (filter test ls) later)
 
-    formed_kept : (ls : List (PlainLock K)) → IsFormed ls → IsLoose (filter test ls) ⊎ IsAlone (filter test ls)
+    pub formed_kept : (ls : List (PlainLock K)) → IsFormed ls → IsLoose (filter test ls) ⊎ IsAlone (filter test ls)
     formed_kept ls (inl r) = inl (loose_kept ls (run_loose ls false r))
     formed_kept ls (inr a) = alone_kept ls a
 

@@ -5,7 +5,8 @@ use Rattle.web_locks.specs.declared.request.LockMode.{LockMode}
 use Rattle.web_locks.specs.declared.request.LockMode.TheVariants.{Exclusive, Shared}
 use Rattle.web_locks.specs.Lock.{PlainLock}
 use Rattle.web_locks.specs.Queue.{fits, held_modes, has_waiting, is_grantable}
-use Rattle.web_locks.proofs.LineLemmas.{AllWaiting, IsRun, IsStolen, IsAlone, IsFormed, beside_shared, both_parts, one_part, fits_alone, modes_loose, run_loose}
+use Rattle.web_locks.specs.Forms.{AllWaiting, IsRun, IsStolen, IsAlone, IsFormed}
+use Rattle.web_locks.proofs.LineLemmas.{beside_shared, both_parts, one_part, fits_alone, modes_loose, run_loose}
 
 module _ {K : Type 0} where
   -- whether one waits, where the first is held or waits

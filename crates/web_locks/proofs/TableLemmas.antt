@@ -13,15 +13,12 @@ use Rattle.web_locks.specs.declared.request.LockMode.{LockMode}
 use Rattle.web_locks.specs.Lock.{PlainLock, is_request_of, in_line}
 use Rattle.web_locks.specs.Queue.{fits, granted}
 use Rattle.web_locks.specs.Requests.{holding}
+use Rattle.web_locks.specs.Forms.{same_request}
 use Rattle.web_locks.proofs.LineLemmas.{given, given_fits, given_held, given_stops}
 
 pub and_both : (a b : Bool) → (a && b) ≡ true → (a ≡ true) × (b ≡ true)
 and_both true b is = (refl, is)
 and_both false b is = absurd (cc is)
-
-pub cond_filtered : {A : Type 0} (p : A → Bool) (b : Bool) (xs ys : List A) → filter p (cond b xs ys) ≡ cond b (filter p xs) (filter p ys)
-cond_filtered p true xs ys = refl
-cond_filtered p false xs ys = refl
 
 -- two filters, in either order
 pub filter_both : {A : Type 0} (p q : A → Bool) (xs : List A) → filter p (filter q xs) ≡ filter q (filter p xs)
@@ -72,10 +69,6 @@ any_kept p test (x ∷ xs) none = at (p x) refl (test x) none (any_kept p test x
     at false e false is later = later is
 
 module _ {K : Type 0} where
-  -- whether two requests are of one number of a document
-  abbrev pub same_request : PlainLock K → PlainLock K → Bool
-  same_request a b = is_request_of a.owner a.id b
-
   -- one of a document's number is told from others as the number is
   pub is_request_of-alike : (owner : Label) (id : ℕ) (l : PlainLock K) → is_request_of owner id l ≡ true
       → (y : PlainLock K) → is_request_of l.owner l.id y ≡ is_request_of owner id y
@@ -93,7 +86,7 @@ module _ {K : Type 0} where
   is_request_of-itself l =
       rw ((Decides-eqb l.owner.tab l.owner.tab).1 refl) (rw ((Decides-eqb l.owner.frame l.owner.frame).1 refl) ((Decides-eqb l.id l.id).1 refl))
 
-  pub same_request-equiv : IsEquivalence same_request
+  pub same_request-equiv : IsEquivalence (same_request {K = K})
   same_request-equiv = record {
     refl = is_request_of-itself;
     symm = λ a b. both_ways (same_request a b) (same_request b a)

@@ -2,15 +2,28 @@
 -- Source: Web Locks API, "The request() method", "Request a lock", "Release a lock" and
 -- "Termination of locks".
 -- Our own choice: a number that the document uses already is refused.
-use Rattle.std.specs.Prelude.{ℕ, Bool, true, false, not, ◌==◌, ◌&&◌, ◌||◌, List, [], ◌∷◌, ◌++◌, Option, Some, None, find, filter, fold, if◌then◌else◌}
+use Rattle.std.specs.Prelude.{ℕ, Bool, true, false, not, ◌==◌, ◌&&◌, ◌||◌, List, [], ◌∷◌, ◌++◌, Option, Some, None, find, filter, fold, map, if◌then◌else◌}
 use Rattle.std.specs.Str.{byte}
 use Rattle.std.specs.declared.cmp.Ordering.{Ordering}
 use Rattle.agent_base.specs.declared.refusals.Label.{Label}
 use Rattle.web_locks.specs.declared.request.LockAnswer.{LockAnswer}
 use Rattle.web_locks.specs.declared.request.LockAnswer.TheVariants as answer
 use Rattle.web_locks.specs.declared.request.LockOptions.{LockOptions}
-use Rattle.web_locks.specs.Lock.{PlainLock, is_exclusive, is_request_of, owned_ids, in_line, line_of}
+use Rattle.web_locks.specs.declared.request.LockState.{LockState}
+use Rattle.web_locks.specs.declared.request.LockState.TheVariants as state
+use Rattle.web_locks.specs.Lock.{PlainLock, is_exclusive, is_request_of, is_owned, owned_ids, in_line, line_of}
 use Rattle.web_locks.specs.Queue.{is_grantable, processed}
+
+-- a request as its document sees it
+pub record PlainRow : Type 0 where
+  pub id : ℕ
+  pub name : List ℕ
+  pub state : LockState
+
+-- whether a request holds its lock
+abbrev pub lock_state : Bool → LockState
+lock_state true = state.Held
+lock_state false = state.Waiting
 
 -- whether a name begins with a hyphen
 abbrev pub is_reserved : List ℕ → Bool
@@ -43,14 +56,26 @@ module _ {K : Type 0} where
   abbrev pub waiting : PlainLock K → PlainLock K
   waiting lock = record lock { held = false }
 
+  -- a request as its document sees it
+  abbrev pub lock_row : PlainLock K → PlainRow
+  lock_row lock = record { id = lock.id; name = lock.name; state = lock_state lock.held }
+
+  -- the requests of a document, in the order in which they were made
+  abbrev pub lock_rows : Label → List (PlainLock K) → List PlainRow
+  lock_rows owner table = map lock_row (filter (is_owned owner) table)
+
 module _ {K : Type 0} (cmp : K → K → Ordering) where
+  -- the table after a steal: those that held the lock have gone, and the request holds it
+  abbrev pub stolen : PlainLock K → List (PlainLock K) → List (PlainLock K)
+  stolen lock table =
+      filter (λ other. not (in_line cmp lock.key lock.name other && other.held)) table
+      ++ holding lock ∷ []
+
   -- "request a lock": a steal removes those that hold the lock, and holds it. Any other request
   -- holds it where it is grantable, else leaves nothing where it is not to wait, and else waits.
   abbrev pub requested : Bool → PlainLock K → List (PlainLock K) → List (PlainLock K)
   requested if_available lock table =
-      if lock.stole
-      then filter (λ other. not (in_line cmp lock.key lock.name other && other.held)) table
-      ++ holding lock ∷ []
+      if lock.stole then stolen lock table
       else (if is_grantable lock.mode (line_of cmp lock.key lock.name table)
       then table ++ holding lock ∷ []
       else (if if_available then table else table ++ waiting lock ∷ []))

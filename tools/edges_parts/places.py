@@ -68,7 +68,7 @@ def refused(report, room):
     other = os.path.join(room.folder, 'other')
     room.write(other, 'test\n')
     cases = [('another list', file, other), ('text', b'no store, but a text\n' * 20, room.list),
-             ('a store that is cut short', file[:-30], room.list), ('another version', file[:8] + b'\2' + file[9:], room.list)]
+             ('a store that is cut short', file[:-30], room.list), ('a byte behind the version', file[:9] + b'\1' + file[10:], room.list)]
     for what, found, listed in cases:
         with open(room.store, 'wb') as store:
             store.write(found)

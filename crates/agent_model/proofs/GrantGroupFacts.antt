@@ -1,6 +1,6 @@
 -- Which domains stand apart where storage access is granted, worked out by hand in the run of
 -- `GrantRunFacts`: that of the widget and that of the page do together, and neither does alone.
-use Rattle.std.proofs.Common.{◌≡◌, true, List, [], ◌∷◌, Option, Some, refl, sym, ap, subst}
+use Rattle.std.proofs.Common.{◌≡◌, true, false, ◌||◌, List, [], ◌∷◌, Option, Some, refl, sym, ap, subst}
 use Rattle.std.proofs.lemmas.Bool.{true≢false}
 use Rattle.std.specs.List.{list_any}
 use Rattle.std.specs.Prelude.{bytes_eq}
@@ -16,7 +16,7 @@ use Rattle.agent_model.specs.SideEvents.{side_event}
 use Rattle.agent_model.specs.TheMachine.{machine}
 use Rattle.agent_model.specs.Groups.{StandApart, group_of}
 use Rattle.agent_model.proofs.GrantRunFacts.{after_opens, asking, cells_asked, cells_before, cells_fetched, cells_framed, clicked_tab, fetch, framed_tab, framing, given_tab, goes, held_after, held_before, held_fetched, held_framed, held_opened, is_clicked, is_framed, is_given, is_opened, last_three, opened_tab, opens_a, opens_w, others, run, w0, w2}
-use Rattle.agent_model.proofs.OwnLemmas.{IsNoAction, one_of, others_own, within_own}
+use Rattle.agent_model.proofs.OwnLemmas.{IsNoAction, asked_named, named_asked, one_of, others_own, within_own}
 use Rattle.agent_model.proofs.WidgetLemmas.{cells_by, done_by, happens, line, names_by, stepped, world}
 use Rattle.agent_model.proofs.StandardFacts.{a, widget}
 
@@ -24,6 +24,10 @@ module _ (domains : List Domain) where
   -- the cells of a line are within these domains, where they are such
   abbrev IsWithin : List Domain → Type 0
   IsWithin names = (c : Domain) → is_in bytes_eq c names ≡ true → list_any (bytes_eq c) domains ≡ list_any (bytes_eq a) domains
+
+  -- and those that it consults
+  abbrev IsAskedWithin : List Domain → Type 0
+  IsAskedWithin names = (c : Domain) → (is_in bytes_eq c names || false) ≡ true → list_any (bytes_eq c) domains ≡ list_any (bytes_eq a) domains
 
   -- and so are those of some lines from a world on
   abbrev AreWithin : AgentWorld → List PlainAction → Type 0
@@ -44,14 +48,15 @@ module _ (domains : List Domain) where
     with_line : IsWithin (names_by action (Some tab)) → (lines : List PlainAction) → AreWithin after lines → AreWithin before (line action ∷ lines)
     unfolding machine side_event
     with_line within lines later = (
-      subst (ConsultsWithin (machine []) (group_of domains) before (line action)) (sym (happens others cells held action)) (subst (λ (t : Option PlainTab). IsWithin (names_by action t)) (sym found) within),
+      subst (ConsultsWithin (machine []) (group_of domains) before (line action)) (sym (happens others cells held action)) (subst (λ (t : Option PlainTab). IsAskedWithin (names_by action t)) (sym found) (λ c asked. within c (asked_named c (names_by action (Some tab)) asked))),
       subst (λ w. AreWithin w lines) (sym (stepped others cells held action tab found)) later,
     )
 
     of_line : (lines : List PlainAction) → AreWithin before (line action ∷ lines) → IsWithin (names_by action (Some tab))
     unfolding machine side_event
-    of_line lines all =
-        subst (λ (t : Option PlainTab). IsWithin (names_by action t)) found (subst (ConsultsWithin (machine []) (group_of domains) before (line action)) (happens others cells held action) all.0)
+    of_line lines all c named =
+        subst (λ (t : Option PlainTab). IsAskedWithin (names_by action t)) found (subst (ConsultsWithin (machine []) (group_of domains) before (line action)) (happens others cells held action) all.0)
+        c (named_asked c (names_by action (Some tab)) named)
 
     behind_line : (lines : List PlainAction) → AreWithin before (line action ∷ lines) → AreWithin after lines
     behind_line lines all = subst (λ w. AreWithin w lines) (stepped others cells held action tab found) all.1

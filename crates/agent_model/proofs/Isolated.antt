@@ -3,7 +3,7 @@ use Rattle.std.proofs.Common.{◌≡◌, ℕ, Bool, true, false, cond, List, [],
 use Rattle.std.proofs.lemmas.Bool.{true≢false}
 use Rattle.std.proofs.lemmas.Slice.Eq.{bytes_eq-Decides}
 use Rattle.std.specs.Prelude.{filter, is_some}
-use Rattle.unwinding.specs.FiniteCells.{restrict_cells}
+use Rattle.unwinding.specs.FiniteCells.{get_cell, restrict_cells}
 use Rattle.unwinding.specs.World.{SiteReply, after_main, after_side, after_sides, of_site, outcome, world_step}
 use Rattle.unwinding.specs.Facts.{Facts, IsQuiet}
 use Rattle.unwinding.proofs.EpochReplies.{lines_replies}
@@ -144,7 +144,7 @@ facts rules =
       site_itself = λ s. (same_plain_site-Decides s s).1 refl;
       cell_same = λ c d. (bytes_eq-Decides c d).0;
       content_same = λ x y. (equal_cookies-Decides x y).0;
-      get_set = get_set;
+      get_set = λ c d from cells. get_set c d (get_cell domain_order from d) cells;
       get_restrict = get_restrict;
       get_merge = get_merge;
       same_cells = same_cells;

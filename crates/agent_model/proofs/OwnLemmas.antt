@@ -1,7 +1,8 @@
 -- A line goes by the partitions of the sites of some domains, the cookies of these, the places of
 -- tabs and the clock alone; and what it consults at another site.
-use Rattle.std.proofs.Common.{◌≡◌, ℕ, Bool, true, false, not, cond, List, [], ◌∷◌, Option, Some, None, refl, sym, ap, subst, ◌∙◌}
+use Rattle.std.proofs.Common.{◌≡◌, ℕ, Bool, true, false, not, ◌||◌, cond, List, [], ◌∷◌, Option, Some, None, refl, sym, ap, subst, ◌∙◌}
 use Rattle.std.proofs.lemmas.Bool.{true≢false}
+use Rattle.std.proofs.Math.Bool.{or-false}
 use Rattle.std.proofs.lemmas.Slice.Eq.{bytes_eq-Decides}
 use Rattle.std.specs.List.{list_any}
 use Rattle.std.specs.Prelude.{bytes_eq, option_map}
@@ -31,6 +32,13 @@ use Rattle.agent_model.proofs.Isolated.{facts}
 -- these are the cells of one domain, or none
 abbrev pub AreOf : Domain → List Domain → Type 0
 AreOf domain names = (c : Domain) → is_in bytes_eq c names ≡ true → c ≡ domain
+
+-- a cell is consulted where it is named, for no event sweeps
+pub asked_named : (c : Domain) (names : List Domain) → (is_in bytes_eq c names || false) ≡ true → is_in bytes_eq c names ≡ true
+asked_named c names asked = sym (or-false (is_in bytes_eq c names)) ∙ asked
+
+pub named_asked : (c : Domain) (names : List Domain) → is_in bytes_eq c names ≡ true → (is_in bytes_eq c names || false) ≡ true
+named_asked c names named = or-false (is_in bytes_eq c names) ∙ named
 
 pub none_of : (domain : Domain) → AreOf domain []
 none_of domain c is = cc
@@ -116,7 +124,7 @@ unfolding machine
 own_facts rules domains =
     record {
       cell_itself = λ c. (bytes_eq-Decides c c).1 refl;
-      sweeps_none = λ partition event. refl;
+      listed_same = λ partition event sweeps xs ys same. cc;
       own_side = λ v w l alike t near. own_side rules domains v w alike l t near;
       own_main = λ v w l alike. own_main rules domains v w alike l;
       own_later = λ v w l alike. own_later rules domains v w alike l;
@@ -219,7 +227,9 @@ module _ (rules : List Rule) (domains : List Domain) where
   pub within_at : (w : AgentWorld) (l : PlainAction) (a : SiteOccurrence) → AreOf a.site.host (event_names rules ((after_sides (machine rules) w l).partition a.site) a.event.event)
       → ConsultsWithin (machine rules) (group_of domains) w l (Some a)
   unfolding machine
-  within_at w l a own c named = ap (λ domain. list_any (bytes_eq domain) domains) (own c named)
+  within_at w l a own c asked =
+      let names = event_names rules ((after_sides (machine rules) w l).partition a.site) a.event.event in
+      ap (λ domain. list_any (bytes_eq domain) domains) (own c (asked_named c names asked))
 
   pub within_own : (w : AgentWorld) (l : PlainAction) (o : Option SiteOccurrence) → IsOfDomain rules w o → ConsultsWithin (machine rules) (group_of domains) w l o
   within_own w l None own = tt

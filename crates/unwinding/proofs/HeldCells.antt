@@ -50,9 +50,20 @@ module _ {Site Cell Cells Partition Content Rest Line Event Reply Change : Type 
       let same = f.cell_same c d in
       grind (arith, rest, same)
 
-  get_cells_used : (c : Cell) (hs : List (HeldCell Cell Content)) (own : Cells) → m.get (cells_used m hs own) c ≡ found c hs (m.get own c)
-  get_cells_used c [] own = refl
-  get_cells_used c (h ∷ hs) own = f.get_set c h.cell h.content (cells_used m hs own) ∙ ap (λ x. cond (m.same_cell c h.cell) h.content x) (get_cells_used c hs own)
+  -- cells that are held from a container
+  get_cells_used : (c : Cell) (needs : Cell → Bool) (from own : Cells) (cs : List Cell) → m.get (cells_used m (held_cells m needs from cs) own) c ≡ found c (held_cells m needs from cs) (m.get own c)
+  get_cells_used c needs from own [] = refl
+  get_cells_used c needs from own (d ∷ cs) = at (needs d) (get_cells_used c needs from own cs)
+    where
+      more : List (HeldCell Cell Content)
+      more = held_cells m needs from cs
+
+      all : Bool → List (HeldCell Cell Content)
+      all b = cond b (record { cell = d; content = m.get from d } ∷ more) more
+
+      at : (b : Bool) → m.get (cells_used m more own) c ≡ found c more (m.get own c) → m.get (cells_used m (all b) own) c ≡ found c (all b) (m.get own c)
+      at true later = f.get_set c d from (cells_used m more own) ∙ ap (λ x. cond (m.same_cell c d) (m.get from d) x) later
+      at false later = later
 
   -- a consulted cell that has to be held is a candidate
   in_candidates : (s : Site) (touched : List Cell) (p : Partition) (e : Event) (c : Cell) → consulted m s p e c ≡ true → is_held m s touched c ≡ true → is_in m.same_cell c (candidates m s touched p e) ≡ true
@@ -72,5 +83,5 @@ module _ {Site Cell Cells Partition Content Rest Line Event Reply Change : Type 
     where
       at : (c : Cell) (h : Bool) → is_held m s touched c ≡ h → (i : Bool) → consulted m s p e c ≡ i → cond (consulted m s p e c) (m.get (cells_used m (held_cells m (is_held m s touched) cells (candidates m s touched p e)) own) c) m.blank ≡ cond (consulted m s p e c) (m.get cells c) m.blank
       at c h is_h false is_i = rw is_i refl
-      at c true is_h true is_i = rw is_i (get_cells_used c (held_cells m (is_held m s touched) cells (candidates m s touched p e)) own ∙ found_needed (is_held m s touched) cells c (m.get own c) is_h (candidates m s touched p e) (in_candidates s touched p e c is_i is_h))
-      at c false is_h true is_i = rw is_i (get_cells_used c (held_cells m (is_held m s touched) cells (candidates m s touched p e)) own ∙ found_held (is_held m s touched) cells c (m.get own c) (agree c is_h) (candidates m s touched p e))
+      at c true is_h true is_i = rw is_i (get_cells_used c (is_held m s touched) cells own (candidates m s touched p e) ∙ found_needed (is_held m s touched) cells c (m.get own c) is_h (candidates m s touched p e) (in_candidates s touched p e c is_i is_h))
+      at c false is_h true is_i = rw is_i (get_cells_used c (is_held m s touched) cells own (candidates m s touched p e) ∙ found_held (is_held m s touched) cells c (m.get own c) (agree c is_h) (candidates m s touched p e))

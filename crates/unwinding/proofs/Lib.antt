@@ -22,3 +22,4 @@ pub mod LawProofs
 pub mod ScriptLawProofs
 pub mod ExampleFacts
 pub mod StandardFacts
+pub mod WorldFacts

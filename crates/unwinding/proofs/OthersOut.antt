@@ -1,8 +1,9 @@
 -- What a line gives a site of a group goes by the partitions of the group's sites, its cells and the
 -- rest, so that lines of other sites can be left out.
 use Rattle.std.proofs.Common.{◌≡◌, Bool, true, false, cond, not, ◌&&◌, ◌||◌, List, [], ◌∷◌, ◌++◌, Option, Some, None}
-use Rattle.std.proofs.Common.{refl, sym, ap, subst, ◌∙◌, append-nil, arith}
-use Rattle.std.proofs.lemmas.Bool.{true≢false}
+use Rattle.std.proofs.Common.{refl, sym, ap, subst, ◌∙◌, arith}
+use Rattle.std.proofs.lemmas.Bool.{true≢false, and_parts, or_left, or_parts, or_right}
+use Rattle.std.proofs.Math.Bool.{and-false, or-false}
 use Rattle.unwinding.specs.Machine.{Occurrence, Machine, WorldOf}
 use Rattle.unwinding.specs.World.{is_in, consulted, outcome, after_side, after_sides, after_main, world_step}
 use Rattle.unwinding.specs.LocalEntries.{is_held, held_cells, candidates, changed_cells, swept_cells}
@@ -12,10 +13,7 @@ use Rattle.unwinding.specs.OneSite.{own_beginning, epoch_script}
 use Rattle.unwinding.specs.Facts.{Facts}
 use Rattle.unwinding.specs.LeftOut.{Group, lines_without, ConsultsWithin, IsGroup, IsAlike, OwnFacts, IsOutside, ApartFacts}
 use Rattle.unwinding.proofs.HeldCells.{in_append}
-
-or_none : (b : Bool) → (b || false) ≡ b
-or_none true = refl
-or_none false = refl
+use Rattle.unwinding.proofs.Tests.{or_true}
 
 module _ {Site Cell Cells Partition Content Rest Line Event Reply Change : Type 0}
     (m : Machine Site Cell Cells Partition Content Rest Line Event Reply Change)
@@ -29,14 +27,39 @@ module _ {Site Cell Cells Partition Content Rest Line Event Reply Change : Type 
   abbrev named : WorldOf m → Occurrence Site Event → Cell → Bool
   named w a c = is_in m.same_cell c (m.names (w.partition a.site) a.event)
 
-  asks_named : (w : WorldOf m) (a : Occurrence Site Event) (c : Cell) → consulted m a.site (w.partition a.site) a.event c ≡ named w a c
-  asks_named w a c = ap (λ b. named w a c || (b && m.is_own a.site c)) (own.sweeps_none (w.partition a.site) a.event) ∙ or_none (named w a c)
+  -- whether an event consults a cell
+  abbrev asked : WorldOf m → Occurrence Site Event → Cell → Bool
+  asked w a c = consulted m a.site (w.partition a.site) a.event c
 
-  -- what the event of a site of the group names is of the group
-  named_inside : (w : WorldOf m) (l : Line) (a : Occurrence Site Event) → ConsultsWithin m g w l (Some a) → g.has_site a.site ≡ true → (c : Cell) → named (after_sides m w l) a c ≡ true → g.has_cell c ≡ true
-  named_inside w l a within inside c is =
+  -- what the event of a site of the group consults is of the group
+  asked_inside : (w : WorldOf m) (l : Line) (a : Occurrence Site Event) → ConsultsWithin m g w l (Some a) → g.has_site a.site ≡ true → (c : Cell) → asked (after_sides m w l) a c ≡ true → g.has_cell c ≡ true
+  asked_inside w l a within inside c is =
       let same = within c is in
       grind (arith, same, inside)
+
+  -- a sweep takes the own cells of a list
+  swept_is : (s : Site) (cs : List Cell) (c : Cell) → is_in m.same_cell c (swept_cells m true s cs) ≡ (is_in m.same_cell c cs && m.is_own s c)
+  swept_is s [] c = refl
+  swept_is s (d ∷ ds) c =
+      let later = swept_is s ds c in
+      let same = f.cell_same c d in
+      grind (arith, later, same)
+
+  -- an own cell is consulted where the event sweeps
+  swept_asked : (a : Occurrence Site Event) (p : Partition) (c : Cell) → m.sweeps p a.event ≡ true → m.is_own a.site c ≡ true → consulted m a.site p a.event c ≡ true
+  swept_asked a p c sweeps is = or_right (is_in m.same_cell c (m.names p a.event)) _ (rw (sweeps, is) refl)
+
+  -- what is named or swept is consulted
+  candidate_asked : (s : Site) (a : Occurrence Site Event) (p : Partition) (touched : List Cell) → s ≡ a.site → (c : Cell) (b : Bool) → m.sweeps p a.event ≡ b
+      → (is_in m.same_cell c (m.names p a.event) || is_in m.same_cell c (swept_cells m b s touched)) ≡ true → consulted m a.site p a.event c ≡ true
+  candidate_asked s a p touched same c false none is = or_left (is_in m.same_cell c (m.names p a.event)) _ (sym (or-false (is_in m.same_cell c (m.names p a.event))) ∙ is)
+  candidate_asked s a p touched same c true sweeps is = at (is_in m.same_cell c (m.names p a.event)) refl
+    where
+      at : (b : Bool) → is_in m.same_cell c (m.names p a.event) ≡ b → consulted m a.site p a.event c ≡ true
+      at true named = or_left (is_in m.same_cell c (m.names p a.event)) _ named
+      at false unnamed =
+          let both = and_parts (is_in m.same_cell c touched) (m.is_own s c) (sym (swept_is s touched c) ∙ or_true (is_in m.same_cell c (m.names p a.event)) _ unnamed is) in
+          swept_asked a p c sweeps (ap (λ t. m.is_own t c) (sym same) ∙ both.1)
 
   -- ---- the event of a site outside
 
@@ -47,15 +70,19 @@ module _ {Site Cell Cells Partition Content Rest Line Event Reply Change : Type 
       at true is = absurd (true≢false (sym of ∙ ap g.has_site (f.site_same t u is) ∙ far))
       at false is = refl
 
-  -- it names no cell of the group
-  unnamed : (w : WorldOf m) (l : Line) (a : Occurrence Site Event) → ConsultsWithin m g w l (Some a) → g.has_site a.site ≡ false → (c : Cell) → g.has_cell c ≡ true → named (after_sides m w l) a c ≡ false
-  unnamed w l a within far c of = at (named (after_sides m w l) a c) refl
+  -- it consults no cell of the group
+  unasked : (w : WorldOf m) (l : Line) (a : Occurrence Site Event) → ConsultsWithin m g w l (Some a) → g.has_site a.site ≡ false → (c : Cell) → g.has_cell c ≡ true → asked (after_sides m w l) a c ≡ false
+  unasked w l a within far c of = at (asked (after_sides m w l) a c) refl
     where
-      at : (b : Bool) → named (after_sides m w l) a c ≡ b → b ≡ false
+      at : (b : Bool) → asked (after_sides m w l) a c ≡ b → b ≡ false
       at true is =
           let same = within c is in
           grind (arith, same, of, far)
       at false is = refl
+
+  -- and names none
+  unnamed : (w : WorldOf m) (l : Line) (a : Occurrence Site Event) → ConsultsWithin m g w l (Some a) → g.has_site a.site ≡ false → (c : Cell) → g.has_cell c ≡ true → named (after_sides m w l) a c ≡ false
+  unnamed w l a within far c of = (or_parts (named (after_sides m w l) a c) _ (unasked w l a within far c of)).0
 
   -- it leaves the partitions of the group's sites
   outside_partition : (w : WorldOf m) (o : Option (Occurrence Site Event)) → IsOutside m g o → (t : Site) → g.has_site t ≡ true → (after_main m w o).partition t ≡ w.partition t
@@ -70,7 +97,7 @@ module _ {Site Cell Cells Partition Content Rest Line Event Reply Change : Type 
       let here = after_sides m w l in
       let new = (outcome m a.site (here.partition a.site) w.cells a.event).cells in
       f.get_merge (consulted m a.site (here.partition a.site) a.event) new w.cells c
-      ∙ ap (λ b. cond b (m.get new c) (m.get w.cells c)) (asks_named here a c ∙ unnamed w l a within far c of)
+      ∙ ap (λ b. cond b (m.get new c) (m.get w.cells c)) (unasked w l a within far c of)
 
   -- a cell is left different where it is named and its contents differ
   changed_is : (old new : Cells) (c : Cell) (cs : List Cell) → is_in m.same_cell c (changed_cells m old new cs) ≡ (is_in m.same_cell c cs && not (m.same_content (m.get old c) (m.get new c)))
@@ -110,7 +137,7 @@ module _ {Site Cell Cells Partition Content Rest Line Event Reply Change : Type 
         by : (a : Occurrence Site Event) (b : Bool) → m.main w l ≡ Some a → g.has_site a.site ≡ b → ConsultsWithin m g w l (Some a)
         by a true is inside c there =
             subst (ConsultsWithin m g v l) (own.own_main v w l alike ∙ is) within c
-            (ap (λ p. is_in m.same_cell c (m.names p a.event)) (sides_alike.partition a.site inside) ∙ there)
+            (ap (λ p. consulted m a.site p a.event c) (sides_alike.partition a.site inside) ∙ there)
         by a false is far c there = out a is far c there
 
         at : (o : Option (Occurrence Site Event)) → m.main w l ≡ o → ConsultsWithin m g w l o
@@ -127,7 +154,7 @@ module _ {Site Cell Cells Partition Content Rest Line Event Reply Change : Type 
       seen_same = f.same_cells _ _ (λ c. f.get_restrict asks v.cells c ∙ at c (asks c) refl ∙ sym (f.get_restrict asks w.cells c))
         where
           at : (c : Cell) (b : Bool) → asks c ≡ b → cond b (m.get v.cells c) m.blank ≡ cond b (m.get w.cells c) m.blank
-          at c true is = alike.cell c (named_inside v l a within inside c (sym (asks_named one a c) ∙ is))
+          at c true is = alike.cell c (asked_inside v l a within inside c is)
           at c false is = refl
 
       outcome_same : outcome m a.site (one.partition a.site) v.cells a.event ≡ outcome m a.site (two.partition a.site) w.cells a.event
@@ -199,26 +226,45 @@ module _ {Site Cell Cells Partition Content Rest Line Event Reply Change : Type 
     main_same s member before after h None within = refl
     main_same s member before after h (Some a) within = at (m.same_site s a.site) refl
       where
-        asked : Partition → List Cell
-        asked p = m.listed (m.names p a.event ++ [])
+        here : Partition
+        here = two.partition a.site
 
-        no_more : (touched : List Cell) (p : Partition) → candidates m s touched p a.event ≡ asked p
-        no_more touched p = ap (λ b. m.listed (m.names p a.event ++ swept_cells m b s touched)) (own.sweeps_none p a.event)
+        -- both lists of touched cells have the same own cells, where the event sweeps these
+        no_more : (s ≡ a.site) → (b : Bool) → m.sweeps here a.event ≡ b → (c : Cell) → is_in m.same_cell c (swept_cells m b s before) ≡ is_in m.same_cell c (swept_cells m b s after)
+        no_more same false none c = refl
+        no_more same true sweeps c =
+            swept_is s before c
+            ∙ own_cells (m.is_own s c) refl
+            ∙ sym (swept_is s after c)
+          where
+            own_cells : (b : Bool) → m.is_own s c ≡ b → (is_in m.same_cell c before && b) ≡ (is_in m.same_cell c after && b)
+            own_cells true is = ap (λ b. b && true) (h c (asked_inside w l a within (ap g.has_site (sym same) ∙ member) c (swept_asked a here c sweeps (ap (λ t. m.is_own t c) (sym same) ∙ is))))
+            own_cells false is = and-false (is_in m.same_cell c before) ∙ sym (and-false (is_in m.same_cell c after))
 
-        asked_of : g.has_site a.site ≡ true → (c : Cell) → is_in m.same_cell c (asked (two.partition a.site)) ≡ true → g.has_cell c ≡ true
-        asked_of inside c is = named_inside w l a within inside c (sym (f.in_listed (m.names (two.partition a.site) a.event ++ []) c ∙ ap (is_in m.same_cell c) (append-nil (m.names (two.partition a.site) a.event))) ∙ is)
+        -- so the candidates are the same
+        same_candidates : (s ≡ a.site) → (b : Bool) → m.sweeps here a.event ≡ b
+            → m.listed (m.names here a.event ++ swept_cells m b s before) ≡ m.listed (m.names here a.event ++ swept_cells m b s after)
+        same_candidates same false none = refl
+        same_candidates same true sweeps = own.listed_same here a.event sweeps _ _ (λ c.
+            in_append m IsSound f c (m.names here a.event) (swept_cells m true s before)
+            ∙ ap (λ b. is_in m.same_cell c (m.names here a.event) || b) (no_more same true sweeps c)
+            ∙ sym (in_append m IsSound f c (m.names here a.event) (swept_cells m true s after)))
 
-        held_same : g.has_site a.site ≡ true
+        asked_of : (s ≡ a.site) → (c : Cell) → is_in m.same_cell c (candidates m s after here a.event) ≡ true → g.has_cell c ≡ true
+        asked_of same c is =
+            asked_inside w l a within (ap g.has_site (sym same) ∙ member) c
+            (candidate_asked s a here after same c (m.sweeps here a.event) refl (sym (f.in_listed (m.names here a.event ++ swept_cells m (m.sweeps here a.event) s after) c ∙ in_append m IsSound f c (m.names here a.event) (swept_cells m (m.sweeps here a.event) s after)) ∙ is))
+
+        held_same : (s ≡ a.site)
             → held_cells m (is_held m s before) v.cells (candidates m s before (one.partition a.site) a.event)
-            ≡ held_cells m (is_held m s after) w.cells (candidates m s after (two.partition a.site) a.event)
-        held_same inside =
-            ap (held_cells m (is_held m s before) v.cells) (no_more before (one.partition a.site))
-            ∙ ap (λ p. held_cells m (is_held m s before) v.cells (asked p)) (sides_alike.partition a.site inside)
-            ∙ held_alike s before after h (asked (two.partition a.site)) (asked_of inside)
-            ∙ ap (held_cells m (is_held m s after) w.cells) (sym (no_more after (two.partition a.site)))
+            ≡ held_cells m (is_held m s after) w.cells (candidates m s after here a.event)
+        held_same same =
+            ap (λ p. held_cells m (is_held m s before) v.cells (candidates m s before p a.event)) (sides_alike.partition a.site (ap g.has_site (sym same) ∙ member))
+            ∙ ap (held_cells m (is_held m s before) v.cells) (same_candidates same (m.sweeps here a.event) refl)
+            ∙ held_alike s before after h (candidates m s after here a.event) (asked_of same)
 
         at : (b : Bool) → m.same_site s a.site ≡ b → main_entries m s before one (Some a) ≡ main_entries m s after two (Some a)
-        at true is = rw is (ap (λ hs. record { event = a.event; held = hs } ∷ []) (held_same (ap g.has_site (sym (f.site_same s a.site is)) ∙ member)))
+        at true is = rw is (ap (λ hs. record { event = a.event; held = hs } ∷ []) (held_same (f.site_same s a.site is)))
         at false is = rw is refl
 
     -- ---- the line
@@ -269,7 +315,7 @@ module _ {Site Cell Cells Partition Content Rest Line Event Reply Change : Type 
       ap (λ b. is_in m.same_cell c (cond b touched (touched ++ changed_cells m w.cells new names))) (site_apart s a.site member far)
       ∙ in_append m IsSound f c touched (changed_cells m w.cells new names)
       ∙ ap (λ b. is_in m.same_cell c touched || b) (changed_is w.cells new c names ∙ ap (λ b. b && not (m.same_content (m.get w.cells c) (m.get new c))) (unnamed w l a within far c of))
-      ∙ or_none (is_in m.same_cell c touched)
+      ∙ or-false (is_in m.same_cell c touched)
 
   module _ (s : Site) (member : g.has_site s ≡ true) (is_apart : WorldOf m → Line → Bool) (h : ApartFacts m g IsSound is_apart) where
     -- such a line gives the site nothing

@@ -1,6 +1,6 @@
 -- What the example's local scripts hold, computed from the definitions: a wrong rule fails here.
 use Rattle.std.proofs.Common.{◌≡◌, ℕ, true, false, List, [], ◌∷◌, Option, Some, None, refl, sym, inl}
-use Rattle.std.proofs.Common.{inr, nat_eq}
+use Rattle.std.proofs.Common.{inr, nat_eq, ◌||◌}
 use Rattle.std.proofs.lemmas.Bool.{true≢false}
 use Rattle.unwinding.specs.declared.example.Site.{Site}
 use Rattle.unwinding.specs.declared.example.Site.TheVariants.{First, Second}
@@ -21,7 +21,7 @@ use Rattle.unwinding.specs.SiteRun.{site_run}
 use Rattle.unwinding.specs.Admissible.{Acts, Reopens, Stretch, interrupted_line}
 use Rattle.unwinding.specs.Admissible.{IsAdmissibleStretch}
 use Rattle.unwinding.specs.LeftOut.{Group, IsGroup, lines_without}
-use Rattle.unwinding.specs.Example.{Cell, Shared, Drawer, Cells, Line, note, same_site, same_cell}
+use Rattle.unwinding.specs.Example.{Cell, Shared, Drawer, Cells, Line, note, same_site, same_cell, is_own}
 use Rattle.unwinding.specs.ExampleSetting.{machine, keeping}
 
 abbrev at : Site → Event → Line
@@ -165,7 +165,7 @@ begun =
       rest = 0;
     }
 
-note_alone : (c : Cell) → is_in same_cell c (Shared ∷ []) ≡ true → same_cell Shared c ≡ true
+note_alone : (c : Cell) → (is_in same_cell c (Shared ∷ []) || false) ≡ true → same_cell Shared c ≡ true
 note_alone Shared is = refl
 note_alone (Drawer s) is = cc
 
@@ -183,6 +183,22 @@ other_reads group = true≢false (group.1.0 Shared refl)
 first_gives : IsGroup machine firsts begun (at First (Give 1) ∷ []) → ⊥
 unfolding machine
 first_gives group = true≢false (sym (group.0 (Drawer Second) refl))
+
+-- nor where the first site takes from its own drawer
+first_takes : IsGroup machine firsts begun (at First Take ∷ []) → ⊥
+unfolding machine
+first_takes group = true≢false (sym (group.0 (Drawer First) refl))
+
+-- the first site and its drawer are a group where it takes, and so does the other site
+drawer_alone : (s : Site) (c : Cell) → (false || is_own s c) ≡ true → same_cell (Drawer First) c ≡ same_site First s
+drawer_alone s Shared is = cc
+drawer_alone First (Drawer t) is = is
+drawer_alone Second (Drawer First) is = cc
+drawer_alone Second (Drawer Second) is = refl
+
+takers : IsGroup machine (record { has_site = same_site First; has_cell = same_cell (Drawer First) }) begun (at First Take ∷ at Second Take ∷ [])
+unfolding world_step machine
+takers = (drawer_alone First, (drawer_alone Second, tt))
 
 -- the test of a line sees the world that the line comes upon
 left_later : lines_without machine (λ w l. nat_eq w.rest 1) begun (at First Read ∷ at Second Read ∷ at Second Take ∷ [])

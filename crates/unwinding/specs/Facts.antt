@@ -42,8 +42,10 @@ pub record Facts
   pub cell_same : (c d : Cell) → m.same_cell c d ≡ true → c ≡ d
   pub content_same : (x y : Content) → m.same_content x y ≡ true → x ≡ y
   -- the container answers as a function from cells to contents, and is determined by that
-  pub get_set : (c d : Cell) (x : Content) (cells : Cells)
-      → m.get (m.set d x cells) c ≡ (if m.same_cell c d then x else m.get cells c)
+  -- (a cell is set to what stood in that cell of some container, and to nothing else)
+  pub get_set : (c d : Cell) (from cells : Cells)
+      → m.get (m.set d (m.get from d) cells) c
+      ≡ (if m.same_cell c d then m.get from d else m.get cells c)
   pub get_restrict : (test : Cell → Bool) (cells : Cells) (c : Cell)
       → m.get (m.restrict test cells) c ≡ (if test c then m.get cells c else m.blank)
   pub get_merge : (test : Cell → Bool) (new old : Cells) (c : Cell)

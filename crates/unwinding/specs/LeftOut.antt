@@ -2,11 +2,11 @@
 -- Source: none; these are the words of the law.
 -- Our own choice: sites and cells make a group, where in a run the events at its sites consult its
 -- cells alone, and all other events consult none of these. The lines of its sites stay, and all
--- others' can go. No event sweeps.
+-- others' can go.
 use Rattle.std.specs.Prelude.{◌≡◌, Bool, true, false, List, [], ◌∷◌, Option, Some, None}
 use Rattle.std.specs.Prelude.{if◌then◌else◌}
 use Rattle.unwinding.specs.Machine.{Occurrence, Machine, WorldOf}
-use Rattle.unwinding.specs.World.{is_in, after_sides, world_step}
+use Rattle.unwinding.specs.World.{is_in, consulted, after_sides, world_step}
 
 -- some sites and some cells, each by a test
 pub record Group (Site Cell : Type 0) : Type 0 where
@@ -22,14 +22,14 @@ module _ {Site Cell Cells Partition Content Rest Line Event Reply Change : Type 
       let later = lines_without is_apart (world_step m w l) ls in
       if is_apart w l then later else l ∷ later
 
-  -- a main event consults, by the names that it gives, cells of the group where its site is of the
-  -- group, and no cell of it where its site is not
+  -- a main event consults, by the names that it gives or as it sweeps, cells of the group where its
+  -- site is of the group, and no cell of it where its site is not
   abbrev pub ConsultsWithin : Group Site Cell → WorldOf m → Line → Option (Occurrence Site Event)
       → Type 0
   ConsultsWithin g w l None = Unit {0}
   ConsultsWithin g w l (Some a) =
       (c : Cell)
-      → is_in m.same_cell c (m.names ((after_sides m w l).partition a.site) a.event) ≡ true
+      → consulted m a.site ((after_sides m w l).partition a.site) a.event c ≡ true
       → g.has_cell c ≡ g.has_site a.site
 
   -- the sites and cells are a group in a run of these lines
@@ -64,10 +64,13 @@ module _ {Site Cell Cells Partition Content Rest Line Event Reply Change : Type 
           → is_apart w l ≡ false → m.main w l ≡ Some a → g.has_site a.site ≡ false
           → ConsultsWithin g w l (Some a)
 
-    -- lines go by the partitions of the group's sites and the rest, and no event sweeps
+    -- Lines go by the partitions of the group's sites and the rest. Where some event sweeps, the
+    -- normal form of a list of cells goes by which cells the list has.
     pub record OwnFacts : Type 0 where
       pub cell_itself : (c : Cell) → m.same_cell c c ≡ true
-      pub sweeps_none : (p : Partition) (e : Event) → m.sweeps p e ≡ false
+      pub listed_same : (p : Partition) (e : Event) → m.sweeps p e ≡ true → (xs ys : List Cell)
+          → ((c : Cell) → is_in m.same_cell c xs ≡ is_in m.same_cell c ys)
+          → m.listed xs ≡ m.listed ys
       pub own_side : (v w : WorldOf m) (l : Line) → IsAlike v w → (t : Site)
           → g.has_site t ≡ true → m.side v l t ≡ m.side w l t
       pub own_main : (v w : WorldOf m) (l : Line) → IsAlike v w → m.main v l ≡ m.main w l

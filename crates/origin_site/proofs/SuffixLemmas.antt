@@ -46,7 +46,7 @@ last_behind (b ∷ front) rest =
     let here = step_some b (rsplit_once 46 (front ++ 46 ∷ rest)).0 (rsplit_once 46 (front ++ 46 ∷ rest)).1 later.1 in
     (here.0 ∙ later.0, here.1)
 
-last_is : (o : Option (List ℕ)) (last : List ℕ) → is_empty last ≡ false → last_label_of o last ≡ last
+pub last_is : (o : Option (List ℕ)) (last : List ℕ) → is_empty last ≡ false → last_label_of o last ≡ last
 last_is None last some = refl
 last_is (Some front) last some = cond-false _ _ _ some
 
@@ -85,7 +85,7 @@ ends_later b (c ∷ rest) some =
     let behind : suc (length rest) - 1 ≡ length rest = omega arith in
     ap (λ n. slice_index (b ∷ c ∷ rest) n == 46) place ∙ sym (ap (λ n. slice_index (c ∷ rest) n == 46) behind)
 
-last_label_some : (host : List ℕ) → 0 < length host → ends_with_dot host ≡ false → is_empty (rsplit_once 46 host).1 ≡ false
+pub last_label_some : (host : List ℕ) → 0 < length host → ends_with_dot host ≡ false → is_empty (rsplit_once 46 host).1 ≡ false
 unfolding rsplit_once
 last_label_some [] some ends = absurd (omega arith)
 last_label_some (b ∷ []) some ends = by (b == 46) ends

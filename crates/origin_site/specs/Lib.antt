@@ -4,3 +4,4 @@ pub mod Domain
 pub mod Origin
 pub mod Site
 pub mod Plain
+pub mod Own

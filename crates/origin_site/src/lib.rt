@@ -8,9 +8,11 @@
 mod address;
 mod domain;
 mod origin;
+mod own;
 mod site;
 
 pub use address::{Address, AddressFault};
 pub use domain::{domain_of, site_of};
 pub use origin::{Origin, same_origin};
+pub use own::{addresses_tell_their_kind, domain_under, is_ip_host, is_own_host};
 pub use site::{Site, SiteFault, same_site};

@@ -45,7 +45,7 @@ absent_place top site rows none =
     let away = absent_by _ (list_any test (codes_of rows)) (sym (position_by test (codes_of rows)) ∙ none) in
     position_by (is_of top site) rows ∙ ap (λ b. cond b (Some (position_or_len (is_of top site) rows)) None) (none_of top site rows away)
 
-abbrev code_of : PlainGrant → ℕ
+abbrev pub code_of : PlainGrant → ℕ
 code_of row = pair_code row.top row.site
 
 -- where the first row that has the number of a pair is of the pair, its place is that of the pair's row

@@ -3,3 +3,5 @@ pub mod RowsLemmas
 pub mod GrantLemmas
 pub mod PartLemmas
 pub mod IndexLemmas
+pub mod NoteLemmas
+pub mod MigrateLemmas

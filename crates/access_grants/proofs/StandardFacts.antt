@@ -1,6 +1,8 @@
 -- Values worked out by hand from the standard's steps and from this repository's own choices.
-use Rattle.std.proofs.Common.{◌≡◌, ◌-◌, ◌^◌, pos, refl, true, false, List, [], ◌∷◌, Option, Some}
+use Rattle.std.proofs.lemmas.Bool.{true≢false}
+use Rattle.std.proofs.Common.{◌≡◌, ◌-◌, ◌^◌, pos, refl, sym, true, false, List, [], ◌∷◌, Option, Some}
 use Rattle.std.specs.Prelude.{codes}
+use Rattle.suffix_list.specs.Suffix.{Rule}
 use Rattle.origin_site.specs.Site.{PlainSite}
 use Rattle.access_grants.specs.declared.facts.Answer.{Answer}
 use Rattle.access_grants.specs.declared.facts.Answer.TheVariants.{Grant, Deny, Dismiss}
@@ -11,7 +13,12 @@ use Rattle.access_grants.specs.declared.permission.GrantState.{GrantState}
 use Rattle.access_grants.specs.declared.permission.GrantState.TheVariants.{Granted, Denied, Unset}
 use Rattle.access_grants.specs.Grant.{PlainGrant, grant_state, with_row, permission_at, spare_after}
 use Rattle.access_grants.specs.UnderSite.{grants_under, with_row_under}
-use Rattle.access_grants.specs.Request.{denied_now, dismissed, first_row, granted, granted_now, has_access, refused, request_rows}
+use Rattle.access_grants.specs.Stays.{grant_stays}
+use Rattle.access_grants.specs.Request.{GivesAccess, denied_now, dismissed, first_row, granted, granted_now, has_access, refused, request_rows}
+
+-- no rule: each last label is a public suffix
+abbrev tests : List Rule
+tests = []
 
 -- three sites over https, and the first over http
 abbrev site_a : PlainSite
@@ -152,3 +159,11 @@ kept_under_its_top = refl
 
 kept_under_no_other_top : with_row_under site_b renewed (deny_x ∷ []) ≡ deny_x ∷ []
 kept_under_no_other_top = refl
+
+-- a grant without the flag gives no access to a document that is not first party
+no_access_without_the_flag : GivesAccess asks (granted false) → ⊥
+no_access_without_the_flag gives = true≢false (sym (gives refl))
+
+-- a permission is of both sites
+both_sites_stay : grant_stays tests (record grant_x { site = record { https = true; host = codes "x.b.test" } }) ≡ false
+both_sites_stay = refl

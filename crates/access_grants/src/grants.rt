@@ -1,15 +1,18 @@
 //! The permissions that are kept.
 ghost use Rattle.std.specs.Prelude.{◌≡◌, ◌≤◌, ◌<◌, ◌+◌, ◌-◌, ◌⊎◌, ℕ, [], ◌∷◌, ◌++◌, None, Some};
-ghost use Rattle.std.specs.Prelude.{IfOk, IsOk, IsTrue, OnErr, OnOk, false, map, nat_eq};
+ghost use Rattle.std.specs.Prelude.{IfOk, IsOk, IsSome, IsTrue, OnErr, OnOk, false, filter, map};
+ghost use Rattle.std.specs.Prelude.{length, nat_eq, not, true, vec_capacity};
 ghost use Rattle.std.specs.Prelude.{slice_get, if◌then◌else◌};
 ghost use Rattle.std.specs.Option.{option_copied, option_map, option_or};
-ghost use Rattle.std.specs.List.{find, list_any, position};
-ghost use Rattle.std.specs.HashMap.{get, spare};
+ghost use Rattle.std.specs.List.{find, list_all, list_any, position};
+ghost use Rattle.std.specs.HashMap.{IsUnique, get, hash_map_len, spare};
 ghost use Rattle.origin_site.specs.Plain.{plain_site};
 ghost use Rattle.access_grants.specs.Grant.{HasDistinctPairs, grant_state, has_row};
 ghost use Rattle.access_grants.specs.Grant.{is_of, with_row, spare_after};
 ghost use Rattle.access_grants.specs.UnderSite.{KeepsUnder, grants_under};
+ghost use Rattle.access_grants.specs.Index.{codes_of};
 ghost use Rattle.access_grants.specs.Plain.{plain_grant};
+ghost use Rattle.access_grants.specs.Stays.{grant_stays};
 ghost use Rattle.access_grants.specs.Request.{GivesAccess, first_row, request_rows};
 
 use crate::code::pair_code;
@@ -21,6 +24,7 @@ use origin_site::Site;
 use std::alloc::Global;
 use std::collections::HashMap;
 use std::marker::Model;
+use suffix_list::SuffixList;
 
 /// The permissions of all pairs of sites, in the order in which the pairs were first kept.
 ///
@@ -123,6 +127,21 @@ impl Grants {
         }
     }
 
+    /// Keeps the rows whose sites are sites under a list, in their order, and answers whether any
+    /// went. Takes no memory, and there is room for as many more rows as before.
+    pub fn migrate(&mut self, list: &SuffixList) -> bool
+        ensures rows { self.new.rows ≡ filter (grant_stays list.now.rules) self.old.rows }
+        ensures went { result ≡ not (list_all (grant_stays list.now.rules) self.old.rows) }
+        ensures spare { self.new.spare ≡ self.old.spare }
+    {
+        if all_stay(self.rows.as_slice(), list) {
+            return false;
+        }
+        retain_rows(&mut self.rows, list);
+        note_rows(&mut self.places, self.rows.as_slice());
+        true
+    }
+
     /// The row at a place, counted from 0.
     pub fn row(&self, n: usize) -> Option<&GrantRow>
         ensures row { option_map plain_grant (option_copied result) ≡ slice_get self.now.rows n }
@@ -192,10 +211,13 @@ impl Grants {
 
 // Gives a number a place, unless it has one.
 fn note(places: &mut HashMap<u64, usize>, code: u64, place: usize)
-    requires room { 0 < spare places.old }
+    requires room { get nat_eq places.old code ≡ None → 0 < spare places.old }
     ensures noted { (other : ℕ) → get nat_eq places.new other ≡ option_or
         (get nat_eq places.old other) (if nat_eq other code then Some place else None) }
     ensures room { spare places.old ≤ spare places.new + 1 }
+    ensures whole { hash_map_len places.old + spare places.old
+        ≤ hash_map_len places.new + spare places.new }
+    ensures unique { IsUnique nat_eq places.old → IsUnique nat_eq places.new }
 {
     if places.contains_key(&code) {
         return;
@@ -203,6 +225,38 @@ fn note(places: &mut HashMap<u64, usize>, code: u64, place: usize)
     if places.insert(code, place).is_err() {
         unreachable!()
     }
+}
+
+// Gives each number of rows the place of its first row, and no other number one. Each of them had
+// a place, so that the room for more numbers stays.
+fn note_rows(places: &mut HashMap<u64, usize>, rows: &[GrantRow])
+    requires known { let codes = codes_of (map plain_grant rows.now) in
+        (code : ℕ) → list_any (nat_eq code) codes ≡ true → IsSome (get nat_eq places.old code) }
+    ensures noted { let codes = codes_of (map plain_grant rows.now) in
+        (code : ℕ) → get nat_eq places.new code ≡ position (nat_eq code) codes }
+    ensures room { spare places.old ≤ spare places.new }
+{
+    places.clear();
+    for (place, row) in rows.iter().enumerate() {
+        note(places, pair_code(&row.top, &row.site), place);
+    }
+}
+
+// Drops the rows that are none under a list.
+fn retain_rows(rows: &mut Vec<GrantRow>, list: &SuffixList)
+    ensures kept { map plain_grant rows.new.items
+        ≡ filter (grant_stays list.now.rules) (map plain_grant rows.old.items) }
+    ensures fewer { length rows.new.items ≤ length rows.old.items }
+    ensures capacity { vec_capacity rows.new ≡ vec_capacity rows.old }
+{
+    rows.retain(|row| row.stays(list));
+}
+
+// Whether all rows are ones under a list.
+fn all_stay(rows: &[GrantRow], list: &SuffixList) -> bool
+    ensures { result ≡ list_all (grant_stays list.now.rules) (map plain_grant rows.now) }
+{
+    rows.iter().all(|row| row.stays(list))
 }
 
 // The rows over memory of their own.

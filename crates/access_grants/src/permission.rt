@@ -4,10 +4,12 @@ ghost use Rattle.std.specs.Int.{saturate_signed};
 ghost use Rattle.origin_site.specs.Plain.{plain_site};
 ghost use Rattle.access_grants.specs.Grant.{PlainGrant, is_of, permission_at, state_of};
 ghost use Rattle.access_grants.specs.Plain.{plain_grant};
+ghost use Rattle.access_grants.specs.Stays.{grant_stays};
 
 use agent_base::NoMemory;
-use origin_site::{Site, same_site};
+use origin_site::{Site, is_own_host, same_site};
 use std::alloc::Global;
+use suffix_list::SuffixList;
 
 /// The number of seconds for which the answer to a prompt is kept: 30 days.
 pub const LIFETIME: i64 = 2_592_000;
@@ -83,6 +85,13 @@ impl GrantRow {
             until: self.until,
         };
         GrantRow::new(alloc, &self.top, &self.site, permission)
+    }
+
+    /// Whether both sites of the row are sites under a list. Takes no memory.
+    pub fn stays(&self, list: &SuffixList) -> bool
+        ensures stays { result ≡ grant_stays list.now.rules (plain_grant self.now) }
+    {
+        is_own_host(self.top.host.as_str(), list) && is_own_host(self.site.host.as_str(), list)
     }
 }
 

@@ -11,6 +11,7 @@ pub mod Persistent
 pub mod Planned
 pub mod Sending
 pub mod Stored
+pub mod Stays
 -- What private functions compute. No public clause rests on it.
 pub mod Borrowed
 pub mod Flags

@@ -2,3 +2,4 @@
 pub mod Context
 pub mod Key
 pub mod Plain
+pub mod Stays

@@ -7,6 +7,7 @@
 
 mod context;
 mod key;
+mod stays;
 
 pub use context::Context;
 pub use key::{StorageKey, key_of, order_of, same_key};

@@ -6,7 +6,9 @@ use Rattle.local_area.specs.Area.{Pair}
 use Rattle.buckets.specs.declared.shed.Bucket.{Bucket}
 use Rattle.buckets.specs.declared.shed.Mode.TheVariants.{BestEffort, Persistent}
 use Rattle.std.specs.Prelude.{true, false}
-use Rattle.buckets.specs.Shed.{area_at, pairs_at, mode_at, made, persisted, has_best_effort, with_pairs, without_fresh, evicted, count_evicted, fresh_bucket}
+use Rattle.std.specs.Prelude.{nat_lt}
+use Rattle.key_map.specs.Retain.{all_pass, retain_entries}
+use Rattle.buckets.specs.Shed.{area_at, pairs_at, mode_at, made, persisted, has_best_effort, with_pairs, without_fresh, evicted, count_evicted, fresh_bucket, bucket_stays}
 
 abbrev one : List Pair
 one = record { name = codes "k"; value = codes "v" } ∷ []
@@ -71,3 +73,13 @@ named_twice_counts_once = refl
 
 unnamed_stays : evicted nat_cmp (7 ∷ []) three ≡ (3, held) ∷ (5, kept) ∷ []
 unnamed_stays = refl
+
+-- a fresh bucket stays, whatever its key
+retained_by_key : retain_entries (bucket_stays (λ key. nat_lt key 5)) three ≡ (3, held) ∷ (7, fresh_bucket) ∷ []
+retained_by_key = refl
+
+persistent_goes : all_pass (bucket_stays (λ key. nat_lt key 5)) three ≡ false
+persistent_goes = refl
+
+fresh_is_none : all_pass (bucket_stays (λ key. nat_lt key 7)) three ≡ true
+fresh_is_none = refl

@@ -2,7 +2,7 @@
 -- Source: Storage Standard, "Storage sheds, shelves, buckets and bottles": a bucket's mode.
 -- Our own choice: a shelf has one bucket and that bucket one bottle, the local area, so that a
 -- shed maps keys to a mode and an area. An eviction takes a best-effort bucket out, with its key.
-use Rattle.std.specs.Prelude.{ℕ, Bool, true, false, not, ◌&&◌, List, [], count_by, filter, length, ◌==◌, Option, option_map, is_some, unwrap_or, if◌then◌else◌}
+use Rattle.std.specs.Prelude.{ℕ, Bool, true, false, not, ◌&&◌, ◌||◌, List, [], count_by, filter, length, ◌==◌, Option, option_map, is_some, unwrap_or, if◌then◌else◌}
 use Rattle.std.specs.declared.cmp.Ordering.{Ordering}
 use Rattle.local_area.specs.Area.{Pair}
 use Rattle.key_map.specs.Entries.{map_get, map_put, map_remove, map_set, is_among}
@@ -30,6 +30,11 @@ is_fresh bucket = is_best_effort bucket.mode && (length bucket.area == 0)
 -- the bucket, persistent
 abbrev pub persistent_bucket : Bucket → Bucket
 persistent_bucket bucket = record bucket { mode = Persistent }
+
+-- whether a bucket stays where those stay whose keys pass a test. One that is as a key's begins
+-- stands for none, and stays.
+abbrev pub bucket_stays : {K : Type 0} → (K → Bool) → K → Bucket → Bool
+bucket_stays test key bucket = is_fresh bucket || test key
 
 module _ {K : Type 0} (cmp : K → K → Ordering) where
   -- the bucket of a key, which is a fresh one where there is none

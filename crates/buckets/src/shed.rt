@@ -1,10 +1,13 @@
 //! The buckets of a shed, by storage key.
-ghost use Rattle.std.specs.Prelude.{◌≡◌, ◌-◌, ◌^◌, min, if◌then◌else◌, [], Some, None, IfOk, OnErr, OnOk, is_some, option_copied};
+ghost use Rattle.std.specs.Prelude.{◌≡◌, ◌-◌, ◌^◌, Bool, min, not, if◌then◌else◌, [], Some, None, IfOk, OnErr, OnOk, is_some, option_copied};
 ghost use Rattle.std.specs.Borrow.{sem};
+ghost use Rattle.std.specs.List.Sorted.{IsStrictlySortedBy};
+ghost use Rattle.std.specs.Map.{keys_of};
 ghost use Rattle.std.specs.Option.{option_copied_mut};
 ghost use Rattle.local_area.specs.Area.{area_weight};
 ghost use Rattle.key_map.specs.Entries.{map_get, IsCopy, HasSameValues, ClonesCompareEqual};
-ghost use Rattle.buckets.specs.Shed.{area_at, mode_at, pairs_at, fresh_bucket, made, persisted, has_best_effort, has_fresh, persistent_bucket, without_fresh, evicted, count_evicted, is_best_effort, is_fresh};
+ghost use Rattle.key_map.specs.Retain.{TellsOfKeys, all_pass, retain_entries};
+ghost use Rattle.buckets.specs.Shed.{area_at, mode_at, pairs_at, fresh_bucket, made, persisted, has_best_effort, has_fresh, persistent_bucket, without_fresh, evicted, count_evicted, is_best_effort, is_fresh, bucket_stays};
 ghost use Rattle.buckets.specs.Evicting.{evicted_one, count_evicted_one};
 ghost use Rattle.buckets.specs.Lends.{LendsArea};
 
@@ -202,6 +205,21 @@ impl<K: Ord + Drop> Shed<K> {
             }
         }
         count
+    }
+
+    /// Keeps the buckets whose keys pass a test, and drops the others, each with its mode and its
+    /// area. One that is best-effort and has no pairs stands for none, and stays. Tells whether one
+    /// was dropped. It takes no memory.
+    pub fn retain<F: Fn(&K) -> bool>(&mut self, stays: F) -> bool
+        requires { F.IsAlwaysCallable stays }
+        ensures retained { (test : K → Bool) → TellsOfKeys test F.Fn stays
+            → self.new ≡ retain_entries (bucket_stays test) self.old }
+        ensures went { (test : K → Bool) → TellsOfKeys test F.Fn stays
+            → result ≡ not (all_pass (bucket_stays test) self.old) }
+        ensures ordered { IsStrictlySortedBy K.cmp (keys_of self.old) }
+    {
+        self.buckets
+            .retain(|key, bucket| bucket.is_fresh() || stays(key))
     }
 
     // Whether a key has a bucket that is best-effort and has no pairs.

@@ -1,4 +1,5 @@
 mod StandardFacts
+pub mod RetainLemmas
 pub mod WalksLemmas
 pub mod EntriesLemmas
 pub mod FiniteKeys

@@ -1,12 +1,19 @@
 -- Look-ups by plain keys in a map whose keys are ordered as their plain keys are.
 use Rattle.std.proofs.Common.{◌≡◌, Bool, true, false, cond, not, List, [], ◌∷◌, map, Option, Some, None, refl, sym, ap, ◌∙◌}
-use Rattle.std.specs.Prelude.{is_some}
+use Rattle.std.specs.Prelude.{is_some, ◌&&◌}
 use Rattle.std.specs.declared.cmp.Ordering.{Ordering}
 use Rattle.std.specs.declared.cmp.Ordering.TheVariants.{Less, Equal, Greater}
 use Rattle.std.specs.BTreeMap.{insert_entry}
-use Rattle.std.specs.Cmp.{IsTotalOrder}
+use Rattle.std.specs.Cmp.{Equal-is, IsTotalOrder, eq_by_cmp_equiv}
+use Rattle.std.specs.FinMap.{IsAntisymmetric}
+use Rattle.std.specs.List.{AllByRecursion}
+use Rattle.std.specs.List.Sorted.{IsStrictlySortedBy}
+use Rattle.std.specs.Map.{keys_of}
+use Rattle.std.proofs.lemmas.Bool.{and_parts}
+use Rattle.std.proofs.lemmas.Map.Entries.{option_filter}
 use Rattle.std.specs.Ordering.{is_eq, eq_by_cmp, match_ordering}
 use Rattle.key_map.specs.Entries.{map_get, map_set, map_put, map_remove}
+use Rattle.key_map.specs.Retain.{all_pass, retain_entries}
 use Rattle.key_map.proofs.EntriesLemmas.{map_get-put, map_get-set, map_get-remove, eq-flip}
 
 module _ {K P V : Type 0} (plain : K → P) where
@@ -78,3 +85,66 @@ module _ {K P V : Type 0} (plain : K → P) where
           ap (map_get by_plain q) (remove_plain key es)
           ∙ map_get-remove by_plain total q (plain key) (plain_of es)
           ∙ ap (λ b. cond b None (found q es)) (eq-flip by_plain total (plain key) q)
+
+      -- a key behind lesser ones is not found among these
+      none_behind : (first : K) (es : List (K × V)) → AllByRecursion (λ k. cmp first k ≡ Less) (keys_of es) → found (plain first) es ≡ None
+      none_behind first [] below = refl
+      none_behind first (e ∷ es) below =
+          ap (λ o. cond (is_eq o) (Some e.1) (found (plain first) es)) (sym (alike first e.0) ∙ below.0) ∙ none_behind first es below.1
+
+      module _ (same : IsAntisymmetric by_plain) (test : K → V → Bool) (plain_test : P → V → Bool) (agree : (k : K) (v : V) → test k v ≡ plain_test (plain k) v) where
+        tied : (q : P) (k : K) → eq_by_cmp by_plain q (plain k) ≡ true → q ≡ plain k
+        tied q k tie = same q (plain k) ((Equal-is (by_plain q (plain k))).0 tie)
+
+        -- a plain key is found with its value where both pass, among the entries that pass
+        pub found-retained : (q : P) (es : List (K × V)) → IsStrictlySortedBy cmp (keys_of es)
+            → found q (retain_entries test es) ≡ option_filter (plain_test q) (found q es)
+        unfolding IsStrictlySortedBy
+        found-retained q [] sorted = refl
+        found-retained q (e ∷ es) sorted =
+            at (eq_by_cmp by_plain q (plain e.0)) refl (test e.0 e.1) refl (found-retained q es sorted.1)
+          where
+            rest : List (K × V)
+            rest = retain_entries test es
+
+            at : (c : Bool) → eq_by_cmp by_plain q (plain e.0) ≡ c → (b : Bool) → test e.0 e.1 ≡ b
+                → found q rest ≡ option_filter (plain_test q) (found q es)
+                → found q (cond b (e ∷ rest) rest) ≡ option_filter (plain_test q) (cond c (Some e.1) (found q es))
+            at c tie true passes later = ap (λ t. cond t (Some e.1) (found q rest)) tie ∙ by c tie
+              where
+                by : (c : Bool) → eq_by_cmp by_plain q (plain e.0) ≡ c → cond c (Some e.1) (found q rest) ≡ option_filter (plain_test q) (cond c (Some e.1) (found q es))
+                by true tie = ap (λ t. cond t (Some e.1) None) (sym passes ∙ agree e.0 e.1 ∙ ap (λ p. plain_test p e.1) (sym (tied q e.0 tie)))
+                by false tie = later
+            at true tie false fails later =
+                later
+                ∙ ap (option_filter (plain_test q)) (ap (λ p. found p es) (tied q e.0 tie) ∙ none_behind e.0 es sorted.0)
+                ∙ ap (λ t. cond t (Some e.1) None) (sym fails ∙ agree e.0 e.1 ∙ ap (λ p. plain_test p e.1) (sym (tied q e.0 tie)))
+            at false apart false fails later = later
+
+        -- where all entries pass, so does each plain key with its value
+        pub passes_at : (es : List (K × V)) → all_pass test es ≡ true → (q : P) (v : V) → found q es ≡ Some v → plain_test q v ≡ true
+        passes_at [] all q v is = cc
+        passes_at (e ∷ es) all q v is =
+            let parts = and_parts (test e.0 e.1) _ all in
+            at parts.0 (eq_by_cmp by_plain q (plain e.0)) refl is (passes_at es parts.1 q v)
+          where
+            at : test e.0 e.1 ≡ true → (c : Bool) → eq_by_cmp by_plain q (plain e.0) ≡ c → cond c (Some e.1) (found q es) ≡ Some v
+                → (found q es ≡ Some v → plain_test q v ≡ true) → plain_test q v ≡ true
+            at passes true tie here later =
+                let value : e.1 ≡ v = cc here in
+                (λ i. plain_test (tied q e.0 tie i) (sym value i)) ∙ sym (agree e.0 e.1) ∙ passes
+            at passes false apart here later = later here
+
+        -- and only there
+        pub all_found : (es : List (K × V)) → IsStrictlySortedBy cmp (keys_of es) → ((q : P) (v : V) → found q es ≡ Some v → plain_test q v ≡ true) → all_pass test es ≡ true
+        unfolding IsStrictlySortedBy
+        all_found [] sorted each = refl
+        all_found (e ∷ es) sorted each =
+            let own : test e.0 e.1 ≡ true =
+            agree e.0 e.1 ∙ each (plain e.0) e.1 (ap (λ c. cond c (Some e.1) (found (plain e.0) es)) ((eq_by_cmp_equiv total).refl (plain e.0))) in
+            let behind = all_found es sorted.1 (λ q v is. each q v (later q v is (eq_by_cmp by_plain q (plain e.0)) refl)) in
+            λ i. own i && behind i
+          where
+            later : (q : P) (v : V) → found q es ≡ Some v → (c : Bool) → eq_by_cmp by_plain q (plain e.0) ≡ c → cond (eq_by_cmp by_plain q (plain e.0)) (Some e.1) (found q es) ≡ Some v
+            later q v is true tie = absurd (cc (sym is ∙ ap (λ p. found p es) (tied q e.0 tie) ∙ none_behind e.0 es sorted.0))
+            later q v is false apart = ap (λ c. cond c (Some e.1) (found q es)) apart ∙ is

@@ -2,7 +2,9 @@
 use Rattle.std.proofs.Common.{◌≡◌, ℕ, refl, List, [], ◌∷◌, Some, None}
 use Rattle.std.specs.Prelude.{true, false}
 use Rattle.std.specs.Ordering.{nat_cmp}
+use Rattle.std.specs.Prelude.{nat_lt}
 use Rattle.key_map.specs.Entries.{map_get, map_set, map_put, is_among, next_key}
+use Rattle.key_map.specs.Retain.{all_pass, retain_entries}
 
 -- 3 with 30, and 7 with 70
 abbrev two : List (ℕ × ℕ)
@@ -40,3 +42,15 @@ among = refl
 
 not_among : is_among nat_cmp (8 ∷ 3 ∷ []) 7 ≡ false
 not_among = refl
+
+kept_by_value : retain_entries (λ key value. nat_lt value 50) two ≡ (3, 30) ∷ []
+kept_by_value = refl
+
+kept_by_key : retain_entries (λ key value. nat_lt 3 key) two ≡ (7, 70) ∷ []
+kept_by_key = refl
+
+one_goes : all_pass (λ key value. nat_lt 3 key) two ≡ false
+one_goes = refl
+
+none_goes : all_pass (λ key value. nat_lt 2 key) two ≡ true
+none_goes = refl

@@ -1,5 +1,5 @@
 //! An ordered map whose values can be lent.
-ghost use Rattle.std.specs.Prelude.{◌≡◌, [], IfOk, OnErr, OnOk, is_some, length, option_copied, ◌==◌};
+ghost use Rattle.std.specs.Prelude.{◌≡◌, [], Bool, IfOk, OnErr, OnOk, is_some, length, not, option_copied, ◌==◌};
 ghost use Rattle.std.specs.Borrow.{sem};
 ghost use Rattle.std.specs.List.{AllZip};
 ghost use Rattle.std.specs.List.Sorted.{IsStrictlySortedBy};
@@ -7,6 +7,7 @@ ghost use Rattle.std.specs.Map.{keys_of};
 ghost use Rattle.std.specs.Option.{option_copied_mut};
 ghost use Rattle.key_map.specs.Entries.{map_get, map_put, map_remove, next_key, entries_from, entries_below, IsCopy, HasSameValues, ClonesCompareEqual};
 ghost use Rattle.key_map.specs.Lends.{LendsValue};
+ghost use Rattle.key_map.specs.Retain.{TellsOf, all_pass, retain_entries};
 
 use agent_base::NoMemory;
 use std::alloc::{AllocError, Global};
@@ -126,6 +127,21 @@ impl<K: Ord + Drop, V: Drop> KeyMap<K, V> {
     {
         prove_eq!(self.by_key.len(), self.by_key.len());
         self.by_key.remove(key)
+    }
+
+    /// Keeps the entries whose keys and values pass a test, in their order, and drops the others.
+    /// Tells whether one was dropped. It takes no memory.
+    pub fn retain<F: Fn(&K, &V) -> bool>(&mut self, stays: F) -> bool
+        requires { F.IsAlwaysCallable stays }
+        ensures retained { (test : K → V → Bool) → TellsOf test F.Fn stays
+            → self.new ≡ retain_entries test self.old }
+        ensures went { (test : K → V → Bool) → TellsOf test F.Fn stays
+            → result ≡ not (all_pass test self.old) }
+        ensures ordered { IsStrictlySortedBy K.cmp (keys_of self.old) }
+    {
+        let before = self.by_key.len();
+        self.by_key.retain(|key, value| stays(key, value));
+        self.by_key.len() < before
     }
 }
 

@@ -102,6 +102,13 @@ impl MemDisk {
         }
     }
 
+    /// The bytes that a read returns, while the power is on.
+    pub fn bytes(&self) -> &[u8]
+        ensures contents { result.now ≡ (held self.now.past).contents }
+    {
+        self.medium.bytes()
+    }
+
     /// How many changing calls were made while the power was on.
     pub fn changing_calls(&self) -> u64
         ensures { result ≡ self.now.plan.calls }

@@ -20,9 +20,9 @@ fn open_it<D: Disk>(alloc: Global, disk: &mut D) -> Result<u64, OpenFault> {
     Ok(journal.changes())
 }
 
-// Opens the store, commits the body once, and makes a checkpoint of it where it is asked to.
-// Answers whether the journal is shut, and a fault of its opening.
-fn run<D: Disk>(alloc: Global, disk: &mut D, has_checkpoint: bool) -> Result<bool, OpenFault> {
+/// Opens the store, commits the body once, and makes a checkpoint of it where it is asked to.
+/// Answers whether the journal is shut, and a fault of its opening.
+pub fn run<D: Disk>(alloc: Global, disk: &mut D, has_checkpoint: bool) -> Result<bool, OpenFault> {
     let mut into = Bodies::new(alloc);
     let mut journal = Journal::open(alloc, disk, &DIGEST, false, &mut into)?;
     let Ok(()) = journal.reserve(disk, BODY.len()) else {
@@ -311,23 +311,9 @@ const FAULTS: &[(u8, usize, usize, u8, &str)] = &[
     (2, 1, 0, 1, "0"),
     (2, 128, 0, 1, "store: not a store at 0"),
     (2, 198, 0, 1, "store: not a store at 198"),
-    (
-        2,
-        199,
-        12,
-        0,
-        "store: list 00b0c44298fc1c149afbf4c8996fb92427ae41e4649b934ca495991b7852b855, \
-         given e3b0c44298fc1c149afbf4c8996fb92427ae41e4649b934ca495991b7852b855",
-    ),
-    // A snapshot that names a list: the first 32 bytes of the body.
-    (
-        2,
-        199,
-        129,
-        3,
-        "store: list 01000000010e00000068747470733a2f2f612e746573740e0000006874747073, \
-         given e3b0c44298fc1c149afbf4c8996fb92427ae41e4649b934ca495991b7852b855",
-    ),
+    // Another list, in the head and in a snapshot.
+    (2, 199, 12, 0, "1"),
+    (2, 199, 129, 3, "1"),
 ];
 
 fn is_answer(
@@ -347,6 +333,93 @@ fn the_first_fault_has_its_offset(rt: HostRuntime) -> Result<(), Fail> {
     for (version, len, at, byte, want) in FAULTS {
         let found = is_answer(alloc, *version, *len, *at, *byte, want)?;
         assert!(rt; found, "version {version}, byte {at} of {len} is {byte}");
+    }
+    Ok(())
+}
+
+// The digest of the list that is told of a file, where that of the empty list is given.
+fn list_of<D: Disk>(alloc: Global, disk: &mut D) -> Option<[u8; 32]> {
+    let mut into = Bodies::new(alloc);
+    match Journal::open(alloc, disk, &DIGEST, true, &mut into) {
+        Ok(journal) => Some(*journal.digest()),
+        Err(_) => None,
+    }
+}
+
+// The digest of the list that is told of the worked store, with its version, cut to a length and
+// with one byte changed.
+fn list_told(
+    alloc: Global,
+    version: u8,
+    len: usize,
+    at: usize,
+    byte: u8,
+) -> Result<Option<[u8; 32]>, Fail> {
+    let mut file = worked_of(alloc, version)?;
+    file.truncate(len);
+    if at < file.len() {
+        file[at] = byte;
+    }
+    let mut disk = disk_of(alloc, &file, None, &[])?;
+    Ok(list_of(alloc, &mut disk))
+}
+
+// The digest of the empty list with 0 in the place of its first byte: that of another list.
+fn other_digest() -> [u8; 32] {
+    let mut other = DIGEST;
+    other[0] = 0;
+    other
+}
+
+#[test]
+fn a_store_opens_under_its_own_list(rt: HostRuntime) -> Result<(), Fail> {
+    let alloc = rt.alloc();
+    assert!(rt; list_told(alloc, 2, 199, 12, 0xe3)? == Some(DIGEST));
+    assert!(rt; list_told(alloc, 1, 199, 12, 0)? == Some(other_digest()));
+    assert!(rt; list_told(alloc, 2, 199, 12, 0)? == Some(other_digest()));
+    // A snapshot that names a list: the first 32 bytes of the body.
+    let named = *b"\x01\0\0\0\x01\x0e\0\0\0https://a.test\x0e\0\0\0https";
+    assert!(rt; list_told(alloc, 2, 199, 129, 3)? == Some(named));
+    // An unborn file becomes a store under the list that is given, whatever stood in its head.
+    assert!(rt; list_told(alloc, 2, 1, 0, 1)? == Some(DIGEST));
+    Ok(())
+}
+
+// Opens the worked store as one under another list, and puts a snapshot under the empty list in the
+// place of its frames, with a cut in this call. The list that is told after a restart.
+fn list_after(alloc: Global, cut: Cut) -> Result<Option<[u8; 32]>, Fail> {
+    let mut file = worked(alloc)?;
+    if let Some(byte) = file.get_mut(12) {
+        *byte = 0;
+    }
+    let mut disk = disk_of(alloc, &file, Some(cut), &[])?;
+    let mut into = Bodies::new(alloc);
+    if let Ok(mut journal) = Journal::open(alloc, &mut disk, &DIGEST, true, &mut into) {
+        let _ = add(&mut journal, &mut disk, true, &BODY[4..]);
+    }
+    let Ok(()) = disk.restart() else {
+        return Ok(None);
+    };
+    Ok(list_of(alloc, &mut disk))
+}
+
+// Whether a cut in this call leaves the store under the other list, or under the empty one.
+fn is_under(alloc: Global, call: u64, pick: u8, is_new: bool) -> Result<bool, Fail> {
+    let want = if is_new { DIGEST } else { other_digest() };
+    Ok(list_after(alloc, Cut { call, pick })? == Some(want))
+}
+
+#[test]
+fn a_cut_leaves_the_old_list_or_the_new_one(rt: HostRuntime) -> Result<(), Fail> {
+    let alloc = rt.alloc();
+    for call in 1..9_u64 {
+        for pick in 0..4_u8 {
+            let is_new = call > 6 && pick > 0;
+            assert!(rt;
+                is_under(alloc, call, pick, is_new)?,
+                "call {call}, pick {pick}"
+            );
+        }
     }
     Ok(())
 }

@@ -4,7 +4,7 @@ ghost use Rattle.std.specs.Prelude.{◌≡◌, None};
 use crate::shared::{bytes_of, disk_of, path_of, put};
 use agent_base::{Fault, MemSource};
 use disk_model::{Disk, MemDisk};
-use hosts::{Host, MemHost, RealHost, hold_streams};
+use hosts::{Host, MemHost, RealHost, StoreFault, hold_streams};
 use std::alloc::Global;
 use std::fs;
 use std::path::AsPath;
@@ -129,18 +129,18 @@ fn long_path(alloc: Global) -> Result<String, Fail> {
     Ok(path)
 }
 
-// Whether the system opens no store of this path.
-fn is_refused(rt: HostRuntime, path: &str) -> bool {
+// Why the system opens no store of this path, if it opens none.
+fn refusal(rt: HostRuntime, path: &str) -> Option<StoreFault> {
     let mut host = RealHost::new(rt);
-    matches!(host.open_store(path), Err(Fault::Failed))
+    host.open_store(path).err()
 }
 
 #[test]
 fn a_store_that_cannot_be_opened_is_a_failure(rt: HostRuntime) -> Result<(), Fail> {
     let long = long_path(rt.alloc())?;
-    assert!(rt; is_refused(rt, "/"));
-    assert!(rt; is_refused(rt, "/dev/null/store"));
-    assert!(rt; is_refused(rt, long.as_str()));
+    assert!(rt; refusal(rt, "/") == Some(StoreFault::Failed));
+    assert!(rt; refusal(rt, "/dev/null/store") == Some(StoreFault::Failed));
+    assert!(rt; refusal(rt, long.as_str()) == Some(StoreFault::Failed));
     Ok(())
 }
 
@@ -150,9 +150,9 @@ fn is_alone(rt: HostRuntime, path: &str) -> bool {
     let Ok(store) = first.open_store(path) else {
         return false;
     };
-    let is_refused_meanwhile = is_refused(rt, path);
+    let meanwhile = refusal(rt, path);
     first.close_store(path, store);
-    is_refused_meanwhile && !is_refused(rt, path)
+    meanwhile == Some(StoreFault::InUse) && refusal(rt, path).is_none()
 }
 
 #[test]

@@ -1,4 +1,5 @@
 pub mod StandardFacts
+pub mod ClauseFacts
 pub mod Moments
 pub mod Ranges
 pub mod Frames

@@ -1,23 +1,23 @@
 -- What an opening leaves, by what its parts leave.
-use Rattle.std.proofs.Common.{◌≡◌, inl, inr, ℕ, ◌+◌, ◌^◌, ◌≤◌, ◌<◌, Bool, true, List, [], length, slice_index, arith, sym, ◌∙◌, ap, subst}
-use Rattle.std.specs.Prelude.{Option, Some, None, Result, Ok, Err, IfOk, OnOk}
+use Rattle.std.proofs.Common.{◌≡◌, inl, inr, ℕ, ◌+◌, ◌^◌, ◌≤◌, ◌<◌, Bool, true, List, [], length, arith, sym, ap, subst}
+use Rattle.std.specs.Prelude.{Option, Some, Result, Ok, Err, IfOk, OnOk}
 use Rattle.std.proofs.lemmas.Bool.Decides.{nat_tests}
 use Rattle.disk_model.specs.Disk.{Goes}
-use Rattle.journal.specs.Append.{IsReady}
+use Rattle.journal.specs.Append.{IsMade}
 use Rattle.journal.specs.Frame.{Frame, IsFirst, IsSecond, AreSound, region_digest, frames_len, last_of, base_of}
-use Rattle.journal.specs.Store.{IsOpen, IsStore, Head, FramesAt}
+use Rattle.journal.specs.Store.{IsOpen, IsStore, IsUnborn, Head, FramesAt}
 use Rattle.journal.specs.Region.{TakesOf, Runs}
 use Rattle.journal.specs.Opening.{IsGrown, IsUpgraded, opening_calls}
 use Rattle.journal.specs.Journal.{JournalView, StandsInFile}
 use Rattle.journal.specs.ReaderAnswers.{ReadsAs, OpensAs, upgrade_calls, behind_sync}
-use Rattle.journal.proofs.Moments.{goes_then_told, goes_from, goes_back, goes_both}
-use Rattle.journal.proofs.Openings.{was_born, was_unborn, if_then}
+use Rattle.journal.proofs.Moments.{goes_told, goes_from, goes_back, goes_both}
+use Rattle.journal.proofs.Openings.{if_then}
 use Rattle.journal.proofs.Upgrades.{store_long, as_upgrade, head_kept, frames_kept, sound_kept, upgraded_second}
 
--- a file was made ready, and so is of this length
-ready_grown : (old mid new : List ℕ) → IsReady old mid → IsGrown mid new → IsGrown old new
-ready_grown old mid new (inl long) grown = let same : length mid ≡ length old = ap length long.1 in omega (arith, same, grown)
-ready_grown old mid new (inr short) grown = omega (arith, short.0, short.1, grown)
+-- a file was made ready and had a head written to it, and so is of this length
+pub made_grown : (block old new : List ℕ) → length block ≡ 128 → IsMade block old new → IsGrown old new
+made_grown block old new size (mid, inl ready, w) = let same : length mid ≡ length old = ap length ready.1 in omega (arith, same, size, w.len)
+made_grown block old new size (mid, inr ready, w) = omega (arith, ready.0, ready.1, size, w.len)
 
 -- a store keeps its length
 upgraded_grown : (old new : List ℕ) → 129 ≤ length old → IsUpgraded old new → IsGrown old new
@@ -72,64 +72,53 @@ module _ {S : Type 0} (takes : TakesOf S) (empty state : S) (j : JournalView) wh
     reads_as runs = (frames, store, runs, stands)
 
   -- a file that was made a store
-  pub opens_new : (old mid new : Option (List ℕ)) → Goes IsReady old mid → ((m : List ℕ) → mid ≡ Some m → slice_index m 0 ≡ 0) → Goes IsGrown mid new → ((d : List ℕ) → new ≡ Some d → StandsInFile j d []) → (state ≡ empty) × (j.changes ≡ 0)
-      → Goes (OpensAs takes empty state j) old new
-  opens_new old mid new ready shut grown made at_empty = goes_then_told IsReady IsGrown (OpensAs takes empty state j) old mid new ready grown
-      (λ c m d was is told one two. ([], made d told, (sym at_empty.0, sym at_empty.1), ready_grown c m d one two, inr (was_unborn c m one (shut m is), at_empty.0, at_empty.1)))
+  pub opens_new : (given : List ℕ) (old new : Option (List ℕ)) → ((c : List ℕ) → old ≡ Some c → IsUnborn c) → Goes IsGrown old new → ((d : List ℕ) → new ≡ Some d → StandsInFile j d []) → (state ≡ empty) × (j.changes ≡ 0) × (j.digest ≡ given)
+      → Goes (OpensAs takes empty state given j) old new
+  opens_new given old new unborn grown made at_empty = goes_told IsGrown (OpensAs takes empty state given j) old new grown
+      (λ c d is told length_is. ([], made d told, (sym at_empty.0, sym at_empty.1), length_is, inr (unborn c is, at_empty.0, at_empty.1, at_empty.2)))
 
   -- and one that was a store
-  pub opens_born : (old mid new : Option (List ℕ)) (bytes : List ℕ) → Goes IsReady old mid → ((m : List ℕ) → mid ≡ Some m → bytes ≡ m) → (slice_index bytes 0 ≡ 0 → ⊥) → Goes IsUpgraded mid new → ReadsAs takes empty state j bytes
-      → Goes (OpensAs takes empty state j) old new
-  opens_born old mid new bytes ready is_bytes gate upgraded (frames, was, runs, to) = goes_then_told IsReady IsUpgraded (OpensAs takes empty state j) old mid new ready upgraded
-      (λ c m d is mid_is told one two.
-      let same = is_bytes m mid_is in
-      let gate_m : slice_index m 0 ≡ 0 → ⊥ = λ e. gate (ap (λ (l : List ℕ). slice_index l 0) same ∙ e) in
-      let born = was_born c m one gate_m in
-      let at_c : bytes ≡ c = same ∙ born.1 in
-      let up = subst (λ (l : List ℕ). IsUpgraded l d) born.1 two in
+  pub opens_born : (given : List ℕ) (old new : Option (List ℕ)) (bytes : List ℕ) → ((c : List ℕ) → old ≡ Some c → bytes ≡ c) → IsOpen bytes 0 × (1 < length bytes) → Goes IsUpgraded old new → ReadsAs takes empty state j bytes
+      → Goes (OpensAs takes empty state given j) old new
+  opens_born given old new bytes is_bytes born upgraded (frames, was, runs, to) = goes_told IsUpgraded (OpensAs takes empty state given j) old new upgraded
+      (λ c d is told up.
+      let at_c = is_bytes c is in
       let store_c = subst (λ (l : List ℕ). IsStore j.digest l frames) at_c was in
-      let gate_c : IsOpen c 0 = (omega (arith, born.0), λ e. gate_m (ap (λ (l : List ℕ). slice_index l 0) born.1 ∙ e)) in (
+      let born_c = subst (λ (l : List ℕ). IsOpen l 0 × (1 < length l)) at_c born in (
         frames,
         to d (subst (λ (l : List ℕ). IsUpgraded l d) (sym at_c) up),
         runs,
         upgraded_grown c d (store_long j.digest c frames store_c) up,
-        inl (gate_c, born.0, store_c, up),
+        inl (born_c.0, born_c.1, store_c, up),
       ))
 
--- a born file that is read was ready
-pub ready_same : (old mid : Option (List ℕ)) (bytes : List ℕ) → Goes IsReady old mid → ((m : List ℕ) → mid ≡ Some m → bytes ≡ m) → (slice_index bytes 0 ≡ 0 → ⊥) → mid ≡ old
-ready_same None mid bytes ready is_bytes gate = ready
-ready_same (Some c) mid bytes (m, is, one) is_bytes gate =
-    let born = was_born c m one (λ e. gate (ap (λ (l : List ℕ). slice_index l 0) (is_bytes m is) ∙ e)) in
-    is ∙ ap (λ (l : List ℕ). Some l) born.1
-
 -- what is said of an opening by the file before and the one after it
-module _ {S : Type 0} (takes : TakesOf S) (empty state : S) where
-  pub opens_from : {E : Type 0} (r : Result JournalView E) (old new : Option (List ℕ)) (c : List ℕ) → old ≡ Some c → IfOk r (λ j. Goes (OpensAs takes empty state j) old new) → IfOk r (λ j. (d : List ℕ) × OpensAs takes empty state j c d)
-  opens_from r old new c is = if_then r (λ j. Goes (OpensAs takes empty state j) old new) (λ j. (d : List ℕ) × OpensAs takes empty state j c d)
-      (λ j goes. let next = goes_from (OpensAs takes empty state j) old new c goes is in (next.0, next.2))
+module _ {S : Type 0} (takes : TakesOf S) (empty state : S) (given : List ℕ) where
+  pub opens_from : {E : Type 0} (r : Result JournalView E) (old new : Option (List ℕ)) (c : List ℕ) → old ≡ Some c → IfOk r (λ j. Goes (OpensAs takes empty state given j) old new) → IfOk r (λ j. (d : List ℕ) × OpensAs takes empty state given j c d)
+  opens_from r old new c is = if_then r (λ j. Goes (OpensAs takes empty state given j) old new) (λ j. (d : List ℕ) × OpensAs takes empty state given j c d)
+      (λ j goes. let next = goes_from (OpensAs takes empty state given j) old new c goes is in (next.0, next.2))
 
-  pub opened_stands : {E : Type 0} (r : Result JournalView E) (old new : Option (List ℕ)) → IfOk r (λ j. Goes (OpensAs takes empty state j) old new)
+  pub opened_stands : {E : Type 0} (r : Result JournalView E) (old new : Option (List ℕ)) → IfOk r (λ j. Goes (OpensAs takes empty state given j) old new)
       → IfOk r (λ j. (d : List ℕ) → new ≡ Some d → (frames : List Frame) × StandsInFile j d frames × Runs takes true empty 0 frames state j.changes)
-  opened_stands r old new = if_then r (λ j. Goes (OpensAs takes empty state j) old new) (λ j. (d : List ℕ) → new ≡ Some d → (frames : List Frame) × StandsInFile j d frames × Runs takes true empty 0 frames state j.changes)
-      (λ j goes d told. let was = goes_back (OpensAs takes empty state j) old new d goes told in stood j was.0 d was.2)
+  opened_stands r old new = if_then r (λ j. Goes (OpensAs takes empty state given j) old new) (λ j. (d : List ℕ) → new ≡ Some d → (frames : List Frame) × StandsInFile j d frames × Runs takes true empty 0 frames state j.changes)
+      (λ j goes d told. let was = goes_back (OpensAs takes empty state given j) old new d goes told in stood j was.0 d was.2)
     where
-      stood : (j : JournalView) (c d : List ℕ) → OpensAs takes empty state j c d → (frames : List Frame) × StandsInFile j d frames × Runs takes true empty 0 frames state j.changes
+      stood : (j : JournalView) (c d : List ℕ) → OpensAs takes empty state given j c d → (frames : List Frame) × StandsInFile j d frames × Runs takes true empty 0 frames state j.changes
       stood j c d (frames, at_file, runs, grown, was) = (frames, at_file, runs)
 
-  up_of : (j : JournalView) (c d : List ℕ) → OpensAs takes empty state j c d → IsOpen c 0 → 1 < length c → IsUpgraded c d
+  up_of : (j : JournalView) (c d : List ℕ) → OpensAs takes empty state given j c d → IsOpen c 0 → 1 < length c → IsUpgraded c d
   up_of j c d (frames, stood, runs, grown, inl born) gate long = born.3
-  up_of j c d (frames, stood, runs, grown, inr (inl short, at_empty, none)) gate long = absurd (omega (arith, short, long))
-  up_of j c d (frames, stood, runs, grown, inr (inr shut, at_empty, none)) gate long = absurd (gate.1 shut)
+  up_of j c d (frames, stood, runs, grown, inr (inl short, at_empty, none, under)) gate long = absurd (omega (arith, short, long))
+  up_of j c d (frames, stood, runs, grown, inr (inr shut, at_empty, none, under)) gate long = absurd (gate.1 shut)
 
-  grown_of : (j : JournalView) (c d : List ℕ) → OpensAs takes empty state j c d → IsGrown c d
+  grown_of : (j : JournalView) (c d : List ℕ) → OpensAs takes empty state given j c d → IsGrown c d
   grown_of j c d (frames, stood, runs, grown, was) = grown
 
-  pub opened_upgraded : {E : Type 0} (r : Result JournalView E) (old new : Option (List ℕ)) → IfOk r (λ j. Goes (OpensAs takes empty state j) old new)
+  pub opened_upgraded : {E : Type 0} (r : Result JournalView E) (old new : Option (List ℕ)) → IfOk r (λ j. Goes (OpensAs takes empty state given j) old new)
       → OnOk r ((c d : List ℕ) → old ≡ Some c → new ≡ Some d → IsOpen c 0 → 1 < length c → IsUpgraded c d)
-  opened_upgraded (Ok j) old new goes = λ c d is told. up_of j c d (goes_both (OpensAs takes empty state j) old new c d goes is told)
+  opened_upgraded (Ok j) old new goes = λ c d is told. up_of j c d (goes_both (OpensAs takes empty state given j) old new c d goes is told)
   opened_upgraded (Err e) old new goes = tt
 
-  pub opened_grown : {E : Type 0} (r : Result JournalView E) (old new : Option (List ℕ)) → IfOk r (λ j. Goes (OpensAs takes empty state j) old new) → OnOk r ((c d : List ℕ) → old ≡ Some c → new ≡ Some d → IsGrown c d)
-  opened_grown (Ok j) old new goes = λ c d is told. grown_of j c d (goes_both (OpensAs takes empty state j) old new c d goes is told)
+  pub opened_grown : {E : Type 0} (r : Result JournalView E) (old new : Option (List ℕ)) → IfOk r (λ j. Goes (OpensAs takes empty state given j) old new) → OnOk r ((c d : List ℕ) → old ≡ Some c → new ≡ Some d → IsGrown c d)
+  opened_grown (Ok j) old new goes = λ c d is told. grown_of j c d (goes_both (OpensAs takes empty state given j) old new c d goes is told)
   opened_grown (Err e) old new goes = tt

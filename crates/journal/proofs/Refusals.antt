@@ -4,11 +4,12 @@ use Rattle.std.specs.Prelude.{◌⊎◌, Result, Ok, Err, IfOk, OnOk, MatchResul
 use Rattle.journal.specs.Frame.{Frame}
 use Rattle.journal.specs.Store.{IsOpen, IsStore, IsUnborn}
 use Rattle.journal.specs.Region.{Runs, IsFault, StandsForState}
-use Rattle.journal.specs.Opening.{IsWithin, IsStoreFault, IsOtherList, IsRefusal, IsExcused, IsOfFile, IsOpening, FileMeans, limit}
+use Rattle.journal.specs.Opening.{IsWithin, IsStoreFault, IsRefusal, IsExcused, IsOfFile, IsOpening, FileMeans, OpensUnder, limit}
 use Rattle.journal.specs.Journal.{JournalView, StandsInFile}
 use Rattle.journal.specs.ReaderAnswers.{OpensAs}
 use Rattle.journal.specs.declared.open_fault.OpenFault.{OpenFault}
-use Rattle.journal.specs.declared.open_fault.OpenFault.TheVariants.{DeviceFault, NotAStore, OtherList, TooLarge, NoMemory}
+use Rattle.journal.specs.declared.open_fault.OpenFault.TheVariants.{DeviceFault, NotAStore, TooLarge, NoMemory}
+use Rattle.journal.proofs.Openings.{if_then}
 use Rattle.journal.proofs.Unique.{live_unique, live_of_head, store_unique}
 use Rattle.journal.proofs.HeadFaults.{head_fault, head_right}
 use Rattle.journal.proofs.NoFault.{fault_unique, region_right}
@@ -46,28 +47,37 @@ module _ {S : Type 0} (takes : S → Bool → List ℕ → S → ℕ → Type 0)
       runs_unique frames false one.0 t u f.last m n one.5 (subst R same two.5)
 
   -- a store stands for one state and one number
-  stands_unique : (digest file : List ℕ) (s t : S) (m n : ℕ) → StandsForState takes empty digest file s m → StandsForState takes empty digest file t n → (s ≡ t) × (m ≡ n)
-  stands_unique digest file s t m n one two =
-      let same = (store_unique digest digest file one.0 two.0 one.1 two.1).0 in
+  stands_unique : (digest other file : List ℕ) (s t : S) (m n : ℕ) → StandsForState takes empty digest file s m → StandsForState takes empty other file t n → (s ≡ t) × (m ≡ n)
+  stands_unique digest other file s t m n one two =
+      let same = (store_unique digest other file one.0 two.0 one.1 two.1).0 in
       let R = λ (l : List Frame). Runs takes true empty 0 l s m in
       runs_unique two.0 true empty s t 0 m n (subst R same one.2) two.2
 
-  pub means_unique : (digest file : List ℕ) (s t : S) (m n : ℕ) → FileMeans takes empty digest file s m → FileMeans takes empty digest file t n → (s ≡ t) × (m ≡ n)
-  means_unique digest file s t m n (inl one) (inl two) = stands_unique digest file s t m n one two
-  means_unique digest file s t m n (inl one) (inr two) = absurd (store_is_born digest file one.0 one.1 two.0)
-  means_unique digest file s t m n (inr one) (inl two) = absurd (store_is_born digest file two.0 two.1 one.0)
-  means_unique digest file s t m n (inr one) (inr two) = (one.1 ∙ sym two.1, one.2 ∙ sym two.2)
+  pub means_unique : (digest other file : List ℕ) (s t : S) (m n : ℕ) → FileMeans takes empty digest file s m → FileMeans takes empty other file t n → (s ≡ t) × (m ≡ n)
+  means_unique digest other file s t m n (inl one) (inl two) = stands_unique digest other file s t m n one two
+  means_unique digest other file s t m n (inl one) (inr two) = absurd (store_is_born digest file one.0 one.1 two.0)
+  means_unique digest other file s t m n (inr one) (inl two) = absurd (store_is_born other file two.0 two.1 one.0)
+  means_unique digest other file s t m n (inr one) (inr two) = (one.1 ∙ sym two.1, one.2 ∙ sym two.2)
+
+  -- under one list
+  pub list_unique : (digest other file : List ℕ) (s t : S) (m n : ℕ) → FileMeans takes empty digest file s m → FileMeans takes empty other file t n → (digest ≡ other) ⊎ IsUnborn file
+  list_unique digest other file s t m n (inl one) (inl two) = inl (store_unique digest other file one.0 two.0 one.1 two.1).1
+  list_unique digest other file s t m n (inl one) (inr two) = inr two.0
+  list_unique digest other file s t m n (inr one) two = inr one.0
 
   -- a cut during an opening changes nothing of what a file stands for
-  pub opening_means : (digest old new : List ℕ) (s : S) (n : ℕ) → FileMeans takes empty digest old s n → IsOpening digest old new → FileMeans takes empty digest new s n
-  opening_means digest old new s n means (inl same) = subst (λ (f : List ℕ). FileMeans takes empty digest f s n) (sym same) means
-  opening_means digest old new s n (inl means) (inr (inl up)) = inl (means.0, upgrade_store digest old new means.0 means.1 up, means.2)
-  opening_means digest old new s n (inr means) (inr (inl up)) = inr (upgrade_unborn old new means.0 up, means.1, means.2)
-  opening_means digest old new s n (inl means) (inr (inr made)) = absurd (store_is_born digest old means.0 means.1 made.0)
-  opening_means digest old new s n (inr means) (inr (inr made)) = ⊎_elim
-      (λ (unborn : IsUnborn new). inr (unborn, means.1, means.2))
-      (λ (store : IsStore digest new []). inl ([], store, (sym means.1, sym means.2)))
-      made.1
+  pub opening_means : (digest given old new : List ℕ) (s : S) (n : ℕ) → FileMeans takes empty digest old s n → IsOpening given old new → FileMeans takes empty digest new s n ⊎ (IsUnborn old × FileMeans takes empty given new s n)
+  opening_means digest given old new s n means (inl same) = inl (subst (λ (f : List ℕ). FileMeans takes empty digest f s n) (sym same) means)
+  opening_means digest given old new s n (inl means) (inr (inl up)) = inl (inl (means.0, upgrade_store digest old new means.0 means.1 up, means.2))
+  opening_means digest given old new s n (inr means) (inr (inl up)) = inl (inr (upgrade_unborn old new means.0 up, means.1, means.2))
+  opening_means digest given old new s n (inl means) (inr (inr made)) = absurd (store_is_born digest old means.0 means.1 made.0)
+  opening_means digest given old new s n (inr means) (inr (inr made)) = inr (
+    means.0,
+    ⊎_elim
+        (λ (unborn : IsUnborn new). inr (unborn, means.1, means.2))
+        (λ (store : IsStore given new []). inl ([], store, (sym means.1, sym means.2)))
+        made.1,
+  )
 
   store_fault : (file : List ℕ) (a b : ℕ) → IsStoreFault takes refuses empty file a → IsStoreFault takes refuses empty file b → a ≡ b
   store_fault file a b (inl one) (inl two) = head_fault file a b one two
@@ -86,123 +96,104 @@ module _ {S : Type 0} (takes : S → Bool → List ℕ → S → ℕ → Type 0)
       let F = λ (k : ℕ). IsFault takes refuses file k empty offset in
       region_right takes refuses one_state one_count one_fault apart file s.begin empty frames t n offset s.sound s.frames_at runs (subst F same.1 p.8)
 
-  other_fault : (digest file kept : List ℕ) (a : ℕ) → IsOtherList takes empty digest file kept → IsStoreFault takes refuses empty file a → ⊥
-  other_fault digest file kept a is = fault_right kept file is.1.2.0 is.1.0 is.1.1 a is.1.2.1 is.1.2.2
-
-  other_unique : (digest file kept other : List ℕ) → IsOtherList takes empty digest file kept → IsOtherList takes empty digest file other → kept ≡ other
-  other_unique digest file kept other one two = (store_unique kept other file one.1.2.0 two.1.2.0 one.1.2.1 two.1.2.1).1
-
-  other_store : (digest file kept : List ℕ) (frames : List Frame) → IsOtherList takes empty digest file kept → IsStore digest file frames → ⊥
-  other_store digest file kept frames is store = is.0 (store_unique kept digest file is.1.2.0 frames is.1.2.1 store).1
-
   too_large : (limited : Bool) (file : List ℕ) (len : ℕ) → IsWithin limited file → limited ≡ true → len ≡ length file → limit < len → ⊥
   too_large limited file len within on is over = omega (arith, within on, is, over)
 
   -- a file is refused for one reason
-  pub refusal_unique : (limited : Bool) (digest file : List ℕ) (v w : OpenFault) → IsOfFile v → IsOfFile w
-      → IsRefusal takes refuses empty limited digest file v → IsRefusal takes refuses empty limited digest file w → v ≡ w
-  refusal_unique limited digest file (TooLarge m) (TooLarge n) a b one two = ap (λ (k : ℕ). TooLarge k) (one.1 ∙ sym two.1)
-  refusal_unique limited digest file (TooLarge m) (NotAStore o) a b one two = absurd (too_large limited file m two.0 one.0 one.1 one.2)
-  refusal_unique limited digest file (TooLarge m) (OtherList kept given) a b one two = absurd (too_large limited file m two.0 one.0 one.1 one.2)
-  refusal_unique limited digest file (NotAStore o) (TooLarge n) a b one two = absurd (too_large limited file n one.0 two.0 two.1 two.2)
-  refusal_unique limited digest file (NotAStore o) (NotAStore p) a b one two = ap (λ (k : ℕ). NotAStore k) (store_fault file o p one.3 two.3)
-  refusal_unique limited digest file (NotAStore o) (OtherList kept given) a b one two = absurd (other_fault digest file kept o two.4 one.3)
-  refusal_unique limited digest file (OtherList kept given) (TooLarge n) a b one two = absurd (too_large limited file n one.0 two.0 two.1 two.2)
-  refusal_unique limited digest file (OtherList kept given) (NotAStore p) a b one two = absurd (other_fault digest file kept p one.4 two.3)
-  refusal_unique limited digest file (OtherList kept given) (OtherList kept' given') a b one two =
-      ap (λ (l : List ℕ). OtherList l given) (other_unique digest file kept kept' one.4 two.4) ∙ ap (λ (l : List ℕ). OtherList kept' l) (one.3 ∙ sym two.3)
-  refusal_unique limited digest file DeviceFault w a b one two = absurd a
-  refusal_unique limited digest file NoMemory w a b one two = absurd a
-  refusal_unique limited digest file (TooLarge m) DeviceFault a b one two = absurd b
-  refusal_unique limited digest file (TooLarge m) NoMemory a b one two = absurd b
-  refusal_unique limited digest file (NotAStore o) DeviceFault a b one two = absurd b
-  refusal_unique limited digest file (NotAStore o) NoMemory a b one two = absurd b
-  refusal_unique limited digest file (OtherList kept given) DeviceFault a b one two = absurd b
-  refusal_unique limited digest file (OtherList kept given) NoMemory a b one two = absurd b
+  pub refusal_unique : (limited : Bool) (file : List ℕ) (v w : OpenFault) → IsOfFile v → IsOfFile w
+      → IsRefusal takes refuses empty limited file v → IsRefusal takes refuses empty limited file w → v ≡ w
+  refusal_unique limited file (TooLarge m) (TooLarge n) a b one two = ap (λ (k : ℕ). TooLarge k) (one.1 ∙ sym two.1)
+  refusal_unique limited file (TooLarge m) (NotAStore o) a b one two = absurd (too_large limited file m two.0 one.0 one.1 one.2)
+  refusal_unique limited file (NotAStore o) (TooLarge n) a b one two = absurd (too_large limited file n one.0 two.0 two.1 two.2)
+  refusal_unique limited file (NotAStore o) (NotAStore p) a b one two = ap (λ (k : ℕ). NotAStore k) (store_fault file o p one.3 two.3)
+  refusal_unique limited file DeviceFault w a b one two = absurd a
+  refusal_unique limited file NoMemory w a b one two = absurd a
+  refusal_unique limited file (TooLarge m) DeviceFault a b one two = absurd b
+  refusal_unique limited file (TooLarge m) NoMemory a b one two = absurd b
+  refusal_unique limited file (NotAStore o) DeviceFault a b one two = absurd b
+  refusal_unique limited file (NotAStore o) NoMemory a b one two = absurd b
 
   -- a store is not refused
   pub store_right : (limited : Bool) (digest file : List ℕ) (frames : List Frame) (t : S) (n : ℕ) (w : OpenFault) → IsWithin limited file → IsStore digest file frames → Runs takes true empty 0 frames t n
-      → IsRefusal takes refuses empty limited digest file w → IsExcused w
+      → IsRefusal takes refuses empty limited file w → IsExcused w
   store_right limited digest file frames t n DeviceFault within s runs is = tt
   store_right limited digest file frames t n NoMemory within s runs is = tt
   store_right limited digest file frames t n (TooLarge len) within s runs is = too_large limited file len within is.0 is.1 is.2
-  store_right limited digest file frames t n (OtherList kept given) within s runs is = other_store digest file kept frames is.4 s
   store_right limited digest file frames t n (NotAStore offset) within s runs is = fault_right digest file frames t n offset s runs is.3
 
   -- nor an unborn file
-  pub unborn_right : (limited : Bool) (digest file : List ℕ) (w : OpenFault) → IsWithin limited file → IsUnborn file → IsRefusal takes refuses empty limited digest file w → IsExcused w
-  unborn_right limited digest file DeviceFault within u is = tt
-  unborn_right limited digest file NoMemory within u is = tt
-  unborn_right limited digest file (TooLarge len) within u is = too_large limited file len within is.0 is.1 is.2
-  unborn_right limited digest file (OtherList kept given) within (inl short) is = omega (arith, short, is.2)
-  unborn_right limited digest file (OtherList kept given) within (inr shut) is = is.1.1 shut
-  unborn_right limited digest file (NotAStore offset) within (inl short) is = omega (arith, short, is.2)
-  unborn_right limited digest file (NotAStore offset) within (inr shut) is = is.1.1 shut
+  pub unborn_right : (limited : Bool) (file : List ℕ) (w : OpenFault) → IsWithin limited file → IsUnborn file → IsRefusal takes refuses empty limited file w → IsExcused w
+  unborn_right limited file DeviceFault within u is = tt
+  unborn_right limited file NoMemory within u is = tt
+  unborn_right limited file (TooLarge len) within u is = too_large limited file len within is.0 is.1 is.2
+  unborn_right limited file (NotAStore offset) within (inl short) is = omega (arith, short, is.2)
+  unborn_right limited file (NotAStore offset) within (inr shut) is = is.1.1 shut
 
   no_excuse : (why : OpenFault) → IsOfFile why → IsExcused why → ⊥
   no_excuse DeviceFault of_file excused = of_file
   no_excuse NoMemory of_file excused = of_file
   no_excuse (TooLarge len) of_file excused = excused
   no_excuse (NotAStore offset) of_file excused = excused
-  no_excuse (OtherList k g) of_file excused = excused
 
   -- a file that stands for something has no refusal
-  pub not_refused : (limited : Bool) (digest file : List ℕ) (s : S) (n : ℕ) (why : OpenFault) → IsWithin limited file → FileMeans takes empty digest file s n → IsOfFile why → IsRefusal takes refuses empty limited digest file why → ⊥
+  pub not_refused : (limited : Bool) (digest file : List ℕ) (s : S) (n : ℕ) (why : OpenFault) → IsWithin limited file → FileMeans takes empty digest file s n → IsOfFile why → IsRefusal takes refuses empty limited file why → ⊥
   not_refused limited digest file s n why within (inl stands) of_file cause = no_excuse why of_file (store_right limited digest file stands.0 s n why within stands.1 stands.2 cause)
-  not_refused limited digest file s n why within (inr unborn) of_file cause = no_excuse why of_file (unborn_right limited digest file why within unborn.0 cause)
+  not_refused limited digest file s n why within (inr unborn) of_file cause = no_excuse why of_file (unborn_right limited file why within unborn.0 cause)
 
   -- what an opening answers, by its plain clauses
-  module _ (limited : Bool) (digest c : List ℕ) (state : S) (r : Result JournalView OpenFault)
-      (opened : IfOk r (λ j. (d : List ℕ) × OpensAs takes empty state j c d))
-      (usable : IfOk r (λ j. (j.shut ≡ false) × (j.digest ≡ digest)))
-      (refused : (why : OpenFault) → r ≡ Err why → IsRefusal takes refuses empty limited digest c why) where
+  module _ (limited : Bool) (given c : List ℕ) (state : S) (r : Result JournalView OpenFault)
+      (opened : IfOk r (λ j. (d : List ℕ) × OpensAs takes empty state given j c d))
+      (refused : (why : OpenFault) → r ≡ Err why → IsRefusal takes refuses empty limited c why) where
     -- of a store
-    by_store : (j : JournalView) (frames : List Frame) (s : S) (n : ℕ) → IsStore digest c frames → Runs takes true empty 0 frames s n → (d : List ℕ) × OpensAs takes empty state j c d → (state ≡ s) × (j.changes ≡ n)
-    by_store j frames s n store runs (d, (found, stands, led, grown, inl (gate, long, was, up))) =
+    by_store : (j : JournalView) (digest : List ℕ) (frames : List Frame) (s : S) (n : ℕ) → IsStore digest c frames → Runs takes true empty 0 frames s n → (d : List ℕ) × OpensAs takes empty state given j c d → (state ≡ s) × (j.changes ≡ n)
+    by_store j digest frames s n store runs (d, (found, stands, led, grown, inl (gate, long, was, up))) =
         let same = (store_unique j.digest digest c found frames was store).0 in
         let R = λ (l : List Frame). Runs takes true empty 0 l state j.changes in
         runs_unique frames true empty state s 0 j.changes n (subst R same led) runs
-    by_store j frames s n store runs (d, (found, stands, led, grown, inr (unborn, at_empty, none))) = absurd (store_is_born digest c frames store unborn)
+    by_store j digest frames s n store runs (d, (found, stands, led, grown, inr (unborn, at_empty, none, under))) = absurd (store_is_born digest c frames store unborn)
 
     -- and of an unborn file
-    by_unborn : (j : JournalView) → IsUnborn c → (d : List ℕ) × OpensAs takes empty state j c d → (state ≡ empty) × (j.changes ≡ 0)
+    by_unborn : (j : JournalView) → IsUnborn c → (d : List ℕ) × OpensAs takes empty state given j c d → (state ≡ empty) × (j.changes ≡ 0)
     by_unborn j unborn (d, (found, stands, led, grown, inl (gate, long, was, up))) = absurd (store_is_born j.digest c found was unborn)
-    by_unborn j unborn (d, (found, stands, led, grown, inr (u, at_empty, none))) = (at_empty, none)
+    by_unborn j unborn (d, (found, stands, led, grown, inr (u, at_empty, none, under))) = (at_empty, none)
 
-    pub opens_means : (s : S) (n : ℕ) → IsWithin limited c → FileMeans takes empty digest c s n → MatchResult r (λ j. (state ≡ s) × (j.changes ≡ n)) IsExcused
-    opens_means s n within means = by r refl opened means
+    pub opens_means : (digest : List ℕ) (s : S) (n : ℕ) → IsWithin limited c → FileMeans takes empty digest c s n → MatchResult r (λ j. (state ≡ s) × (j.changes ≡ n)) IsExcused
+    opens_means digest s n within means = by r refl opened means
       where
-        by : (x : Result JournalView OpenFault) → r ≡ x → IfOk x (λ j. (d : List ℕ) × OpensAs takes empty state j c d) → FileMeans takes empty digest c s n → MatchResult x (λ j. (state ≡ s) × (j.changes ≡ n)) IsExcused
-        by (Ok j) e o (inl stands) = by_store j stands.0 s n stands.1 stands.2 o
+        by : (x : Result JournalView OpenFault) → r ≡ x → IfOk x (λ j. (d : List ℕ) × OpensAs takes empty state given j c d) → FileMeans takes empty digest c s n → MatchResult x (λ j. (state ≡ s) × (j.changes ≡ n)) IsExcused
+        by (Ok j) e o (inl stands) = by_store j digest stands.0 s n stands.1 stands.2 o
         by (Ok j) e o (inr unborn) = let is = by_unborn j unborn.0 o in (is.0 ∙ sym unborn.1, is.1 ∙ sym unborn.2)
         by (Err w) e o (inl stands) = store_right limited digest c stands.0 s n w within stands.1 stands.2 (refused w e)
-        by (Err w) e o (inr unborn) = unborn_right limited digest c w within unborn.0 (refused w e)
+        by (Err w) e o (inr unborn) = unborn_right limited c w within unborn.0 (refused w e)
 
-    as_file : (j : JournalView) → j.digest ≡ digest → (d : List ℕ) × OpensAs takes empty state j c d → FileMeans takes empty digest c state j.changes
-    as_file j is (d, (found, stands, led, grown, inl (gate, long, was, up))) = let D = λ (l : List ℕ). IsStore l c found in inl (found, subst D is was, led)
-    as_file j is (d, (found, stands, led, grown, inr unborn)) = inr unborn
+    as_file : (j : JournalView) → (d : List ℕ) × OpensAs takes empty state given j c d → FileMeans takes empty j.digest c state j.changes
+    as_file j (d, (found, stands, led, grown, inl (gate, long, was, up))) = inl (found, was, led)
+    as_file j (d, (found, stands, led, grown, inr (unborn, at_empty, none, under))) = inr (unborn, at_empty, none)
 
     -- what was opened stands for what the file does
-    pub opens_as : IfOk r (λ j. FileMeans takes empty digest c state j.changes)
-    opens_as = by r opened usable
-      where
-        by : (x : Result JournalView OpenFault) → IfOk x (λ j. (d : List ℕ) × OpensAs takes empty state j c d) → IfOk x (λ j. (j.shut ≡ false) × (j.digest ≡ digest)) → IfOk x (λ j. FileMeans takes empty digest c state j.changes)
-        by (Ok j) o u = as_file j u.1 o
-        by (Err w) o u = tt
+    pub opens_as : IfOk r (λ j. FileMeans takes empty j.digest c state j.changes)
+    opens_as = if_then r (λ j. (d : List ℕ) × OpensAs takes empty state given j c d) (λ j. FileMeans takes empty j.digest c state j.changes) as_file opened
+
+    under_file : (j : JournalView) → (d : List ℕ) × OpensAs takes empty state given j c d → OpensUnder given c j.digest
+    under_file j (d, (found, stands, led, grown, inl (gate, long, was, up))) = inl (found, was)
+    under_file j (d, (found, stands, led, grown, inr (unborn, at_empty, none, under))) = inr (unborn, under)
+
+    -- and under its list, or the given one
+    pub opens_under : IfOk r (λ j. OpensUnder given c j.digest)
+    opens_under = if_then r (λ j. (d : List ℕ) × OpensAs takes empty state given j c d) (λ j. OpensUnder given c j.digest) under_file opened
 
     excused_or_of_file : (why : OpenFault) → IsExcused why ⊎ IsOfFile why
     excused_or_of_file DeviceFault = inl tt
     excused_or_of_file NoMemory = inl tt
     excused_or_of_file (TooLarge len) = inr tt
     excused_or_of_file (NotAStore offset) = inr tt
-    excused_or_of_file (OtherList k g) = inr tt
 
-    pub opens_exactly : OnOk r (IsWithin limited c) → (why : OpenFault) → IsOfFile why → IsRefusal takes refuses empty limited digest c why → MatchResult r (λ _. ⊥) (λ w. (w ≡ why) ⊎ IsExcused w)
+    pub opens_exactly : OnOk r (IsWithin limited c) → (why : OpenFault) → IsOfFile why → IsRefusal takes refuses empty limited c why → MatchResult r (λ _. ⊥) (λ w. (w ≡ why) ⊎ IsExcused w)
     opens_exactly within why of_file cause = by r refl opens_as within
       where
-        by : (x : Result JournalView OpenFault) → r ≡ x → IfOk x (λ j. FileMeans takes empty digest c state j.changes) → OnOk x (IsWithin limited c) → MatchResult x (λ _. ⊥) (λ w. (w ≡ why) ⊎ IsExcused w)
-        by (Ok j) e means within = not_refused limited digest c state j.changes why within means of_file cause
+        by : (x : Result JournalView OpenFault) → r ≡ x → IfOk x (λ j. FileMeans takes empty j.digest c state j.changes) → OnOk x (IsWithin limited c) → MatchResult x (λ _. ⊥) (λ w. (w ≡ why) ⊎ IsExcused w)
+        by (Ok j) e means within = not_refused limited j.digest c state j.changes why within means of_file cause
         by (Err w) e means within = elim (excused_or_of_file w) [
           | inl excused ↦ inr excused
-          | inr file ↦ inl (refusal_unique limited digest c w why file of_file (refused w e) cause)
+          | inr file ↦ inl (refusal_unique limited c w why file of_file (refused w e) cause)
         ]

@@ -5,13 +5,13 @@ use Rattle.std.specs.Int.{w64, to_le_bytes}
 use Rattle.std.proofs.lemmas.Bool.{cases_eq, cases_lt}
 use Rattle.disk_model.specs.Disk.{Holds}
 use Rattle.journal.specs.Frame.{Frame, AreSound, frame_len, frames_len, region_digest}
-use Rattle.journal.specs.Store.{IsOpen, IsClosed, IsStore, Head, FramesAt, magic, slot_bytes}
+use Rattle.journal.specs.Store.{IsOpen, IsClosed, Head, FramesAt, magic, slot_bytes}
 use Rattle.journal.specs.Region.{TakesOf, RefusesOf, OpensAt, Runs, IsRightLast, IsSized, IsFrameAt, IsFaultAt, IsFault}
 use Rattle.journal.specs.HeadFault.{IsFront, IsLive, IsSlotFault, IsHeadFault, begin_at}
 use Rattle.journal.specs.Opening.{FileMeans, IsOfFile, IsRefusal, IsWithin, limit}
 use Rattle.journal.specs.ReaderAnswers.{IsNext}
 use Rattle.journal.specs.declared.open_fault.OpenFault.{OpenFault}
-use Rattle.journal.specs.declared.open_fault.OpenFault.TheVariants.{NotAStore, OtherList, TooLarge}
+use Rattle.journal.specs.declared.open_fault.OpenFault.TheVariants.{NotAStore, TooLarge}
 use Rattle.std.specs.Prelude.{bytes_eq}
 use Rattle.std.proofs.lemmas.Slice.Eq.{bytes_eq-Decides}
 use Rattle.journal.proofs.Whole.{holds_join, holds_from_slice, slice_from_holds, bytes_at, bytes_long, bytes_hold}
@@ -227,24 +227,18 @@ module _ (file : List ℕ) (bytes : (i : ℕ) → slice_index file i < 256) (lon
 
 -- a file means something, or has a first fault
 module _ {S : Type 0} (takes : TakesOf S) (refuses : RefusesOf S) (empty : S) (either : (s : S) (k : Bool) (b : List ℕ) → ((t : S) × (n : ℕ) × takes s k b t n) ⊎ ((o : ℕ) × refuses s k b o))
-    (limited : Bool) (digest file : List ℕ) (bytes : (i : ℕ) → slice_index file i < 256) where
+    (limited : Bool) (file : List ℕ) (bytes : (i : ℕ) → slice_index file i < 256) where
   abbrev Verdict : Type 0
-  Verdict = ((s : S) × (n : ℕ) × FileMeans takes empty digest file s n) ⊎ ((why : OpenFault) × IsOfFile why × IsRefusal takes refuses empty limited digest file why)
-
-  under_list : IsWithin limited file → IsOpen file 0 → 1 < length file → (kept : List ℕ) (frames : List Frame) (s : S) (n : ℕ) → IsStore kept file frames → Runs takes true empty 0 frames s n → Verdict
-  under_list within gate some kept frames s n store runs =
-      let decides = bytes_eq-Decides kept digest in
-      elim (true_or_false (bytes_eq kept digest)) [
-        | inl equal ↦ (let D = λ (l : List ℕ). IsStore l file frames in inl (s, n, inl (frames, subst D (decides.0 equal) store, runs)))
-        | inr unequal ↦ inr (OtherList kept digest, tt, (within, gate, some, refl, ((λ same. true_false (sym (decides.1 same) ∙ unequal)), (s, n, (frames, store, runs)))))
-      ]
+  Verdict = ((digest : List ℕ) × (s : S) × (n : ℕ) × FileMeans takes empty digest file s n) ⊎ ((why : OpenFault) × IsOfFile why × IsRefusal takes refuses empty limited file why)
 
   head_verdict : IsWithin limited file → IsOpen file 0 → 1 < length file → 129 ≤ length file → Verdict
   head_verdict within gate some long = elim (front_verdict file bytes long gate) [
     | inr fault ↦ inr (NotAStore fault.0, tt, (within, gate, some, inl fault.1))
     | inl (kept, live, number, begin, head, from, below, small) ↦ elim (region_verdict takes refuses either file bytes begin empty) [
       | inr bad ↦ inr (NotAStore bad.0, tt, (within, gate, some, inr (kept, live, number, begin, head, from, below, small, bad.1)))
-      | inl (frames, s, n, at, sound, runs) ↦ under_list within gate some (region_digest kept frames) frames s n (store_read (region_digest kept frames) file frames kept live number begin head from small at sound refl) runs
+      | inl (frames, s, n, at, sound, runs) ↦ (
+          let digest = region_digest kept frames in
+          inl (digest, s, n, inl (frames, store_read digest file frames kept live number begin head from small at sound refl, runs)))
     ]
   ]
 
@@ -257,7 +251,7 @@ module _ {S : Type 0} (takes : TakesOf S) (refuses : RefusesOf S) (empty : S) (e
   looked_at : IsWithin limited file → Verdict
   looked_at within = elim (born_or_not file) [
     | inl born ↦ born_verdict within born.0 born.1
-    | inr unborn ↦ inl (empty, 0, inr (unborn, refl, refl))
+    | inr unborn ↦ inl ([], empty, 0, inr (unborn, refl, refl))
   ]
 
   pub verdict : Verdict

@@ -1,6 +1,6 @@
 -- A block behind a gate byte, as the images of an append have it.
 -- Source: none.
-use Rattle.std.specs.Prelude.{◌≡◌, ◌⊎◌, ℕ, ◌+◌, ◌<◌, ◌≤◌, List, length, slice_index, nat_le}
+use Rattle.std.specs.Prelude.{◌≡◌, ◌⊎◌, ℕ, ◌+◌, ◌<◌, ◌≤◌, List, ◌∷◌, length, slice_index, nat_le}
 use Rattle.std.specs.Prelude.{if◌then◌else◌}
 use Rattle.disk_model.specs.Disk.{Holds, Torn, Written}
 
@@ -33,6 +33,11 @@ IsReady old new = ((1 < length old) × (new ≡ old))
 abbrev pub IsSettling : List ℕ → List ℕ → Type 0
 IsSettling old new = (new ≡ old) ⊎ ((length old ≤ 1) × (length new ≤ 1))
 
--- how many changing calls that takes: for a file of at most one byte a write and a sync
+-- the file was made ready, and then had a block written to it behind an open gate
+abbrev pub IsMade : List ℕ → List ℕ → List ℕ → Type 0
+IsMade block old new = (mid : List ℕ) × IsReady old mid × Written 0 (1 ∷ block) mid new
+
+-- how many changing calls it takes to make a file ready: for a file of at most one byte a write and
+-- a sync
 abbrev pub settle_calls : List ℕ → ℕ
 settle_calls file = if nat_le (length file) 1 then 2 else 0

@@ -1,22 +1,23 @@
 -- What an opening does to a file, and why it is refused.
 -- Source: none.
 -- Our own choice: a store over 1,073,741,824 bytes is refused where a limit is asked for; this is
--- looked at first. Then comes whether the file is unborn, then the head, then the region, and last
--- whether it stands under the list that is asked for. A store of version 1 becomes one of version 2
--- once nothing is at fault: its byte 8 is written as 2, and nothing else.
-use Rattle.std.specs.Prelude.{◌≡◌, ◌≢◌, ◌⊎◌, ℕ, ◌+◌, ◌-◌, ◌^◌, ◌<◌, ◌≤◌, max, min, Bool, true, List}
+-- looked at first. Then comes whether the file is unborn, then the head, then the region. A store
+-- opens under whichever list it was written: the list that is given says no more than what an
+-- unborn file becomes. A store of version 1 becomes one of version 2 once nothing is at fault: its
+-- byte 8 is written as 2, and nothing else.
+use Rattle.std.specs.Prelude.{◌≡◌, ◌⊎◌, ℕ, ◌+◌, ◌-◌, ◌^◌, ◌<◌, ◌≤◌, max, min, Bool, true, List}
 use Rattle.std.specs.Prelude.{[], ◌∷◌, length, slice_index, nat_le, nat_eq, if◌then◌else◌}
 use Rattle.std.specs.Prelude.{Result, IsErrOf, OnOk}
 use Rattle.agent_base.specs.Counts.{Rose}
 use Rattle.disk_model.specs.Disk.{View, Torn, Written, IsPowered, HasFailed}
-use Rattle.journal.specs.Frame.{IsFirst, IsSecond, version_offset}
+use Rattle.journal.specs.Frame.{Frame, IsFirst, IsSecond, version_offset}
 use Rattle.journal.specs.Store.{IsOpen, IsStore, IsUnborn, Head}
 use Rattle.journal.specs.Store.{head_len}
 use Rattle.journal.specs.Region.{TakesOf, RefusesOf, IsFault, StandsForState}
 use Rattle.journal.specs.HeadFault.{IsHeadFault}
 use Rattle.journal.specs.declared.open_fault.OpenFault.{OpenFault}
 use Rattle.journal.specs.declared.open_fault.OpenFault.TheVariants.{DeviceFault, NotAStore}
-use Rattle.journal.specs.declared.open_fault.OpenFault.TheVariants.{OtherList, TooLarge, NoMemory}
+use Rattle.journal.specs.declared.open_fault.OpenFault.TheVariants.{TooLarge, NoMemory}
 
 -- the greatest length under a limit
 abbrev pub limit : ℕ
@@ -44,18 +45,11 @@ IsStoreFault {S} takes refuses empty file offset =
     × (begin < length file) × (begin < 2 ^ 64)
     × IsFault takes refuses file begin empty offset)
 
--- the file is a store, and stands for something, under this list and not under the one that is
--- asked for
-abbrev pub IsOtherList : {S : Type 0} → TakesOf S → S → List ℕ → List ℕ → List ℕ → Type 0
-IsOtherList {S} takes empty digest file kept =
-    (kept ≢ digest) × ((s : S) × (n : ℕ) × StandsForState takes empty kept file s n)
-
 -- want of memory, and a device fault: they say nothing of the file
 abbrev pub IsExcused : OpenFault → Type 0
 IsExcused DeviceFault = Unit {0}
 IsExcused NoMemory = Unit {0}
 IsExcused (NotAStore offset) = ⊥
-IsExcused (OtherList kept given) = ⊥
 IsExcused (TooLarge len) = ⊥
 
 -- the other refusals are of a file
@@ -63,33 +57,31 @@ abbrev pub IsOfFile : OpenFault → Type 0
 IsOfFile DeviceFault = ⊥
 IsOfFile NoMemory = ⊥
 IsOfFile (NotAStore offset) = Unit {0}
-IsOfFile (OtherList kept given) = Unit {0}
 IsOfFile (TooLarge len) = Unit {0}
 
--- why a born file is refused
-abbrev pub IsStoreRefusal : {S : Type 0} → TakesOf S → RefusesOf S → S → List ℕ → List ℕ → OpenFault
-    → Type 0
-IsStoreRefusal takes refuses empty digest file
-    (NotAStore offset) = IsStoreFault takes refuses empty file offset
-IsStoreRefusal takes refuses empty digest file (OtherList kept given) = (given ≡ digest)
-    × IsOtherList takes empty digest file kept
-IsStoreRefusal takes refuses empty digest file (TooLarge len) = ⊥
-IsStoreRefusal takes refuses empty digest file DeviceFault = ⊥
-IsStoreRefusal takes refuses empty digest file NoMemory = Unit {0}
+-- each refusal but a device fault comes before anything is written
+abbrev pub LeavesAlone : OpenFault → Type 0
+LeavesAlone DeviceFault = ⊥
+LeavesAlone NoMemory = Unit {0}
+LeavesAlone (NotAStore offset) = Unit {0}
+LeavesAlone (TooLarge len) = Unit {0}
+
+-- nothing was written: what is told of the file stays, and what a cut may leave of it, it might
+-- have left before
+pub record LeavesNoMore (old new : View) : Type 0 where
+  pub contents : new.contents ≡ old.contents
+  pub images : (file : List ℕ) → new.may_leave file → old.may_leave file
 
 -- why an opening is refused
-abbrev pub IsRefusal : {S : Type 0} → TakesOf S → RefusesOf S → S → Bool → List ℕ → List ℕ
-    → OpenFault → Type 0
-IsRefusal takes refuses empty limited digest file (TooLarge len) = (limited ≡ true)
+abbrev pub IsRefusal : {S : Type 0} → TakesOf S → RefusesOf S → S → Bool → List ℕ → OpenFault
+    → Type 0
+IsRefusal takes refuses empty limited file (TooLarge len) = (limited ≡ true)
     × (len ≡ length file) × (limit < len)
-IsRefusal takes refuses empty limited digest file (NotAStore offset) =
+IsRefusal takes refuses empty limited file (NotAStore offset) =
     IsWithin limited file × IsOpen file 0 × (1 < length file)
     × IsStoreFault takes refuses empty file offset
-IsRefusal takes refuses empty limited digest file (OtherList kept given) =
-    IsWithin limited file × IsOpen file 0 × (1 < length file) × (given ≡ digest)
-    × IsOtherList takes empty digest file kept
-IsRefusal takes refuses empty limited digest file DeviceFault = Unit {0}
-IsRefusal takes refuses empty limited digest file NoMemory = Unit {0}
+IsRefusal takes refuses empty limited file DeviceFault = Unit {0}
+IsRefusal takes refuses empty limited file NoMemory = Unit {0}
 
 -- the file had version 1, and at most the byte that says so has changed
 pub record IsUpgrade (old new : List ℕ) : Type 0 where
@@ -107,13 +99,19 @@ abbrev pub IsGrown : List ℕ → List ℕ → Type 0
 IsGrown old new = length new ≡ max (length old) (head_len + 1)
 
 -- what a cut during an opening leaves: the file as it was; of one of version 1 the file but for
--- that byte; or of an unborn file an unborn one or a store without frames
-abbrev pub IsOpening : List ℕ → List ℕ → List ℕ → Type 0
-IsOpening digest old new = (new ≡ old)
-    ⊎ (IsUpgrade old new ⊎ (IsUnborn old × (IsUnborn new ⊎ IsStore digest new [])))
+-- that byte; or of an unborn file an unborn one, or a store without frames under the given list
+abbrev pub IsOpening : (given old new : List ℕ) → Type 0
+IsOpening given old new = (new ≡ old)
+    ⊎ (IsUpgrade old new ⊎ (IsUnborn old × (IsUnborn new ⊎ IsStore given new [])))
 
--- what a file stands for: a store for what its frames lead to, and an unborn file for the empty
--- state with 0 changes
+-- the digest of the list under which a file opens: a store's own, whichever list is given, and the
+-- given one for an unborn file
+abbrev pub OpensUnder : (given file digest : List ℕ) → Type 0
+OpensUnder given file digest =
+    ((frames : List Frame) × IsStore digest file frames) ⊎ (IsUnborn file × (digest ≡ given))
+
+-- what a file stands for, and under the digest of which list: a store, under its own alone, for
+-- what its frames lead to, and an unborn file, under any, for the empty state with 0 changes
 abbrev pub FileMeans : {S : Type 0} → TakesOf S → S → List ℕ → List ℕ → S → ℕ → Type 0
 FileMeans takes empty digest file s n =
     StandsForState takes empty digest file s n ⊎ (IsUnborn file × (s ≡ empty) × (n ≡ 0))

@@ -7,15 +7,18 @@ use Rattle.journal.specs.Frame.{Frame}
 use Rattle.journal.specs.Store.{IsOpen, IsClosed, IsStore, IsUnborn, Head, digest_offset}
 use Rattle.journal.specs.Frame.{digest_len, version_offset}
 use Rattle.journal.specs.Store.{zeros_offset, zeros_len, head_len}
-use Rattle.journal.specs.Region.{TakesOf, IsCut, IsWrongKind, IsShort, IsFrameAt, IsRightLast}
+use Rattle.journal.specs.Region.{TakesOf, RefusesOf, IsCut, IsWrongKind, IsShort, IsFrameAt, IsRightLast}
 use Rattle.journal.specs.Region.{Runs}
-use Rattle.journal.specs.Opening.{IsGrown, IsUpgrade, IsUpgraded}
+use Rattle.journal.specs.Opening.{IsGrown, IsStoreFault, IsUpgrade, IsUpgraded}
 use Rattle.journal.specs.Journal.{JournalView, StandsInFile}
 use Rattle.journal.specs.HeadFault.{IsHeadFault, IsSlotFault, IsLive}
 use Rattle.journal.specs.declared.fields.Read.{Read}
 use Rattle.journal.specs.declared.fields.Read.TheVariants.{End, Cut, Kind, Short, Whole}
 use Rattle.journal.specs.declared.head.HeadRead.{HeadRead}
 use Rattle.journal.specs.declared.head.HeadRead.TheVariants.{Live, Bad}
+use Rattle.journal.specs.declared.open_fault.OpenFault.{OpenFault}
+use Rattle.journal.specs.declared.open_fault.OpenFault.TheVariants.{DeviceFault, NotAStore}
+use Rattle.journal.specs.declared.open_fault.OpenFault.TheVariants.{NoMemory, TooLarge}
 use Rattle.journal.specs.declared.region.Taken.{Taken}
 
 -- what `frame_at` finds: of a frame whether it is a snapshot, its number, how many bytes name a
@@ -60,9 +63,13 @@ IsHeadRead file (Live live number begin) =
     → Head kept file live number begin) × (head_len ≤ begin) × (begin < length file)
 IsHeadRead file (Bad offset) = IsHeadFault file offset
 
--- a journal that was opened may be used, under this digest
-abbrev pub IsUsable : List ℕ → JournalView → Type 0
-IsUsable digest journal = (journal.shut ≡ false) × (journal.digest ≡ digest)
+-- why a born file is not read
+abbrev pub IsStoreRefusal : {S : Type 0} → TakesOf S → RefusesOf S → S → List ℕ → OpenFault → Type 0
+IsStoreRefusal takes refuses empty file (NotAStore offset) =
+    IsStoreFault takes refuses empty file offset
+IsStoreRefusal takes refuses empty file (TooLarge len) = ⊥
+IsStoreRefusal takes refuses empty file DeviceFault = ⊥
+IsStoreRefusal takes refuses empty file NoMemory = Unit {0}
 
 -- the file is the journal's store, and its frames lead from the empty state to this one
 abbrev pub LeadsTo : {S : Type 0} → TakesOf S → (empty state : S) → JournalView → List ℕ → Type 0
@@ -89,14 +96,15 @@ behind_sync file =
     else upgrade_calls file
 
 -- what an opening made of a file is the journal's store, whose frames lead to this state; the file
--- was such a store itself, or an unborn file, of which the state is the empty one
-abbrev pub OpensAs : {S : Type 0} → TakesOf S → (empty state : S) → JournalView → List ℕ → List ℕ
-    → Type 0
-OpensAs takes empty state journal old new =
+-- was such a store itself, or an unborn file, of which the state is the empty one, under the given
+-- digest
+abbrev pub OpensAs : {S : Type 0} → TakesOf S → (empty state : S) → (given : List ℕ) → JournalView
+    → List ℕ → List ℕ → Type 0
+OpensAs takes empty state given journal old new =
     (frames : List Frame) × StandsInFile journal new frames
     × Runs takes true empty 0 frames state journal.changes × IsGrown old new
     × ((IsOpen old 0 × (1 < length old) × IsStore journal.digest old frames × IsUpgraded old new)
-    ⊎ (IsUnborn old × (state ≡ empty) × (journal.changes ≡ 0)))
+    ⊎ (IsUnborn old × (state ≡ empty) × (journal.changes ≡ 0) × (journal.digest ≡ given)))
 
 -- a file as it was, or one of version 1 but for the byte that says so
 abbrev pub IsKept : List ℕ → List ℕ → Type 0

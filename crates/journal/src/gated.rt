@@ -59,7 +59,7 @@ pub fn stage<D: Disk>(
 }
 
 /// Closes the first byte of a file that has at most one, and syncs. Its length is given.
-pub fn settle<D: Disk>(disk: &mut D, len: u64) -> Result<u64, Failed>
+pub fn settle<D: Disk>(disk: &mut D, len: u64) -> Result<(), Failed>
     requires settled { IsSettled (D.view disk.old) }
     requires on { (D.view disk.old).off ≡ false }
     requires len { (c : List ℕ) → (D.view disk.old).contents ≡ Some c → len ≡ length c }
@@ -68,23 +68,18 @@ pub fn settle<D: Disk>(disk: &mut D, len: u64) -> Result<u64, Failed>
     ensures settled { OnOk result (IsSettled (D.view disk.new)) }
     ensures contents { OnOk result
         (Goes IsReady (D.view disk.old).contents (D.view disk.new).contents) }
-    ensures len { IfOk result (λ n. (d : List ℕ) → (D.view disk.new).contents ≡ Some d
-        → n ≡ length d) }
     ensures any_moment { (c : List ℕ) → (D.view disk.old).contents ≡ Some c
         → LeavesOnly (D.view disk.old) (D.view disk.new) (IsSettling c) }
-    ensures kept { (c : List ℕ) → (D.view disk.old).contents ≡ Some c → 1 < length c
-        → (D.view disk.new).contents ≡ Some c }
     ensures faults { Faults result (D.view disk.old) (D.view disk.new) }
     ensures calls { (c : List ℕ) → (D.view disk.old).contents ≡ Some c
         → Makes (settle_calls c) result (D.view disk.old) (D.view disk.new) }
     ensures room { UsesRoom 1 (D.view disk.old) (D.view disk.new) }
 {
     if len > 1 {
-        return Ok(len);
+        return Ok(());
     }
     disk.write_at(0, &[0])?;
-    disk.sync()?; // the gate is closed on the disk before the head is written behind it
-    Ok(1)
+    disk.sync() // the gate is closed on the disk before the head is written behind it
 }
 
 /// Writes 2 in the place of a version, and syncs.

@@ -5,7 +5,7 @@ ghost use Rattle.std.specs.Prelude.{◌≡◌, ◌⊎◌, ◌+◌, ◌-◌, ◌%
 ghost use Rattle.std.specs.Prelude.{Bool, Result, Some, false, slice_index};
 ghost use Rattle.disk_model.specs.Disk.{Makes};
 ghost use Rattle.journal.specs.Frame.{Frame, base_of};
-ghost use Rattle.journal.specs.Store.{IsStore};
+ghost use Rattle.journal.specs.Store.{IsStore, IsUnborn};
 ghost use Rattle.journal.specs.Region.{Runs, HasChanges, StandsForState};
 ghost use Rattle.journal.specs.Opening.{AnswersByCuts, FileMeans, IsOfFile, IsOpening, IsRefusal};
 ghost use Rattle.journal.specs.Opening.{IsUpgrade, IsWithin, Opens};
@@ -29,31 +29,38 @@ pub fn upgrade_keeps()
         → IsUpgrade old new → IsStore digest new frames }
 {}
 
-/// A file stands for one state and one number of changes.
+/// A file stands for one state and one number of changes, and a store under one list's digest.
 pub fn one_meaning<R: Replay>()
-    ensures law { (by : R.Rules) (digest file : List ℕ) (s t : R.State) (m n : ℕ)
+    ensures law { (by : R.Rules) (digest other file : List ℕ) (s t : R.State) (m n : ℕ)
         → FileMeans (R.takes by) R.empty digest file s m
-        → FileMeans (R.takes by) R.empty digest file t n → (s ≡ t) × (m ≡ n) }
+        → FileMeans (R.takes by) R.empty other file t n → (s ≡ t) × (m ≡ n) }
+    ensures list { (by : R.Rules) (digest other file : List ℕ) (s t : R.State) (m n : ℕ)
+        → FileMeans (R.takes by) R.empty digest file s m
+        → FileMeans (R.takes by) R.empty other file t n → (digest ≡ other) ⊎ IsUnborn file }
 {}
 
-/// A file of bytes stands for something, or it has a first fault, for which an opening refuses it.
+/// A file of bytes stands for something, under some list, or it has a first fault, for which an
+/// opening refuses it.
 pub fn one_verdict<R: Replay>()
-    ensures law { (by : R.Rules) (limited : Bool) (digest file : List ℕ)
+    ensures law { (by : R.Rules) (limited : Bool) (file : List ℕ)
         → ((i : ℕ) → slice_index file i < 256)
-        → ((s : R.State) × (n : ℕ) × FileMeans (R.takes by) R.empty digest file s n)
+        → ((digest : List ℕ) × (s : R.State) × (n : ℕ)
+        × FileMeans (R.takes by) R.empty digest file s n)
         ⊎ ((why : OpenFault) × IsOfFile why
-        × IsRefusal (R.takes by) (R.refuses by) R.empty limited digest file why) }
+        × IsRefusal (R.takes by) (R.refuses by) R.empty limited file why) }
     ensures apart { (by : R.Rules) (limited : Bool) (digest file : List ℕ) (s : R.State) (n : ℕ)
         (why : OpenFault) → IsWithin limited file
         → FileMeans (R.takes by) R.empty digest file s n → IsOfFile why
-        → IsRefusal (R.takes by) (R.refuses by) R.empty limited digest file why → ⊥ }
+        → IsRefusal (R.takes by) (R.refuses by) R.empty limited file why → ⊥ }
 {}
 
-/// What a cut during an opening leaves stands for the same.
+/// What a cut during an opening leaves stands for the same under the same list, but that an unborn
+/// file may have become a store under the given one.
 pub fn opening_meaning<R: Replay>()
-    ensures law { (by : R.Rules) (digest old new : List ℕ) (s : R.State) (n : ℕ)
-        → FileMeans (R.takes by) R.empty digest old s n → IsOpening digest old new
-        → FileMeans (R.takes by) R.empty digest new s n }
+    ensures law { (by : R.Rules) (digest given old new : List ℕ) (s : R.State) (n : ℕ)
+        → FileMeans (R.takes by) R.empty digest old s n → IsOpening given old new
+        → FileMeans (R.takes by) R.empty digest new s n
+        ⊎ (IsUnborn old × FileMeans (R.takes by) R.empty given new s n) }
 {}
 
 /// A store from before or after a commit stands for the state from before or after, where the body

@@ -6,11 +6,13 @@ ghost use Rattle.disk_model.specs.Disk.{Faults, Goes, IsSettled, LeavesOnly, Mak
 ghost use Rattle.journal.specs.Frame.{Frame};
 ghost use Rattle.journal.specs.Store.{IsOpen, IsUnborn, IsStore, new_head};
 ghost use Rattle.journal.specs.Region.{Runs};
-ghost use Rattle.journal.specs.Opening.{IsWithin, IsRefusal, IsStoreRefusal, IsOfFile, IsExcused};
+ghost use Rattle.journal.specs.Opening.{IsWithin, IsRefusal, IsOfFile, IsExcused};
 ghost use Rattle.journal.specs.Opening.{IsOpening, FileMeans, Opens, IsLimitRefusal, IsOver};
-ghost use Rattle.journal.specs.Opening.{IsGrown, IsUpgrade, IsUpgraded, opening_calls};
+ghost use Rattle.journal.specs.Opening.{IsGrown, IsUpgrade, IsUpgraded, LeavesAlone, LeavesNoMore};
+ghost use Rattle.journal.specs.Opening.{OpensUnder, opening_calls};
 ghost use Rattle.journal.specs.Journal.{StandsInFile};
-ghost use Rattle.journal.specs.ReaderAnswers.{IsUsable, IsKept, ReadsAs, OpensAs};
+ghost use Rattle.journal.specs.Append.{IsMade};
+ghost use Rattle.journal.specs.ReaderAnswers.{IsKept, IsStoreRefusal, ReadsAs, OpensAs};
 ghost use Rattle.journal.specs.ReaderAnswers.{upgrade_calls, behind_sync};
 ghost use Rattle.journal.specs.declared.open_fault.OpenFault.{OpenFault};
 ghost use Rattle.journal.specs.declared.open_fault.OpenFault.TheVariants.{DeviceFault};
@@ -48,19 +50,14 @@ fn read_all<D: Disk>(alloc: Global, disk: &mut D, len: u64) -> Result<Vec<u8>, O
     Ok(bytes)
 }
 
-// What a born file stands for, under the list that is asked for.
-fn read_store<R: Replay>(
-    alloc: Global,
-    bytes: &[u8],
-    digest: &[u8; 32],
-    into: &mut R,
-) -> Result<Journal, OpenFault>
+// What a born file stands for.
+fn read_store<R: Replay>(alloc: Global, bytes: &[u8], into: &mut R) -> Result<Journal, OpenFault>
     requires { IsOpen bytes.now 0 }
-    ensures usable { IfOk result (IsUsable digest.now) }
+    ensures usable { IfOk result (λ j. j.shut ≡ false) }
     ensures frames { IfOk result
         (λ j. ReadsAs (R.takes (R.rules into.old)) R.empty (R.state into.new) j bytes.now) }
     ensures refused { IfErr result (IsStoreRefusal (R.takes (R.rules into.old))
-        (R.refuses (R.rules into.old)) R.empty digest.now bytes.now) }
+        (R.refuses (R.rules into.old)) R.empty bytes.now) }
     ensures rules { R.rules into.new ≡ R.rules into.old }
 {
     let (live, number, begin) = match read_head(bytes) {
@@ -72,15 +69,8 @@ fn read_store<R: Replay>(
         Err(RegionFault::NotAStore(offset)) => return Err(OpenFault::NotAStore(offset as u64)),
         Err(RegionFault::NoMemory) => return Err(OpenFault::NoMemory),
     };
-    let kept = region_digest(bytes, begin as usize);
-    if kept != *digest {
-        return Err(OpenFault::OtherList {
-            kept,
-            given: *digest,
-        });
-    }
     Ok(Journal {
-        digest: kept,
+        digest: region_digest(bytes, begin as usize),
         live,
         number,
         begin,
@@ -118,7 +108,6 @@ fn open_born<D: Disk, R: Replay>(
     alloc: Global,
     disk: &mut D,
     bytes: &[u8],
-    digest: &[u8; 32],
     into: &mut R,
 ) -> Result<Journal, OpenFault>
     requires gate { IsOpen bytes.now 0 }
@@ -129,16 +118,16 @@ fn open_born<D: Disk, R: Replay>(
     requires writes { 1 ≤ (D.view disk.old).room_writes }
     ensures frames { IfOk result
         (λ j. ReadsAs (R.takes (R.rules into.old)) R.empty (R.state into.new) j bytes.now) }
-    ensures usable { IfOk result (IsUsable digest.now) }
+    ensures usable { IfOk result (λ j. j.shut ≡ false) }
     ensures rules { R.rules into.new ≡ R.rules into.old }
     ensures refused { (why : OpenFault) → IsErrOf result why → (why ≡ DeviceFault)
         ⊎ IsStoreRefusal (R.takes (R.rules into.old)) (R.refuses (R.rules into.old)) R.empty
-        digest.now bytes.now why }
+        bytes.now why }
     ensures settled { OnOk result (IsSettled (D.view disk.new)) }
     ensures upgraded { OnOk result
         (Goes IsUpgraded (D.view disk.old).contents (D.view disk.new).contents) }
     ensures kept { Goes IsKept (D.view disk.old).contents (D.view disk.new).contents }
-    ensures unchanged { (why : OpenFault) → IsErrOf result why → IsOfFile why
+    ensures unchanged { (why : OpenFault) → IsErrOf result why → LeavesAlone why
         → Stays (D.view disk.old) (D.view disk.new) }
     ensures device { Opens result (D.view disk.old) (D.view disk.new) }
     ensures calls { (c : List ℕ) → (D.view disk.old).contents ≡ Some c
@@ -146,7 +135,7 @@ fn open_born<D: Disk, R: Replay>(
     ensures any_moment { (c : List ℕ) → (D.view disk.old).contents ≡ Some c
         → LeavesOnly (D.view disk.old) (D.view disk.new) (IsKept c) }
 {
-    let journal = read_store(alloc, bytes, digest, into)?;
+    let journal = read_store(alloc, bytes, into)?;
     let Ok(()) = leave_first(disk, bytes) else {
         return Err(OpenFault::DeviceFault);
     };
@@ -168,29 +157,59 @@ fn head_of(alloc: Global, digest: &[u8; 32]) -> Result<Vec<u8>, AllocError>
     Ok(block)
 }
 
-// Makes a store of a file whose first byte is 0. Four changing calls.
+// Writes the head of a new store over an unborn file of this length, and opens its gate.
+fn write_head<D: Disk>(disk: &mut D, len: u64, block: &[u8]) -> Result<(), Failed>
+    requires settled { IsSettled (D.view disk.old) }
+    requires on { (D.view disk.old).off ≡ false }
+    requires len { (c : List ℕ) → (D.view disk.old).contents ≡ Some c → len ≡ length c }
+    requires unborn { (c : List ℕ) → (D.view disk.old).contents ≡ Some c → IsUnborn c }
+    requires block { length block.now ≡ 128 }
+    requires room { 129 ≤ (D.view disk.old).room_end }
+    requires writes { 3 ≤ (D.view disk.old).room_writes }
+    ensures written { OnOk result
+        (Goes (IsMade block.now) (D.view disk.old).contents (D.view disk.new).contents) }
+    ensures settled { OnOk result (IsSettled (D.view disk.new)) }
+    ensures any_moment { (c digest : List ℕ) → (D.view disk.old).contents ≡ Some c
+        → length digest ≡ 32 → block.now ≡ new_head digest
+        → LeavesOnly (D.view disk.old) (D.view disk.new) (λ image. IsUnborn image
+        ⊎ IsStore digest image []) }
+    ensures faults { Faults result (D.view disk.old) (D.view disk.new) }
+    ensures calls { (c : List ℕ) → (D.view disk.old).contents ≡ Some c
+        → Makes (behind_sync c) result (D.view disk.old) (D.view disk.new) }
+{
+    settle(disk, len)?;
+    append(disk, 0, block)
+}
+
+// Makes a store of an unborn file of this length. Memory is asked for before anything is written.
 fn make<D: Disk, R: Replay>(
     alloc: Global,
     disk: &mut D,
     digest: &[u8; 32],
+    len: u64,
     into: &mut R,
 ) -> Result<Journal, OpenFault>
     requires settled { IsSettled (D.view disk.old) }
-    requires place { (c : List ℕ) → (D.view disk.old).contents ≡ Some c → (1 ≤ length c)
-        × (slice_index c 0 ≡ 0) }
+    requires on { (D.view disk.old).off ≡ false }
+    requires len { (c : List ℕ) → (D.view disk.old).contents ≡ Some c → len ≡ length c }
+    requires unborn { (c : List ℕ) → (D.view disk.old).contents ≡ Some c → IsUnborn c }
     requires room { 129 ≤ (D.view disk.old).room_end }
-    requires writes { 2 ≤ (D.view disk.old).room_writes }
+    requires writes { 3 ≤ (D.view disk.old).room_writes }
     ensures made { IfOk result (λ j. (d : List ℕ) → (D.view disk.new).contents ≡ Some d
         → StandsInFile j d []) }
     ensures long { OnOk result (Goes IsGrown (D.view disk.old).contents
         (D.view disk.new).contents) }
-    ensures usable { IfOk result (IsUsable digest.now) }
-    ensures empty { IfOk result (λ j. (R.state into.new ≡ R.empty) × (j.changes ≡ 0)) }
+    ensures usable { IfOk result (λ j. j.shut ≡ false) }
+    ensures empty { IfOk result (λ j. (R.state into.new ≡ R.empty) × (j.changes ≡ 0)
+        × (j.digest ≡ digest.now)) }
     ensures rules { R.rules into.new ≡ R.rules into.old }
     ensures settled { OnOk result (IsSettled (D.view disk.new)) }
     ensures excused { IfErr result IsExcused }
+    ensures unchanged { (why : OpenFault) → IsErrOf result why → LeavesAlone why
+        → Stays (D.view disk.old) (D.view disk.new) }
     ensures device { Opens result (D.view disk.old) (D.view disk.new) }
-    ensures calls { Makes 4 result (D.view disk.old) (D.view disk.new) }
+    ensures calls { (c : List ℕ) → (D.view disk.old).contents ≡ Some c
+        → Makes (behind_sync c) result (D.view disk.old) (D.view disk.new) }
     ensures any_moment { (c : List ℕ) → (D.view disk.old).contents ≡ Some c
         → LeavesOnly (D.view disk.old) (D.view disk.new) (λ image. IsUnborn image
         ⊎ IsStore digest.now image []) }
@@ -198,7 +217,7 @@ fn make<D: Disk, R: Replay>(
     let Ok(block) = head_of(alloc, digest) else {
         return Err(OpenFault::NoMemory);
     };
-    let Ok(()) = append(disk, 0, &block) else {
+    let Ok(()) = write_head(disk, len, &block) else {
         return Err(OpenFault::DeviceFault);
     };
     into.begin();
@@ -215,15 +234,12 @@ fn make<D: Disk, R: Replay>(
     })
 }
 
-// The first byte, or 0.
-fn gate_of(bytes: &[u8]) -> u8
-    ensures gate { result ≡ slice_index bytes.now 0 }
-    ensures there { 0 < result → IsOpen bytes.now 0 }
+// Whether a file has more than one byte, of which the first is not 0.
+fn is_born(bytes: &[u8]) -> bool
+    ensures born { result ≡ true → IsOpen bytes.now 0 × (1 < length bytes.now) }
+    ensures unborn { result ≡ false → IsUnborn bytes.now }
 {
-    if bytes.is_empty() {
-        return 0;
-    }
-    bytes[0]
+    bytes.len() > 1 && bytes[0] != 0
 }
 
 // Opens what a settled disk has, of this length, or makes a store of it.
@@ -240,32 +256,29 @@ fn open_settled<D: Disk, R: Replay>(
     requires room { 129 ≤ (D.view disk.old).room_end }
     requires writes { 3 ≤ (D.view disk.old).room_writes }
     ensures opened { IfOk result (λ j. Goes (OpensAs (R.takes (R.rules into.old)) R.empty
-        (R.state into.new) j) (D.view disk.old).contents (D.view disk.new).contents) }
+        (R.state into.new) digest.now j) (D.view disk.old).contents (D.view disk.new).contents) }
     ensures rules { R.rules into.new ≡ R.rules into.old }
-    ensures usable { IfOk result (IsUsable digest.now) }
+    ensures usable { IfOk result (λ j. j.shut ≡ false) }
     ensures settled { OnOk result (IsSettled (D.view disk.new)) }
     ensures refused { (why : OpenFault) → IsErrOf result why → (c : List ℕ)
         → (D.view disk.old).contents ≡ Some c
-        → IsRefusal (R.takes (R.rules into.old)) (R.refuses (R.rules into.old)) R.empty false
-        digest.now c why }
+        → IsRefusal (R.takes (R.rules into.old)) (R.refuses (R.rules into.old)) R.empty false c
+        why }
     ensures kept { (c : List ℕ) → (D.view disk.old).contents ≡ Some c → IsOpen c 0 → 1 < length c
         → (d : List ℕ) × ((D.view disk.new).contents ≡ Some d) × IsKept c d }
-    ensures unchanged { (why : OpenFault) → IsErrOf result why → IsOfFile why
-        → (D.view disk.new).contents ≡ (D.view disk.old).contents }
+    ensures unchanged { (why : OpenFault) → IsErrOf result why → LeavesAlone why
+        → Stays (D.view disk.old) (D.view disk.new) }
     ensures device { Opens result (D.view disk.old) (D.view disk.new) }
     ensures calls { (c : List ℕ) → (D.view disk.old).contents ≡ Some c
         → Makes (behind_sync c) result (D.view disk.old) (D.view disk.new) }
     ensures any_moment { (c : List ℕ) → (D.view disk.old).contents ≡ Some c
         → LeavesOnly (D.view disk.old) (D.view disk.new) (IsOpening digest.now c) }
 {
-    let Ok(len) = settle(disk, len) else {
-        return Err(OpenFault::DeviceFault);
-    };
     let bytes = read_all(alloc, disk, len)?;
-    if gate_of(&bytes) == 0 {
-        make(alloc, disk, digest, into)
+    if is_born(&bytes) {
+        open_born(alloc, disk, &bytes, into)
     } else {
-        open_born(alloc, disk, &bytes, digest, into)
+        make(alloc, disk, digest, len, into)
     }
 }
 
@@ -278,22 +291,22 @@ fn open_store<D: Disk, R: Replay>(
     into: &mut R,
 ) -> Result<Journal, OpenFault>
     ensures opened { IfOk result (λ j. Goes (OpensAs (R.takes (R.rules into.old)) R.empty
-        (R.state into.new) j) (D.view disk.old).contents (D.view disk.new).contents) }
+        (R.state into.new) digest.now j) (D.view disk.old).contents (D.view disk.new).contents) }
     ensures rules { R.rules into.new ≡ R.rules into.old }
-    ensures usable { IfOk result (IsUsable digest.now) }
+    ensures usable { IfOk result (λ j. j.shut ≡ false) }
     ensures settled { OnOk result (IsSettled (D.view disk.new)) }
     ensures within { OnOk result ((c : List ℕ) → (D.view disk.old).contents ≡ Some c
         → IsWithin limit c) }
     ensures refused { (why : OpenFault) → IsErrOf result why → (c : List ℕ)
         → (D.view disk.old).contents ≡ Some c
-        → IsRefusal (R.takes (R.rules into.old)) (R.refuses (R.rules into.old)) R.empty limit
-        digest.now c why }
+        → IsRefusal (R.takes (R.rules into.old)) (R.refuses (R.rules into.old)) R.empty limit c
+        why }
     ensures limit { (c : List ℕ) → (D.view disk.old).contents ≡ Some c → IsOver limit c
         → MatchResult result (λ _. ⊥) (IsLimitRefusal c) }
     ensures kept { (c : List ℕ) → (D.view disk.old).contents ≡ Some c → IsOpen c 0 → 1 < length c
         → (d : List ℕ) × ((D.view disk.new).contents ≡ Some d) × IsKept c d }
-    ensures unchanged { (why : OpenFault) → IsErrOf result why → IsOfFile why
-        → (D.view disk.new).contents ≡ (D.view disk.old).contents }
+    ensures images { (why : OpenFault) → IsErrOf result why → LeavesAlone why
+        → LeavesNoMore (D.view disk.old) (D.view disk.new) }
     ensures device { Opens result (D.view disk.old) (D.view disk.new) }
     ensures calls { (c : List ℕ) → (D.view disk.old).contents ≡ Some c
         → Makes (opening_calls c) result (D.view disk.old) (D.view disk.new) }
@@ -318,9 +331,10 @@ fn open_store<D: Disk, R: Replay>(
 }
 
 impl Journal {
-    /// Opens a store under the digest of a suffix list, and gives its frames to `into` in order.
+    /// Opens a store, under whichever list it was written, and gives its frames to `into` in order.
     ///
-    /// A file that is no store yet is made one, and a store of version 1 becomes one of version 2.
+    /// A file that is no store yet is made one, under the digest of the list that is given, and a
+    /// store of version 1 becomes one of version 2. [`Journal::digest`] tells the store's list.
     /// With `limit` a file over 1,073,741,824 bytes is refused, before any memory is taken. After a
     /// refusal nothing is told of the state of `into`, and its `begin` makes it usable again.
     pub fn open<D: Disk, R: Replay>(
@@ -335,7 +349,12 @@ impl Journal {
             → (frames : List Frame) × StandsInFile j d frames
             × Runs (R.takes (R.rules into.old)) true R.empty 0 frames (R.state into.new)
             j.changes) }
-        ensures usable { IfOk result (λ j. (j.shut ≡ false) × (j.digest ≡ digest.now)) }
+        ensures usable { IfOk result (λ j. j.shut ≡ false) }
+
+        // The journal's digest is that of the list under which the store stands, whichever was
+        // given: of an unborn file the given one.
+        ensures under { IfOk result (λ j. (c : List ℕ) → (D.view disk.old).contents ≡ Some c
+            → OpensUnder digest.now c j.digest) }
         ensures settled { OnOk result (IsSettled (D.view disk.new)) }
 
         // A born file is as it was, but for the version's byte where it had version 1. Once it is
@@ -351,14 +370,16 @@ impl Journal {
         ensures long { OnOk result ((c d : List ℕ) → (D.view disk.old).contents ≡ Some c
             → (D.view disk.new).contents ≡ Some d → IsGrown c d) }
 
-        // The state and the number of changes are those that the file stands for.
-        ensures means { (c : List ℕ) (s : R.State) (n : ℕ) → (D.view disk.old).contents ≡ Some c
-            → IsWithin limit c → FileMeans (R.takes (R.rules into.old)) R.empty digest.now c s n
+        // The state and the number of changes are those that the file stands for, under whichever
+        // list.
+        ensures means { (c held : List ℕ) (s : R.State) (n : ℕ)
+            → (D.view disk.old).contents ≡ Some c
+            → IsWithin limit c → FileMeans (R.takes (R.rules into.old)) R.empty held c s n
             → MatchResult result (λ j. (R.state into.new ≡ s) × (j.changes ≡ n)) IsExcused }
 
-        // The file stands for them, whatever it was.
+        // The file stands for them under the journal's digest, whatever it was.
         ensures stood { IfOk result (λ j. (c : List ℕ) → (D.view disk.old).contents ≡ Some c
-            → FileMeans (R.takes (R.rules into.old)) R.empty digest.now c (R.state into.new)
+            → FileMeans (R.takes (R.rules into.old)) R.empty j.digest c (R.state into.new)
             j.changes) }
 
         // The rules by which bodies are read stay.
@@ -368,11 +389,11 @@ impl Journal {
         ensures refused { (why : OpenFault) → IsErrOf result why → (c : List ℕ)
             → (D.view disk.old).contents ≡ Some c
             → IsRefusal (R.takes (R.rules into.old)) (R.refuses (R.rules into.old)) R.empty limit
-            digest.now c why }
+            c why }
         ensures exactly { (why : OpenFault) (c : List ℕ) → (D.view disk.old).contents ≡ Some c
             → IsOfFile why
             → IsRefusal (R.takes (R.rules into.old)) (R.refuses (R.rules into.old)) R.empty limit
-            digest.now c why
+            c why
             → MatchResult result (λ _. ⊥) (λ w. (w ≡ why) ⊎ IsExcused w) }
 
         // A file over the limit is refused with its length before any memory is taken.
@@ -382,6 +403,11 @@ impl Journal {
         // A file that is refused stays as it is.
         ensures unchanged { (why : OpenFault) → IsErrOf result why → IsOfFile why
             → (D.view disk.new).contents ≡ (D.view disk.old).contents }
+
+        // Each refusal but a device fault comes before anything is written, so that a cut may leave
+        // no more than before.
+        ensures images { (why : OpenFault) → IsErrOf result why → LeavesAlone why
+            → LeavesNoMore (D.view disk.old) (D.view disk.new) }
 
         ensures device { Opens result (D.view disk.old) (D.view disk.new) }
         ensures calls { (c : List ℕ) → (D.view disk.old).contents ≡ Some c

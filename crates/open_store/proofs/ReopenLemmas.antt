@@ -1,11 +1,12 @@
 -- What an opening after a cut of the power finds.
-use Rattle.std.proofs.Common.{◌≡◌, inl, inr, ⊎_elim, ℕ, ◌<◌, ◌≤◌, true, Bool, List, [], length, Some, sym, ◌∙◌, subst, arith}
+use Rattle.std.proofs.Common.{◌≡◌, inl, inr, ⊎_elim, ℕ, ◌<◌, ◌≤◌, true, Bool, List, [], length, Some, None, sym, ◌∙◌, subst, arith}
 use Rattle.std.specs.Prelude.{◌⊎◌, Err, IfErr, IfOk, IsErrOf, MatchResult, Ok, Option, Result}
 use Rattle.std.proofs.lemmas.Bool.{cases_lt}
 use Rattle.std.proofs.lemmas.Bool.Decides.{nat_tests}
 use Rattle.disk_model.specs.Disk.{Goes, IsSettled, LeavesOnly, Makes, View}
 use Rattle.disk_model.specs.DiskLaws.{IsLawful}
-use Rattle.journal.specs.Opening.{FileMeans, IsExcused, IsOpening, IsUpgrade, opening_calls}
+use Rattle.journal.specs.Opening.{FileMeans, IsExcused, IsOpening, IsUpgrade, OpensUnder}
+use Rattle.journal.specs.Opening.{opening_calls}
 use Rattle.journal.specs.Region.{StandsForState}
 use Rattle.journal.specs.Frame.{IsSecond}
 use Rattle.journal.specs.Store.{IsOpen, IsStore, IsUnborn}
@@ -13,7 +14,9 @@ use Rattle.journal.specs.declared.open_fault.OpenFault.{OpenFault}
 use Rattle.journal.specs.declared.open_fault.OpenFault.TheVariants.{DeviceFault}
 use Rattle.journal.proofs.Moments.{goes_from}
 use Rattle.journal.proofs.Refusals.{store_born, store_is_born}
-use Rattle.open_store.specs.Reopens.{IsFound, IsReopening, LeavesAnew, LeavesStores}
+use Rattle.journal.proofs.Unique.{store_unique}
+use Rattle.open_store.specs.Reopens.{IsFound, IsStood, IsReopening, LeavesAnew}
+use Rattle.open_store.specs.Reopens.{LeavesStores}
 
 -- the opening of a born file of version 2 is one sync
 born_calls : (file : List ℕ) → IsOpen file 0 × (1 < length file) → IsSecond file
@@ -51,30 +54,44 @@ module _ {S : Type 0} (takes : S → Bool → List ℕ → S → ℕ → Type 0)
 
   module _ {T : Type 0} (state : S) (changes : T → ℕ) where
     abbrev Means : Result T OpenFault → Type 0
-    Means result = (c : List ℕ) (s : S) (n : ℕ) → now ≡ Some c
-        → FileMeans takes empty digest c s n
+    Means result = (c held : List ℕ) (s : S) (n : ℕ) → now ≡ Some c
+        → FileMeans takes empty held c s n
         → MatchResult result (λ j. (state ≡ s) × (changes j ≡ n)) IsExcused
 
-    pub reopened_found : (result : Result T OpenFault) → Means result
-        → IfOk result (λ j. IsFound takes empty digest v state (changes j))
-    reopened_found (Ok j) means =
+    -- a store opens under its own digest
+    own_digest : (given file own : List ℕ) (base : S) (last : ℕ)
+        → StandsForState takes empty digest file base last → OpensUnder given file own
+        → own ≡ digest
+    own_digest given file own base last stands (inl store) =
+        (store_unique own digest file store.0 stands.0 store.1 stands.1).1
+    own_digest given file own base last stands (inr unborn) =
+        absurd (store_is_born digest file stands.0 stands.1 unborn.0)
+
+    pub reopened_found : (given : List ℕ) (own : T → List ℕ) (result : Result T OpenFault)
+        → Means result
+        → IfOk result (λ j. (c : List ℕ) → now ≡ Some c → OpensUnder given c (own j))
+        → IfOk result (λ j. (own j ≡ digest) × IsFound takes empty digest v state (changes j))
+    reopened_found given own (Ok j) means under =
         let here = left in
         let stands = left_stands in
-        let same = means here.0 stands.0 stands.1 here.1 (inl stands.2) in (
-          here.0,
-          here.2,
-          subst (λ (n : ℕ). StandsForState takes empty digest here.0 state n) (sym same.1)
-              (subst (λ (s : S). StandsForState takes empty digest here.0 s stands.1) (sym same.0)
-              stands.2),
+        let same = means here.0 digest stands.0 stands.1 here.1 (inl stands.2) in (
+          own_digest given here.0 (own j) stands.0 stands.1 stands.2 (under here.0 here.1),
+          (
+            here.0,
+            here.2,
+            subst (λ (n : ℕ). StandsForState takes empty digest here.0 state n) (sym same.1)
+                (subst (λ (s : S). StandsForState takes empty digest here.0 s stands.1)
+                (sym same.0) stands.2),
+          ),
         )
-    reopened_found (Err why) means = tt
+    reopened_found given own (Err why) means under = tt
 
     pub reopened_excused : (result : Result T OpenFault) → Means result
         → IfErr result IsExcused
     reopened_excused (Ok j) means = tt
     reopened_excused (Err why) means =
         let here = left in
-        let stands = left_stands in means here.0 stands.0 stands.1 here.1 (inl stands.2)
+        let stands = left_stands in means here.0 digest stands.0 stands.1 here.1 (inl stands.2)
 
   -- where the restart left a store, its opening is one sync
   pub reopened_calls : {T : Type 0} (result : Result T OpenFault) (r w : View)
@@ -88,10 +105,28 @@ module _ {S : Type 0} (takes : S → Bool → List ℕ → S → ℕ → Type 0)
       (born_calls here.0 (store_born digest here.0 stands.2.0 stands.2.1) (stores tells here.0 here.2).0) same
       (made here.0 (is ∙ here.1))
 
+-- what a restart left stands for what was opened, under its own digest
+pub reopened_stood : {S T : Type 0} (takes : S → Bool → List ℕ → S → ℕ → Type 0) (empty : S)
+    (given : List ℕ) (v : View) (now : Option (List ℕ))
+    → IsLawful v → v.tells ≡ true → Goes (λ _ d. v.may_leave d) v.contents now
+    → (own : T → List ℕ) (state : S) (changes : T → ℕ) (result : Result T OpenFault)
+    → IfOk result (λ j. (c : List ℕ) → now ≡ Some c → OpensUnder given c (own j))
+    → IfOk result (λ j. (c : List ℕ) → now ≡ Some c
+    → FileMeans takes empty (own j) c state (changes j))
+    → IfOk result (λ j. IsStood takes empty given (own j) v state (changes j))
+reopened_stood takes empty given v now laws tells goes own state changes (Ok j) under stood =
+    let told = laws.told tells in
+    let here = goes_from (λ _ d. v.may_leave d) v.contents now told.0 goes told.1 in
+    (here.0, here.2, under here.0 here.1, stood here.0 here.1)
+reopened_stood takes empty given v now laws tells goes own state changes (Err why) under stood = tt
+
 -- ---- moments since the restart
 
 some_is : (a b : List ℕ) → Some a ≡ Some b → b ≡ a
 some_is a b e = cc
+
+no_file : {P : Type 0} (c : List ℕ) → None ≡ Some c → P
+no_file c e = absurd (cc)
 
 -- the past begins at a restart of the disk that went well, and an opening follows it
 module _ (digest : List ℕ) (v r w : View) (before : IsLawful v) (between : IsLawful r)
@@ -100,9 +135,19 @@ module _ (digest : List ℕ) (v r w : View) (before : IsLawful v) (between : IsL
     (anew : (t : ℕ) (c : List ℕ) → r.left_since t c → r.contents ≡ Some c)
     (opens : IsSettled r → (c : List ℕ) → r.contents ≡ Some c
     → LeavesOnly r w (IsOpening digest c)) where
-  nothing_pending : IsSettled r
+  pub nothing_pending : IsSettled r
   nothing_pending c may =
       anew r.moment c (between.counts_now r.moment c (omega arith) may)
+
+  -- what a cut may leave right behind the restart, it might have left before
+  pub fewer_at_restart : (c : List ℕ) → r.may_leave c → v.may_leave c
+  fewer_at_restart c may = from v.contents goes (nothing_pending c may)
+    where
+      from : (old : Option (List ℕ)) → Goes (λ _ d. v.may_leave d) old r.contents
+          → r.contents ≡ Some c → v.may_leave c
+      from None none here = no_file c (sym none ∙ here)
+      from (Some was) next here =
+          subst (λ (d : List ℕ). v.may_leave d) (some_is c next.0 (sym here ∙ next.1)) next.2
 
   -- what is told since a moment, of a file that the restart left
   told_since : (c : List ℕ) → r.contents ≡ Some c → (t : ℕ) (file : List ℕ)

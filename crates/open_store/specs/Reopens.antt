@@ -3,7 +3,7 @@
 use Rattle.std.specs.Prelude.{◌≡◌, ◌⊎◌, ℕ, true, false, List, Some, IsErrOf, OnOk, Result}
 use Rattle.agent_base.specs.Counts.{Rose}
 use Rattle.disk_model.specs.Disk.{HasFailed, IsNextCut, View, WasOff}
-use Rattle.journal.specs.Opening.{IsOpening}
+use Rattle.journal.specs.Opening.{FileMeans, IsOpening, OpensUnder}
 use Rattle.journal.specs.Region.{StandsForState, TakesOf}
 use Rattle.journal.specs.Frame.{IsSecond}
 use Rattle.journal.specs.declared.open_fault.OpenFault.{OpenFault}
@@ -20,6 +20,13 @@ LeavesStores {S} takes empty digest view =
 abbrev pub IsFound : {S : Type 0} → TakesOf S → S → (digest : List ℕ) → View → S → ℕ → Type 0
 IsFound takes empty digest view base last =
     (file : List ℕ) × view.may_leave file × StandsForState takes empty digest file base last
+
+-- a cut may leave a file that stands for this, after so many changes, under the list of a digest:
+-- a store under its own, and an unborn file under the given one
+abbrev pub IsStood : {S : Type 0} → TakesOf S → S → (given digest : List ℕ) → View → S → ℕ → Type 0
+IsStood takes empty given digest view base last =
+    (file : List ℕ) × view.may_leave file × OpensUnder given file digest
+    × FileMeans takes empty digest file base last
 
 -- what an opening leaves of a file that a cut might have left: that file, one of version 1 but for
 -- its version, or of an unborn one what is made of it

@@ -13,7 +13,7 @@ returns-clause-refused g c = λ why is_err x is.
     let at_len = c.sync.ensures.contents ∙ is in
     let told = c.reserve.ensures.stays.contents ∙ c.len.ensures.stays.contents ∙ at_len in
     let within : IsWithin c.args.limit x = within_limit c.args.limit c.in-Ok-len.len x c.else-limit.either (c.in-Ok-len.ensures.len x at_len) in
-    limited_refusal (R.takes by) (R.refuses by) R.empty c.args.digest.now x c.args.limit within why (c.open_settled.ensures.refused why is_err x told)
+    limited_refusal (R.takes by) (R.refuses by) R.empty x c.args.limit within why (c.open_settled.ensures.refused why is_err x told)
 
 pub returns-clause-calls : goal.returns-clause-calls
 returns-clause-calls g c = λ x is.

@@ -1,11 +1,10 @@
-use Rattle.std.proofs.Common.{◌≡◌, ◌+◌, ◌≤◌, ◌<◌, true, not, List, ℕ, length, Err, inr, arith, refl, sym, ◌∙◌, ap, subst, rules}
-use Rattle.std.proofs.lemmas.Slice.Eq.{bytes_eq-Decides}
+use Rattle.std.proofs.Common.{◌≡◌, ◌+◌, ◌≤◌, ◌<◌, true, List, ℕ, length, Err, inr, arith, sym, subst, rules}
 use Rattle.disk_model.specs.Disk.{Holds}
 use Rattle.journal.specs.Opening.{IsStoreFault}
 use Rattle.journal.specs.declared.region.RegionFault.TheVariants.{NotAStore}
 use Rattle.journal.proofs.Runs.{runs_last}
 use Rattle.journal.proofs.Whole.{bytes_at, bytes_long, bytes_hold}
-use Rattle.journal.proofs.Opened.{reads_as, store_read}
+use Rattle.journal.proofs.Opened.{reads_as}
 use Rattle.journal.proofs.opening.read_store.Goals as goal
 
 -- the digest in a head
@@ -26,23 +25,6 @@ returns-in-Err-NotAStore-clause-refused g c =
     let T = λ (o : ℕ). IsStoreFault (R.takes by) (R.refuses by) R.empty c.args.bytes.now o in
     subst T (sym c.in-Err-NotAStore.offset-is) fault
 
-pub returns-then-ne-clause-refused : goal.returns-then-ne-clause-refused
-returns-then-ne-clause-refused g c =
-    let R = g.R.Replay in
-    let h = c.in-Live.ensures in
-    let k = kept_in c.args.bytes.now c.in-Live.begin h.1 h.2 in
-    let r = c.in-Ok.ensures.frames in
-    let under = c.region_digest-kept.ensures.digest k.0 r.0 k.1 k.2 r.1 r.2 in
-    let store = store_read c.region_digest-kept.result c.args.bytes.now r.0 k.0 c.in-Live.live c.in-Live.number c.in-Live.begin (h.0 k.0 k.1 k.2) h.1 (omega arith) r.1 r.2 under in
-    let decides = bytes_eq-Decides c.region_digest-kept.result c.args.digest.now in
-    let is_true : c.ne.result ≡ true = c.if-ne.true in (
-      refl,
-      (
-        λ same. absurd (let e = sym is_true ∙ c.ne.ensures ∙ ap (λ b. not b) (decides.1 same) in cc),
-        (R.state c.read_region.new.into, c.in-Ok.region.last, (r.0, store, r.3)),
-      ),
-    )
-
 pub returns-clause-frames : goal.returns-clause-frames
 returns-clause-frames g c =
     let R = g.R.Replay in
@@ -50,6 +32,6 @@ returns-clause-frames g c =
     let h = c.in-Live.ensures in
     let k = kept_in c.args.bytes.now c.in-Live.begin h.1 h.2 in
     let r = c.in-Ok.ensures.frames in
-    let under = c.region_digest-kept.ensures.digest k.0 r.0 k.1 k.2 r.1 r.2 in
+    let under = c.region_digest.ensures.digest k.0 r.0 k.1 k.2 r.1 r.2 in
     let last = runs_last takes true R.empty (R.state c.read_region.new.into) 0 c.in-Ok.region.last r.0 r.3 in
     reads_as takes R.empty (R.state c.read_region.new.into) _ c.args.bytes.now r.0 k.0 (h.0 k.0 k.1 k.2) h.1 (omega arith) r.1 r.2 under r.4 last r.5 r.3

@@ -2,17 +2,18 @@
 use Rattle.std.proofs.Common.{◌≡◌, ℕ, zero, suc, ◌+◌, ◌<◌, ◌≤◌, Bool, true, false, cond, ltb, List, [], ◌∷◌, length, take, drop, Option, Some, None, refl, sym, ap, ◌∙◌, arith, inl, inr, ◌⊎◌}
 use Rattle.std.specs.Prelude.{not, ◌&&◌, ◌==◌, nat_lt}
 use Rattle.std.specs.Int.{Width, w32, w64, byte_len, from_le_bytes, cast_signed}
+use Rattle.std.specs.Result.{result_ok}
 use Rattle.std.specs.Str.{is_utf8}
 use Rattle.std.proofs.lemmas.Bool.{ltb-false}
 use Rattle.std.proofs.lemmas.List.{length-drop}
 use Rattle.std.proofs.lemmas.Option.{none-some, same_Some}
-use Rattle.suffix_list.specs.Suffix.{Rule}
+use Rattle.origin_site.specs.Site.{site_of_text}
 use Rattle.cookie_jar.specs.Key.{OwnCell, PartitionCell}
 use Rattle.row_changes.specs.Change.{PlainChange, AreaPut, AreaRemove, AreaClear, SetMode}
 use Rattle.row_changes.specs.Change.{CookieInsert, CookieReplace, CookieRemove, Grant}
 use Rattle.row_changes.specs.Fields.{both, made, passing, nothing_at, byte_at, number_at, bytes_at, text_at, bit_of, bit_at, signed_at}
-use Rattle.row_changes.specs.Names.{origin_of_text, site_under_list, is_own_domain}
-use Rattle.row_changes.specs.Spelled.{keeps_bit, suits}
+use Rattle.row_changes.specs.Names.{origin_of_text, is_host}
+use Rattle.row_changes.specs.Spelled.{suits}
 use Rattle.row_changes.specs.Reading.{key_of, flags_of, same_site_of, cookie_of, answer_of, grant_of}
 use Rattle.row_changes.specs.Reading.{origin_at, site_at, domain_at, key_at, cell_behind, cell_at, flags_at, same_site_at, texts_at, marks_at, cookie_at, placed_at, grant_at}
 use Rattle.row_changes.specs.Reading.{change_behind, change_at}
@@ -83,32 +84,32 @@ keeps_signed : Keeps signed_at
 unfolding signed_at
 keeps_signed = keeps_made (λ n. Some (cast_signed w64 n)) (keeps_number w64)
 
-keeps_site : (rules : List Rule) → Keeps (site_at rules)
+keeps_site : Keeps site_at
 unfolding site_at
-keeps_site rules = keeps_made (site_under_list rules) keeps_text
+keeps_site = keeps_made (λ text. result_ok (site_of_text text)) keeps_text
 
-keeps_domain : (rules : List Rule) → Keeps (domain_at rules)
+keeps_domain : Keeps domain_at
 unfolding domain_at
-keeps_domain rules = keeps_made (passing (is_own_domain rules)) keeps_text
+keeps_domain = keeps_made (passing is_host) keeps_text
 
-keeps_key : (rules : List Rule) → Keeps (key_at rules)
+keeps_key : Keeps key_at
 unfolding key_at origin_at
-keeps_key rules =
-    keeps_made (λ parts. passing (keeps_bit rules) (key_of parts))
-    (keeps_both (keeps_both (keeps_made origin_of_text keeps_text) (keeps_site rules)) keeps_bit_field)
+keeps_key =
+    keeps_made (λ parts. Some (key_of parts))
+    (keeps_both (keeps_both (keeps_made origin_of_text keeps_text) keeps_site) keeps_bit_field)
 
-keeps_cell_behind : (rules : List Rule) (kind : ℕ) → Keeps (cell_behind rules kind)
-keeps_cell_behind rules kind =
-    keeps_if (kind == 0) (keeps_made (λ domain. Some (OwnCell domain)) (keeps_domain rules))
+keeps_cell_behind : (kind : ℕ) → Keeps (cell_behind kind)
+keeps_cell_behind kind =
+    keeps_if (kind == 0) (keeps_made (λ domain. Some (OwnCell domain)) keeps_domain)
     (keeps_if (kind == 1)
-    (keeps_made (λ parts. Some (PartitionCell parts.0.0 parts.0.1 parts.1)) (keeps_both (keeps_both (keeps_site rules) keeps_bit_field) (keeps_domain rules)))
+    (keeps_made (λ parts. Some (PartitionCell parts.0.0 parts.0.1 parts.1)) (keeps_both (keeps_both keeps_site keeps_bit_field) keeps_domain))
     keeps_nothing)
 
-keeps_cell : (rules : List Rule) → Keeps (cell_at rules)
+keeps_cell : Keeps cell_at
 unfolding cell_at
-keeps_cell rules [] cell rest e = absurd (none-some _ e)
-keeps_cell rules (kind ∷ bytes) cell rest e =
-    let left : length rest ≤ length bytes = keeps_cell_behind rules kind bytes cell rest e in
+keeps_cell [] cell rest e = absurd (none-some _ e)
+keeps_cell (kind ∷ bytes) cell rest e =
+    let left : length rest ≤ length bytes = keeps_cell_behind kind bytes cell rest e in
     omega (arith, left)
 
 keeps_cookie : Keeps cookie_at
@@ -118,34 +119,34 @@ keeps_cookie =
     (keeps_both (keeps_both (keeps_both (keeps_both keeps_text keeps_text) keeps_text) keeps_text)
     (keeps_both (keeps_both (keeps_both (keeps_made flags_of keeps_byte) (keeps_made same_site_of keeps_byte)) keeps_signed) keeps_signed))
 
-keeps_placed : (rules : List Rule) → Keeps (placed_at rules)
+keeps_placed : Keeps placed_at
 unfolding placed_at
-keeps_placed rules =
-    keeps_made (passing (λ placed. suits rules placed.0.0 placed.1)) (keeps_both (keeps_both (keeps_cell rules) keeps_byte) keeps_cookie)
+keeps_placed =
+    keeps_made (passing (λ placed. suits placed.0.0 placed.1)) (keeps_both (keeps_both keeps_cell keeps_byte) keeps_cookie)
 
-keeps_grant : (rules : List Rule) → Keeps (grant_at rules)
+keeps_grant : Keeps grant_at
 unfolding grant_at
-keeps_grant rules =
-    keeps_made grant_of (keeps_both (keeps_both (keeps_both (keeps_site rules) (keeps_site rules)) (keeps_made answer_of keeps_byte)) keeps_signed)
+keeps_grant =
+    keeps_made grant_of (keeps_both (keeps_both (keeps_both keeps_site keeps_site) (keeps_made answer_of keeps_byte)) keeps_signed)
 
-keeps_behind : (rules : List Rule) (code : ℕ) → Keeps (change_behind rules code)
-keeps_behind rules code =
-    keeps_if (code == 1) (keeps_made (λ p. Some (AreaPut p.0.0 p.0.1 p.1)) (keeps_both (keeps_both (keeps_key rules) keeps_text) keeps_text))
-    (keeps_if (code == 2) (keeps_made (λ p. Some (AreaRemove p.0 p.1)) (keeps_both (keeps_key rules) keeps_text))
-    (keeps_if (code == 3) (keeps_made (λ key. Some (AreaClear key)) (keeps_key rules))
-    (keeps_if (code == 4) (keeps_made (λ key. Some (SetMode key)) (keeps_key rules))
-    (keeps_if (code == 5) (keeps_made (λ p. Some (CookieInsert p.0.0 p.0.1 p.1)) (keeps_placed rules))
-    (keeps_if (code == 6) (keeps_made (λ p. Some (CookieReplace p.0.0 p.0.1 p.1)) (keeps_placed rules))
-    (keeps_if (code == 7) (keeps_made (λ p. Some (CookieRemove p.0 p.1)) (keeps_both (keeps_cell rules) keeps_byte))
-    (keeps_if (code == 8) (keeps_made (λ row. Some (Grant row)) (keeps_grant rules)) keeps_nothing)))))))
+keeps_behind : (code : ℕ) → Keeps (change_behind code)
+keeps_behind code =
+    keeps_if (code == 1) (keeps_made (λ p. Some (AreaPut p.0.0 p.0.1 p.1)) (keeps_both (keeps_both keeps_key keeps_text) keeps_text))
+    (keeps_if (code == 2) (keeps_made (λ p. Some (AreaRemove p.0 p.1)) (keeps_both keeps_key keeps_text))
+    (keeps_if (code == 3) (keeps_made (λ key. Some (AreaClear key)) keeps_key)
+    (keeps_if (code == 4) (keeps_made (λ key. Some (SetMode key)) keeps_key)
+    (keeps_if (code == 5) (keeps_made (λ p. Some (CookieInsert p.0.0 p.0.1 p.1)) keeps_placed)
+    (keeps_if (code == 6) (keeps_made (λ p. Some (CookieReplace p.0.0 p.0.1 p.1)) keeps_placed)
+    (keeps_if (code == 7) (keeps_made (λ p. Some (CookieRemove p.0 p.1)) (keeps_both keeps_cell keeps_byte))
+    (keeps_if (code == 8) (keeps_made (λ row. Some (Grant row)) keeps_grant) keeps_nothing)))))))
 
 -- ---- a count and a row change take a byte at least
 
-pub change_shorter : (rules : List Rule) (bytes : List ℕ) (change : PlainChange) (rest : List ℕ) → change_at rules bytes ≡ Some (change, rest) → length rest < length bytes
+pub change_shorter : (bytes : List ℕ) (change : PlainChange) (rest : List ℕ) → change_at bytes ≡ Some (change, rest) → length rest < length bytes
 unfolding change_at
-change_shorter rules [] change rest e = absurd (none-some _ e)
-change_shorter rules (code ∷ bytes) change rest e =
-    let left : length rest ≤ length bytes = keeps_behind rules code bytes change rest e in
+change_shorter [] change rest e = absurd (none-some _ e)
+change_shorter (code ∷ bytes) change rest e =
+    let left : length rest ≤ length bytes = keeps_behind code bytes change rest e in
     omega (arith, left)
 
 count_shorter : (bytes : List ℕ) (count : ℕ) (rest : List ℕ) → count_at bytes ≡ Some (count, rest) → length rest < length bytes
@@ -173,46 +174,46 @@ chosen_shortens : (p : PlainProgress) (b : Bool) (x y : PlainPiece × PlainProgr
 chosen_shortens p true x y h k = h
 chosen_shortens p false x y h k = k
 
-next_shortens : (rules : List Rule) (snapshot : Bool) (size : ℕ) (p : PlainProgress) → Shortens p (next_piece rules snapshot size p).1
+next_shortens : (snapshot : Bool) (size : ℕ) (p : PlainProgress) → Shortens p (next_piece snapshot size p).1
 unfolding next_piece
-next_shortens rules snapshot size p =
-    chosen_shortens p (p.left == 0 && not snapshot) (begun size p (count_at p.rest)) (rowed size p (change_at rules p.rest))
+next_shortens snapshot size p =
+    chosen_shortens p (p.left == 0 && not snapshot) (begun size p (count_at p.rest)) (rowed size p (change_at p.rest))
     (begun_shortens size p (count_at p.rest) (λ count rest e. count_shorter p.rest count rest e))
-    (rowed_shortens size p (change_at rules p.rest) (λ change rest e. change_shorter rules p.rest change rest e))
+    (rowed_shortens size p (change_at p.rest) (λ change rest e. change_shorter p.rest change rest e))
 
 -- ---- the pieces to come
 
-none_within : (most : ℕ) (rules : List Rule) (snapshot : Bool) (size : ℕ) (p : PlainProgress) → is_over p ≡ true → pieces_within most rules snapshot size p ≡ []
-none_within zero rules snapshot size p over = refl
-none_within (suc most) rules snapshot size p over = rw over refl
+none_within : (most : ℕ) (snapshot : Bool) (size : ℕ) (p : PlainProgress) → is_over p ≡ true → pieces_within most snapshot size p ≡ []
+none_within zero snapshot size p over = refl
+none_within (suc most) snapshot size p over = rw over refl
 
 -- more than the bytes that are left is always enough
-enough : (m n : ℕ) (rules : List Rule) (snapshot : Bool) (size : ℕ) (p : PlainProgress) → length p.rest < m → length p.rest < n
-    → pieces_within m rules snapshot size p ≡ pieces_within n rules snapshot size p
-enough zero n rules snapshot size p h k = absurd (omega arith)
-enough (suc m) zero rules snapshot size p h k = absurd (omega arith)
-enough (suc m) (suc n) rules snapshot size p h k =
-    let next = next_piece rules snapshot size p in
+enough : (m n : ℕ) (snapshot : Bool) (size : ℕ) (p : PlainProgress) → length p.rest < m → length p.rest < n
+    → pieces_within m snapshot size p ≡ pieces_within n snapshot size p
+enough zero n snapshot size p h k = absurd (omega arith)
+enough (suc m) zero snapshot size p h k = absurd (omega arith)
+enough (suc m) (suc n) snapshot size p h k =
+    let next = next_piece snapshot size p in
     let q = next.1 in
-    let same : pieces_within m rules snapshot size q ≡ pieces_within n rules snapshot size q =
-    elim (next_shortens rules snapshot size p) [
-      | inl less ↦ enough m n rules snapshot size q (omega (arith, less)) (omega (arith, less))
-      | inr over ↦ none_within m rules snapshot size q over ∙ sym (none_within n rules snapshot size q over)
+    let same : pieces_within m snapshot size q ≡ pieces_within n snapshot size q =
+    elim (next_shortens snapshot size p) [
+      | inl less ↦ enough m n snapshot size q (omega (arith, less)) (omega (arith, less))
+      | inr over ↦ none_within m snapshot size q over ∙ sym (none_within n snapshot size q over)
     ] in
     ap (λ (l : List PlainPiece). cond (is_over p) [] (next.0 ∷ l)) same
 
-pub none_from : (rules : List Rule) (snapshot : Bool) (size : ℕ) (p : PlainProgress) → is_over p ≡ true → pieces_from rules snapshot size p ≡ []
-none_from rules snapshot size p over = none_within (suc (length p.rest)) rules snapshot size p over
+pub none_from : (snapshot : Bool) (size : ℕ) (p : PlainProgress) → is_over p ≡ true → pieces_from snapshot size p ≡ []
+none_from snapshot size p over = none_within (suc (length p.rest)) snapshot size p over
 
 -- the next piece, and those behind it
-pub next_from : (rules : List Rule) (snapshot : Bool) (size : ℕ) (p : PlainProgress) → is_over p ≡ false
-    → pieces_from rules snapshot size p ≡ (next_piece rules snapshot size p).0 ∷ pieces_from rules snapshot size (next_piece rules snapshot size p).1
-next_from rules snapshot size p more =
-    let next = next_piece rules snapshot size p in
+pub next_from : (snapshot : Bool) (size : ℕ) (p : PlainProgress) → is_over p ≡ false
+    → pieces_from snapshot size p ≡ (next_piece snapshot size p).0 ∷ pieces_from snapshot size (next_piece snapshot size p).1
+next_from snapshot size p more =
+    let next = next_piece snapshot size p in
     let q = next.1 in
-    let same : pieces_within (length p.rest) rules snapshot size q ≡ pieces_from rules snapshot size q =
-    elim (next_shortens rules snapshot size p) [
-      | inl less ↦ enough (length p.rest) (suc (length q.rest)) rules snapshot size q less (omega arith)
-      | inr over ↦ none_within (length p.rest) rules snapshot size q over ∙ sym (none_from rules snapshot size q over)
+    let same : pieces_within (length p.rest) snapshot size q ≡ pieces_from snapshot size q =
+    elim (next_shortens snapshot size p) [
+      | inl less ↦ enough (length p.rest) (suc (length q.rest)) snapshot size q less (omega arith)
+      | inr over ↦ none_within (length p.rest) snapshot size q over ∙ sym (none_from snapshot size q over)
     ] in
     rw more (ap (λ (l : List PlainPiece). next.0 ∷ l) same)

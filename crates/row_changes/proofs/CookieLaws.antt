@@ -4,7 +4,6 @@ use Rattle.std.specs.Prelude.{FitsSigned, unwrap_or, ◌&&◌}
 use Rattle.std.specs.Int.{w64}
 use Rattle.std.proofs.lemmas.Option.{cond_some, none-some, same_Some}
 use Rattle.std.proofs.lemmas.Bool.{cond-true}
-use Rattle.suffix_list.specs.Suffix.{Rule}
 use Rattle.origin_site.specs.Site.{PlainSite, site_text}
 use Rattle.setcookie_parse.specs.declared.cookie.SameSite.{SameSite}
 use Rattle.stored_cookie.specs.StoredCookie.{PlainCookie}
@@ -103,14 +102,14 @@ cookie_reads =
 abbrev pub placed_bytes : (PlainCell × ℕ) × PlainCookie → List ℕ
 placed_bytes p = cell_bytes p.0.0 ++ p.0.1 ∷ cookie_bytes p.1
 
-abbrev pub ArePlaced : List Rule → (PlainCell × ℕ) × PlainCookie → Type 0
-ArePlaced rules p = ((IsNamed rules p.0.0 × (p.0.1 < 256)) × HasSpelledFields p.1) × (suits rules p.0.0 p.1 ≡ true)
+abbrev pub ArePlaced : (PlainCell × ℕ) × PlainCookie → Type 0
+ArePlaced p = ((IsNamed p.0.0 × (p.0.1 < 256)) × HasSpelledFields p.1) × (suits p.0.0 p.1 ≡ true)
 
-pub placed_reads : (rules : List Rule) → Reads (placed_at rules) placed_bytes (ArePlaced rules)
+pub placed_reads : Reads placed_at placed_bytes ArePlaced
 unfolding placed_at
-placed_reads rules =
+placed_reads =
     respelled placed_bytes (λ p. append_assoc (cell_bytes p.0.0) (p.0.1 ∷ []) (cookie_bytes p.1))
-    (passing_reads (λ placed. suits rules placed.0.0 placed.1) (both_reads (both_reads (cell_reads rules) byte_reads) cookie_reads))
+    (passing_reads (λ placed. suits placed.0.0 placed.1) (both_reads (both_reads cell_reads byte_reads) cookie_reads))
 
 -- ---- permissions
 
@@ -133,28 +132,28 @@ answer_reads = made_reads answer_of answer_byte Any (λ b h. answer_forth b) (λ
 abbrev grant_parts : PlainGrant → ((PlainSite × PlainSite) × Bool) × ℤ
 grant_parts row = (((row.top, row.site), row.granted), row.until)
 
-grant_forth : (rules : List Rule) (row : PlainGrant) → IsRow rules row
-    → (((IsSite rules row.top × IsSite rules row.site) × Any row.granted) × FitsSigned w64 row.until) × (grant_of (grant_parts row) ≡ Some row)
-grant_forth rules row h =
+grant_forth : (row : PlainGrant) → IsRow row
+    → (((IsSite row.top × IsSite row.site) × Any row.granted) × FitsSigned w64 row.until) × (grant_of (grant_parts row) ≡ Some row)
+grant_forth row h =
     let both : (row.top.https && row.site.https) ≡ true = rw (h.3, h.4) refl in
     ((((h.0, h.1), tt), h.2), cond-true _ _ _ both)
 
-grant_only : (rules : List Rule) (p : ((PlainSite × PlainSite) × Bool) × ℤ) (row : PlainGrant)
-    → ((IsSite rules p.0.0.0 × IsSite rules p.0.0.1) × Any p.0.1) × FitsSigned w64 p.1 → grant_of p ≡ Some row → IsRow rules row × (grant_parts row ≡ p)
-grant_only rules p row h e =
+grant_only : (p : ((PlainSite × PlainSite) × Bool) × ℤ) (row : PlainGrant)
+    → ((IsSite p.0.0.0 × IsSite p.0.0.1) × Any p.0.1) × FitsSigned w64 p.1 → grant_of p ≡ Some row → IsRow row × (grant_parts row ≡ p)
+grant_only p row h e =
     let made_row : PlainGrant = record { top = p.0.0.0; site = p.0.0.1; granted = p.0.1; until = p.1 } in
     let c = cond_some (p.0.0.0.https && p.0.0.1.https) made_row row e in
     let both = both_true p.0.0.0.https p.0.0.1.https c.0 in
-    (subst (IsRow rules) c.1 (h.0.0.0, h.0.0.1, h.1, both.0, both.1), ap grant_parts (sym c.1))
+    (subst IsRow c.1 (h.0.0.0, h.0.0.1, h.1, both.0, both.1), ap grant_parts (sym c.1))
 
 grant_respelled : (row : PlainGrant)
     → ((text_bytes (site_text row.top) ++ text_bytes (site_text row.site)) ++ answer_byte row.granted ∷ []) ++ signed_bytes row.until ≡ grant_bytes row
 grant_respelled row =
     append_assoc (text_bytes (site_text row.top) ++ text_bytes (site_text row.site)) (answer_byte row.granted ∷ []) (signed_bytes row.until)
 
-pub grant_reads : (rules : List Rule) → Reads (grant_at rules) grant_bytes (IsRow rules)
+pub grant_reads : Reads grant_at grant_bytes IsRow
 unfolding grant_at
-grant_reads rules =
+grant_reads =
     respelled grant_bytes grant_respelled
-    (made_reads grant_of grant_parts (IsRow rules) (grant_forth rules) (grant_only rules)
-    (both_reads (both_reads (both_reads (site_reads rules) (site_reads rules)) answer_reads) signed_reads))
+    (made_reads grant_of grant_parts IsRow grant_forth grant_only
+    (both_reads (both_reads (both_reads site_reads site_reads) answer_reads) signed_reads))

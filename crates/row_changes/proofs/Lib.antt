@@ -8,6 +8,7 @@ pub mod ChangeLaws
 pub mod BodyLaws
 pub mod PieceLaws
 pub mod SpelledLaws
+pub mod UnderLaws
 pub mod TextLemmas
 pub mod WritingLemmas
 pub mod StandardFacts

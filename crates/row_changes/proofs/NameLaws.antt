@@ -1,14 +1,16 @@
 -- Names by their texts: an origin, a site and a domain that are read have the text that was read.
-use Rattle.std.proofs.Common.{◌≡◌, ℕ, true, List, Some, Result, Ok, Err, sym, ap, subst, ◌∙◌}
+use Rattle.std.proofs.Common.{◌≡◌, ℕ, Bool, true, false, cond, List, Some, Result, Ok, Err, refl, sym, ap, subst, ◌∙◌}
+use Rattle.std.specs.Result.{result_ok}
 use Rattle.std.specs.Prelude.{bytes_eq, ◌&&◌, nat_le, length}
-use Rattle.std.proofs.lemmas.Option.{cond_some, none-some}
+use Rattle.std.proofs.lemmas.Option.{cond_some, none-some, same_Some}
 use Rattle.std.proofs.lemmas.Slice.Eq.{bytes_eq-Decides}
-use Rattle.suffix_list.specs.Suffix.{Rule}
 use Rattle.origin_site.specs.Address.{PlainAddress, address_of}
 use Rattle.origin_site.specs.Origin.{PlainOrigin, origin_of_address, origin_text}
-use Rattle.origin_site.specs.Site.{PlainSite, site_of_address, site_text}
+use Rattle.origin_site.specs.Site.{PlainSite, site_by, site_of_text, site_text, whole_host}
+use Rattle.origin_site.specs.declared.address.AddressFault.{AddressFault}
+use Rattle.origin_site.specs.declared.site.SiteFault.TheVariants.{NotSite}
 use Rattle.row_changes.specs.Fields.{text_bytes}
-use Rattle.row_changes.specs.Names.{origin_by, origin_of_text, origin_limit, site_by, site_under_list, is_own_domain}
+use Rattle.row_changes.specs.Names.{origin_by, origin_of_text, origin_limit, is_host}
 use Rattle.row_changes.specs.Spelled.{IsText, IsSite}
 use Rattle.row_changes.specs.Reading.{origin_at, site_at, domain_at}
 use Rattle.row_changes.proofs.FieldLaws.{both_true, Reads, made_reads, passing_reads, text_reads}
@@ -21,12 +23,26 @@ origin_is text (Ok address) origin e =
     let both = both_true (bytes_eq (origin_text own) text) (nat_le (length text) origin_limit) c.0 in
     ap origin_text (sym c.1) ∙ (bytes_eq-Decides (origin_text own) text).0 both.0
 
-site_is : {E : Type 0} (rules : List Rule) (text : List ℕ) (read : Result PlainAddress E) (site : PlainSite) → site_by rules text read ≡ Some site → site_text site ≡ text
-site_is rules text (Err why) site e = absurd (none-some _ e)
-site_is rules text (Ok address) site e =
-    let own = site_of_address rules address in
-    let c = cond_some (bytes_eq (site_text own) text) own site e in
-    ap site_text (sym c.1) ∙ (bytes_eq-Decides (site_text own) text).0 c.0
+pub not_ok : {A E : Type 0} (why : E) (a : A) → ◌≡◌ {A = Result A E} (Err why) (Ok a) → ⊥
+not_ok why a e = cc
+
+pub same_ok : {A E : Type 0} (a b : A) → ◌≡◌ {A = Result A E} (Ok a) (Ok b) → a ≡ b
+same_ok a b e = cc
+
+pub cond_ok : {A E : Type 0} (b : Bool) (a c : A) (why : E) → cond b (Ok a) (Err why) ≡ Ok c → (b ≡ true) × (a ≡ c)
+cond_ok true a c why e = (refl, same_ok a c e)
+cond_ok false a c why e = absurd (not_ok why c e)
+
+is_ok_of : {A E : Type 0} (read : Result A E) (a : A) → result_ok read ≡ Some a → read ≡ Ok a
+is_ok_of (Ok x) a e = ap Ok (same_Some x a e)
+is_ok_of (Err why) a e = absurd (none-some _ e)
+
+-- a text that was read as a site is its text
+site_is : (text : List ℕ) (read : Result PlainAddress AddressFault) (site : PlainSite) → site_by text read ≡ Ok site → site_text site ≡ text
+site_is text (Err why) site e = absurd (not_ok NotSite site e)
+site_is text (Ok address) site e =
+    let c = cond_ok (bytes_eq (site_text (whole_host address)) text) (whole_host address) site NotSite e in
+    ap site_text (sym c.1) ∙ (bytes_eq-Decides (site_text (whole_host address)) text).0 c.0
 
 -- an origin has a spelling: its text reads back
 abbrev pub IsOrigin : PlainOrigin → Type 0
@@ -41,19 +57,20 @@ pub origin_reads : Reads origin_at (λ o. text_bytes (origin_text o)) IsOrigin
 unfolding origin_at
 origin_reads = made_reads origin_of_text origin_text IsOrigin (λ o h. h) origin_only text_reads
 
-site_only : (rules : List Rule) (text : List ℕ) (site : PlainSite) → IsText text → site_under_list rules text ≡ Some site → IsSite rules site × (site_text site ≡ text)
-site_only rules text site h e =
-    let same : site_text site ≡ text = site_is rules text (address_of text) site e in
-    (subst (λ (t : List ℕ). IsText t × (site_under_list rules t ≡ Some site)) (sym same) (h, e), same)
+site_only : (text : List ℕ) (site : PlainSite) → IsText text → result_ok (site_of_text text) ≡ Some site → IsSite site × (site_text site ≡ text)
+site_only text site h e =
+    let read : site_of_text text ≡ Ok site = is_ok_of (site_of_text text) site e in
+    let same : site_text site ≡ text = site_is text (address_of text) site read in
+    (subst (λ (t : List ℕ). IsText t × (site_of_text t ≡ Ok site)) (sym same) (h, read), same)
 
-pub site_reads : (rules : List Rule) → Reads (site_at rules) (λ s. text_bytes (site_text s)) (IsSite rules)
+pub site_reads : Reads site_at (λ s. text_bytes (site_text s)) IsSite
 unfolding site_at
-site_reads rules = made_reads (site_under_list rules) site_text (IsSite rules) (λ s h. h) (site_only rules) text_reads
+site_reads = made_reads (λ text. result_ok (site_of_text text)) site_text IsSite (λ s h. (h.0, ap result_ok h.1)) site_only text_reads
 
--- a domain has a spelling: it is its own domain
-abbrev pub IsDomain : List Rule → List ℕ → Type 0
-IsDomain rules domain = IsText domain × (is_own_domain rules domain ≡ true)
+-- a domain has a spelling: it is a host
+abbrev pub IsDomain : List ℕ → Type 0
+IsDomain domain = IsText domain × (is_host domain ≡ true)
 
-pub domain_reads : (rules : List Rule) → Reads (domain_at rules) text_bytes (IsDomain rules)
+pub domain_reads : Reads domain_at text_bytes IsDomain
 unfolding domain_at
-domain_reads rules = passing_reads (is_own_domain rules) text_reads
+domain_reads = passing_reads is_host text_reads

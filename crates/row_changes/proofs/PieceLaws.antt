@@ -7,7 +7,6 @@ use Rattle.std.proofs.lemmas.Bool.{lt-ltb}
 use Rattle.std.proofs.lemmas.List.Elements.{filter_map-append}
 use Rattle.std.proofs.lemmas.List.Folds.{list_any-append}
 use Rattle.std.proofs.lemmas.List.Sums.{sum_by-append, sum_by-cons}
-use Rattle.suffix_list.specs.Suffix.{Rule}
 use Rattle.row_changes.specs.Change.{PlainChange}
 use Rattle.row_changes.specs.Fields.{number_at}
 use Rattle.row_changes.specs.Spelling.{change_bytes}
@@ -32,38 +31,38 @@ more_left left rest h = by (left == 0)
     by false = refl
 
 -- a row change that is due, and what is behind it
-row_next : (rules : List Rule) (snapshot : Bool) (size at left : ℕ) (change : PlainChange) (rest : List ℕ) → IsSpelled rules change
+row_next : (snapshot : Bool) (size at left : ℕ) (change : PlainChange) (rest : List ℕ) → IsSpelled change
     → (left == 0 && not snapshot) ≡ false → at + length (change_bytes change ++ rest) ≡ size
-    → pieces_from rules snapshot size (progress left (change_bytes change ++ rest)) ≡ Row at change ∷ pieces_from rules snapshot size (progress (left - 1) rest)
+    → pieces_from snapshot size (progress left (change_bytes change ++ rest)) ≡ Row at change ∷ pieces_from snapshot size (progress (left - 1) rest)
 unfolding next_piece
-row_next rules snapshot size at left change rest h due whole =
+row_next snapshot size at left change rest h due whole =
     let bytes = change_bytes change ++ rest in
-    let again : change_at rules bytes ≡ Some (change, rest) = change_again rules change rest h in
-    let shorter : length rest < length bytes = change_shorter rules bytes change rest again in
+    let again : change_at bytes ≡ Some (change, rest) = change_again change rest h in
+    let shorter : length rest < length bytes = change_shorter bytes change rest again in
     let begin : size - length bytes ≡ at = omega (arith, whole) in
-    let next : next_piece rules snapshot size (progress left bytes) ≡ (Row at change, progress (left - 1) rest) = rw (due, again, begin) refl in
-    next_from rules snapshot size (progress left bytes) (more_left left bytes (omega (arith, shorter)))
-    ∙ ap (λ (x : PlainPiece × PlainProgress). x.0 ∷ pieces_from rules snapshot size x.1) next
+    let next : next_piece snapshot size (progress left bytes) ≡ (Row at change, progress (left - 1) rest) = rw (due, again, begin) refl in
+    next_from snapshot size (progress left bytes) (more_left left bytes (omega (arith, shorter)))
+    ∙ ap (λ (x : PlainPiece × PlainProgress). x.0 ∷ pieces_from snapshot size x.1) next
 
 -- a count of row changes, and what is behind it
-begin_next : (rules : List Rule) (size count : ℕ) (rest : List ℕ) → 0 < count → count < 2 ^ 32
-    → pieces_from rules false size (progress 0 (to_le_bytes w32 count ++ rest)) ≡ Begins ∷ pieces_from rules false size (progress count rest)
+begin_next : (size count : ℕ) (rest : List ℕ) → 0 < count → count < 2 ^ 32
+    → pieces_from false size (progress 0 (to_le_bytes w32 count ++ rest)) ≡ Begins ∷ pieces_from false size (progress count rest)
 unfolding next_piece count_at
-begin_next rules size count rest some few =
+begin_next size count rest some few =
     let bytes = to_le_bytes w32 count ++ rest in
     let number : number_at w32 bytes ≡ Some (count, rest) = count_reads.again count rest few in
     let positive : nat_lt 0 count ≡ true = lt-ltb 0 count some in
     let counted : count_at bytes ≡ Some (count, rest) = rw (number, positive) refl in
-    let next : next_piece rules false size (progress 0 bytes) ≡ (Begins, progress count rest) = rw counted refl in
-    next_from rules false size (progress 0 bytes) (more_left 0 bytes (omega arith))
-    ∙ ap (λ (x : PlainPiece × PlainProgress). x.0 ∷ pieces_from rules false size x.1) next
+    let next : next_piece false size (progress 0 bytes) ≡ (Begins, progress count rest) = rw counted refl in
+    next_from false size (progress 0 bytes) (more_left 0 bytes (omega arith))
+    ∙ ap (λ (x : PlainPiece × PlainProgress). x.0 ∷ pieces_from false size x.1) next
 
 -- the row changes of a durable change, and what is behind them
-rows_next : (rules : List Rule) (size at : ℕ) (changes : List PlainChange) (rest : List ℕ) → All (IsSpelled rules) changes
+rows_next : (size at : ℕ) (changes : List PlainChange) (rest : List ℕ) → All IsSpelled changes
     → at + length (rows_bytes changes ++ rest) ≡ size
-    → pieces_from rules false size (progress (length changes) (rows_bytes changes ++ rest)) ≡ row_pieces at changes ++ pieces_from rules false size (progress 0 rest)
-rows_next rules size at [] rest h whole = refl
-rows_next rules size at (change ∷ changes) rest h whole =
+    → pieces_from false size (progress (length changes) (rows_bytes changes ++ rest)) ≡ row_pieces at changes ++ pieces_from false size (progress 0 rest)
+rows_next size at [] rest h whole = refl
+rows_next size at (change ∷ changes) rest h whole =
     let bytes = change_bytes change in
     let behind = rows_bytes changes ++ rest in
     let parted : rows_bytes (change ∷ changes) ++ rest ≡ bytes ++ behind = append_assoc bytes (rows_bytes changes) rest in
@@ -72,18 +71,18 @@ rows_next rules size at (change ∷ changes) rest h whole =
     let here : at + length (bytes ++ behind) ≡ size = ap (λ (l : List ℕ). at + length l) (sym parted) ∙ whole in
     let there : (at + length bytes) + length behind ≡ size = omega (arith, here, length-append bytes behind) in
     let fewer : count - 1 ≡ length changes = omega arith in
-    ap (λ (l : List ℕ). pieces_from rules false size (progress count l)) parted
-    ∙ row_next rules false size at count change behind (h 0 change (omega arith)) due here
-    ∙ ap (λ (n : ℕ). Row at change ∷ pieces_from rules false size (progress n behind)) fewer
-    ∙ ap (λ (l : List PlainPiece). Row at change ∷ l) (rows_next rules size (at + length bytes) changes rest (λ k d lt. h (suc k) d (omega (arith, lt))) there)
+    ap (λ (l : List ℕ). pieces_from false size (progress count l)) parted
+    ∙ row_next false size at count change behind (h 0 change (omega arith)) due here
+    ∙ ap (λ (n : ℕ). Row at change ∷ pieces_from false size (progress n behind)) fewer
+    ∙ ap (λ (l : List PlainPiece). Row at change ∷ l) (rows_next size (at + length bytes) changes rest (λ k d lt. h (suc k) d (omega (arith, lt))) there)
 
 -- the durable changes that are left
-body_next : (rules : List Rule) (size at : ℕ) (written : List (List PlainChange)) → All (IsWritable rules) written
+body_next : (size at : ℕ) (written : List (List PlainChange)) → All IsWritable written
     → at + length (flat_map changes_bytes written) ≡ size
-    → pieces_from rules false size (progress 0 (flat_map changes_bytes written)) ≡ body_pieces at written
-body_next rules size at [] h whole = none_from rules false size (progress 0 []) refl
-body_next rules size at (changes ∷ later) h whole =
-    let one : IsWritable rules changes = h 0 changes (omega arith) in
+    → pieces_from false size (progress 0 (flat_map changes_bytes written)) ≡ body_pieces at written
+body_next size at [] h whole = none_from false size (progress 0 []) refl
+body_next size at (changes ∷ later) h whole =
+    let one : IsWritable changes = h 0 changes (omega arith) in
     let count = to_le_bytes w32 (length changes) in
     let rows = rows_bytes changes in
     let behind = flat_map changes_bytes later in
@@ -93,31 +92,31 @@ body_next rules size at (changes ∷ later) h whole =
     let all : at + length (count ++ (rows ++ behind)) ≡ size = ap (λ (l : List ℕ). at + length l) (sym parted) ∙ whole in
     omega (arith, all, length-append count (rows ++ behind)) in
     let there : (at + length (changes_bytes changes)) + length behind ≡ size = omega (arith, here, long, length-append rows behind) in
-    ap (λ (l : List ℕ). pieces_from rules false size (progress 0 l)) parted
-    ∙ begin_next rules size (length changes) (rows ++ behind) one.0 one.1
-    ∙ ap (λ (l : List PlainPiece). Begins ∷ l) (rows_next rules size (at + byte_len w32) changes behind one.2 here)
+    ap (λ (l : List ℕ). pieces_from false size (progress 0 l)) parted
+    ∙ begin_next size (length changes) (rows ++ behind) one.0 one.1
+    ∙ ap (λ (l : List PlainPiece). Begins ∷ l) (rows_next size (at + byte_len w32) changes behind one.2 here)
     ∙ ap (λ (l : List PlainPiece). Begins ∷ row_pieces (at + byte_len w32) changes ++ l)
-    (body_next rules size (at + length (changes_bytes changes)) later (λ k d lt. h (suc k) d (omega (arith, lt))) there)
+    (body_next size (at + length (changes_bytes changes)) later (λ k d lt. h (suc k) d (omega (arith, lt))) there)
 
 -- the row changes of a snapshot that are left
-snapshot_next : (rules : List Rule) (size at : ℕ) (changes : List PlainChange) → All (IsSpelled rules) changes → at + length (rows_bytes changes) ≡ size
-    → pieces_from rules true size (progress 0 (rows_bytes changes)) ≡ row_pieces at changes
-snapshot_next rules size at [] h whole = none_from rules true size (progress 0 []) refl
-snapshot_next rules size at (change ∷ changes) h whole =
+snapshot_next : (size at : ℕ) (changes : List PlainChange) → All IsSpelled changes → at + length (rows_bytes changes) ≡ size
+    → pieces_from true size (progress 0 (rows_bytes changes)) ≡ row_pieces at changes
+snapshot_next size at [] h whole = none_from true size (progress 0 []) refl
+snapshot_next size at (change ∷ changes) h whole =
     let bytes = change_bytes change in
     let there : (at + length bytes) + length (rows_bytes changes) ≡ size = omega (arith, whole, length-append bytes (rows_bytes changes)) in
-    row_next rules true size at 0 change (rows_bytes changes) (h 0 change (omega arith)) refl whole
-    ∙ ap (λ (l : List PlainPiece). Row at change ∷ l) (snapshot_next rules size (at + length bytes) changes (λ k d lt. h (suc k) d (omega (arith, lt))) there)
+    row_next true size at 0 change (rows_bytes changes) (h 0 change (omega arith)) refl whole
+    ∙ ap (λ (l : List PlainPiece). Row at change ∷ l) (snapshot_next size (at + length bytes) changes (λ k d lt. h (suc k) d (omega (arith, lt))) there)
 
 -- ---- whole bodies
 
-pub body_again : (rules : List Rule) (written : List (List PlainChange)) → All (IsWritable rules) written
-    → pieces_of rules false (flat_map changes_bytes written) ≡ body_pieces 0 written
-body_again rules written h = body_next rules (length (flat_map changes_bytes written)) 0 written h (omega arith)
+pub body_again : (written : List (List PlainChange)) → All IsWritable written
+    → pieces_of false (flat_map changes_bytes written) ≡ body_pieces 0 written
+body_again written h = body_next (length (flat_map changes_bytes written)) 0 written h (omega arith)
 
-pub snapshot_again : (rules : List Rule) (changes : List PlainChange) → All (IsSpelled rules) changes
-    → pieces_of rules true (rows_bytes changes) ≡ row_pieces 0 changes
-snapshot_again rules changes h = snapshot_next rules (length (rows_bytes changes)) 0 changes h (omega arith)
+pub snapshot_again : (changes : List PlainChange) → All IsSpelled changes
+    → pieces_of true (rows_bytes changes) ≡ row_pieces 0 changes
+snapshot_again changes h = snapshot_next (length (rows_bytes changes)) 0 changes h (omega arith)
 
 -- ---- what the pieces hold, without the offsets
 
@@ -177,28 +176,28 @@ body_whole at (changes ∷ later) =
     list_any-append is_fault (row_pieces begin changes) (body_pieces behind later) ∙ rw (rows_whole begin changes, body_whole behind later) refl
 
 -- the row changes of a body's pieces are the written ones, in their order
-pub body_rows : (rules : List Rule) (written : List (List PlainChange)) → All (IsWritable rules) written
-    → filter_map piece_row (pieces_of rules false (flat_map changes_bytes written)) ≡ flat_map (λ changes. changes) written
-body_rows rules written h = ap (filter_map piece_row) (body_again rules written h) ∙ body_held 0 written
+pub body_rows : (written : List (List PlainChange)) → All IsWritable written
+    → filter_map piece_row (pieces_of false (flat_map changes_bytes written)) ≡ flat_map (λ changes. changes) written
+body_rows written h = ap (filter_map piece_row) (body_again written h) ∙ body_held 0 written
 
 -- as many begin as were written
-pub body_begins : (rules : List Rule) (written : List (List PlainChange)) → All (IsWritable rules) written
-    → count_by begins (pieces_of rules false (flat_map changes_bytes written)) ≡ length written
-body_begins rules written h = ap (count_by begins) (body_again rules written h) ∙ body_begins_each 0 written
+pub body_begins : (written : List (List PlainChange)) → All IsWritable written
+    → count_by begins (pieces_of false (flat_map changes_bytes written)) ≡ length written
+body_begins written h = ap (count_by begins) (body_again written h) ∙ body_begins_each 0 written
 
-pub body_faultless : (rules : List Rule) (written : List (List PlainChange)) → All (IsWritable rules) written
-    → list_any is_fault (pieces_of rules false (flat_map changes_bytes written)) ≡ false
-body_faultless rules written h = ap (list_any is_fault) (body_again rules written h) ∙ body_whole 0 written
+pub body_faultless : (written : List (List PlainChange)) → All IsWritable written
+    → list_any is_fault (pieces_of false (flat_map changes_bytes written)) ≡ false
+body_faultless written h = ap (list_any is_fault) (body_again written h) ∙ body_whole 0 written
 
 -- the same of a snapshot, in which no durable change begins
-pub snapshot_rows : (rules : List Rule) (changes : List PlainChange) → All (IsSpelled rules) changes
-    → filter_map piece_row (pieces_of rules true (rows_bytes changes)) ≡ changes
-snapshot_rows rules changes h = ap (filter_map piece_row) (snapshot_again rules changes h) ∙ rows_held 0 changes
+pub snapshot_rows : (changes : List PlainChange) → All IsSpelled changes
+    → filter_map piece_row (pieces_of true (rows_bytes changes)) ≡ changes
+snapshot_rows changes h = ap (filter_map piece_row) (snapshot_again changes h) ∙ rows_held 0 changes
 
-pub snapshot_begins : (rules : List Rule) (changes : List PlainChange) → All (IsSpelled rules) changes
-    → count_by begins (pieces_of rules true (rows_bytes changes)) ≡ 0
-snapshot_begins rules changes h = ap (count_by begins) (snapshot_again rules changes h) ∙ rows_begin_none 0 changes
+pub snapshot_begins : (changes : List PlainChange) → All IsSpelled changes
+    → count_by begins (pieces_of true (rows_bytes changes)) ≡ 0
+snapshot_begins changes h = ap (count_by begins) (snapshot_again changes h) ∙ rows_begin_none 0 changes
 
-pub snapshot_faultless : (rules : List Rule) (changes : List PlainChange) → All (IsSpelled rules) changes
-    → list_any is_fault (pieces_of rules true (rows_bytes changes)) ≡ false
-snapshot_faultless rules changes h = ap (list_any is_fault) (snapshot_again rules changes h) ∙ rows_whole 0 changes
+pub snapshot_faultless : (changes : List PlainChange) → All IsSpelled changes
+    → list_any is_fault (pieces_of true (rows_bytes changes)) ≡ false
+snapshot_faultless changes h = ap (list_any is_fault) (snapshot_again changes h) ∙ rows_whole 0 changes

@@ -4,7 +4,6 @@ use Rattle.std.specs.Prelude.{◌&&◌, ◌==◌, not, nat_lt}
 use Rattle.std.specs.Int.{w32}
 use Rattle.std.specs.List.{All}
 use Rattle.std.proofs.lemmas.List.Elements.{All-cons, All-nil}
-use Rattle.suffix_list.specs.Suffix.{Rule}
 use Rattle.row_changes.specs.Change.{PlainChange}
 use Rattle.row_changes.specs.Fields.{number_at, passing}
 use Rattle.row_changes.specs.Spelled.{IsSpelled}
@@ -14,17 +13,17 @@ use Rattle.row_changes.specs.Laws.{IsSpelledPiece, PiecesAreSpelled}
 use Rattle.row_changes.proofs.ChangeLaws.{change_takes}
 use Rattle.row_changes.proofs.FieldLaws.{IsBytes, count_reads, made_some}
 
-module _ (rules : List Rule) (snapshot : Bool) (size : ℕ) where
+module _ (snapshot : Bool) (size : ℕ) where
   -- a piece that is spelled, before bytes
   abbrev IsRead : PlainPiece × PlainProgress → Type 0
-  IsRead next = IsSpelledPiece rules next.0 × IsBytes next.1.rest
+  IsRead next = IsSpelledPiece next.0 × IsBytes next.1.rest
 
   begun_read : (p : PlainProgress) (found : Option (ℕ × List ℕ)) → ((count : ℕ) (rest : List ℕ) → found ≡ Some (count, rest) → IsBytes rest) → IsRead (begun size p found)
   begun_read p None rest = (tt, λ i. omega arith)
   begun_read p (Some found) rest = (tt, rest found.0 found.1 refl)
 
   rowed_read : (p : PlainProgress) (found : Option (PlainChange × List ℕ))
-      → ((change : PlainChange) (rest : List ℕ) → found ≡ Some (change, rest) → IsSpelled rules change × IsBytes rest) → IsRead (rowed size p found)
+      → ((change : PlainChange) (rest : List ℕ) → found ≡ Some (change, rest) → IsSpelled change × IsBytes rest) → IsRead (rowed size p found)
   rowed_read p None row = (tt, λ i. omega arith)
   rowed_read p (Some found) row = row found.0 found.1 refl
 
@@ -38,25 +37,25 @@ module _ (rules : List Rule) (snapshot : Bool) (size : ℕ) where
   chosen_read true x y h k = h
   chosen_read false x y h k = k
 
-  next_read : (p : PlainProgress) → IsBytes p.rest → IsRead (next_piece rules snapshot size p)
+  next_read : (p : PlainProgress) → IsBytes p.rest → IsRead (next_piece snapshot size p)
   unfolding next_piece
   next_read p fits =
-      chosen_read (p.left == 0 && not snapshot) (begun size p (count_at p.rest)) (rowed size p (change_at rules p.rest))
+      chosen_read (p.left == 0 && not snapshot) (begun size p (count_at p.rest)) (rowed size p (change_at p.rest))
       (begun_read p (count_at p.rest) (λ count rest e. count_rest p.rest count rest fits e))
-      (rowed_read p (change_at rules p.rest) (λ change rest e. let t = change_takes rules p.rest change rest fits e in (t.is, t.rest_bytes)))
+      (rowed_read p (change_at p.rest) (λ change rest e. let t = change_takes p.rest change rest fits e in (t.is, t.rest_bytes)))
 
-  within_spelled : (most : ℕ) (p : PlainProgress) → IsBytes p.rest → All (IsSpelledPiece rules) (pieces_within most rules snapshot size p)
-  within_spelled zero p fits = All-nil (IsSpelledPiece rules)
+  within_spelled : (most : ℕ) (p : PlainProgress) → IsBytes p.rest → All IsSpelledPiece (pieces_within most snapshot size p)
+  within_spelled zero p fits = All-nil IsSpelledPiece
   within_spelled (suc most) p fits =
       let next = next_read p fits in
-      at (is_over p) next.0 (within_spelled most (next_piece rules snapshot size p).1 next.1)
+      at (is_over p) next.0 (within_spelled most (next_piece snapshot size p).1 next.1)
     where
-      at : (b : Bool) → IsSpelledPiece rules (next_piece rules snapshot size p).0
-          → All (IsSpelledPiece rules) (pieces_within most rules snapshot size (next_piece rules snapshot size p).1)
-          → All (IsSpelledPiece rules) (cond b [] ((next_piece rules snapshot size p).0 ∷ pieces_within most rules snapshot size (next_piece rules snapshot size p).1))
-      at true one more = All-nil (IsSpelledPiece rules)
+      at : (b : Bool) → IsSpelledPiece (next_piece snapshot size p).0
+          → All IsSpelledPiece (pieces_within most snapshot size (next_piece snapshot size p).1)
+          → All IsSpelledPiece (cond b [] ((next_piece snapshot size p).0 ∷ pieces_within most snapshot size (next_piece snapshot size p).1))
+      at true one more = All-nil IsSpelledPiece
       at false one more =
-          All-cons (IsSpelledPiece rules) (next_piece rules snapshot size p).0 (pieces_within most rules snapshot size (next_piece rules snapshot size p).1) one more
+          All-cons IsSpelledPiece (next_piece snapshot size p).0 (pieces_within most snapshot size (next_piece snapshot size p).1) one more
 
 pub pieces_spelled : PiecesAreSpelled
-pieces_spelled rules snapshot body fits = within_spelled rules snapshot (length body) (suc (length body)) (record { left = 0; rest = body }) fits
+pieces_spelled snapshot body fits = within_spelled snapshot (length body) (suc (length body)) (record { left = 0; rest = body }) fits

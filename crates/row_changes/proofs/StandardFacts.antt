@@ -1,21 +1,25 @@
 -- Worked row changes, written byte by byte from the format, so that a wrong rule in the specs does
 -- not check.
-use Rattle.std.proofs.Common.{◌≡◌, refl, true, false}
-use Rattle.std.specs.Prelude.{ℕ, List, [], ◌∷◌, ◌++◌, codes, length, pos, negsuc, Some, None}
+use Rattle.std.proofs.Common.{◌≡◌, refl, true, false, ◌<◌, ◌^◌}
+use Rattle.std.specs.Prelude.{ℕ, List, [], ◌∷◌, ◌++◌, codes, length, pos, negsuc, Some, None, Ok, Err}
 use Rattle.url.proofs.OnLiterals.{url_on_literals}
-use Rattle.origin_site.specs.Origin.{PlainOrigin}
-use Rattle.origin_site.specs.Site.{PlainSite}
+use Rattle.origin_site.specs.Origin.{PlainOrigin, origin_text}
+use Rattle.origin_site.specs.Site.{PlainSite, site_of_text, site_text}
+use Rattle.origin_site.specs.declared.site.SiteFault.TheVariants.{NotSite}
 use Rattle.storage_key.specs.Key.{PlainKey}
 use Rattle.setcookie_parse.specs.declared.cookie.SameSite.TheVariants.{NoneSent}
 use Rattle.stored_cookie.specs.StoredCookie.{PlainCookie}
-use Rattle.cookie_jar.specs.Key.{OwnCell, PartitionCell}
-use Rattle.row_changes.specs.Change.{PlainChange, AreaPut, CookieInsert, CookieRemove, Grant}
+use Rattle.cookie_jar.specs.Key.{PlainKey as PlainCell, OwnCell, PartitionCell}
+use Rattle.access_grants.specs.Grant.{PlainGrant}
+use Rattle.row_changes.specs.Change.{PlainChange, AreaPut, AreaRemove, AreaClear, SetMode, CookieInsert}
+use Rattle.row_changes.specs.Change.{CookieReplace, CookieRemove, Grant}
 use Rattle.row_changes.specs.Spelling.{change_bytes}
-use Rattle.row_changes.specs.Names.{origin_of_text, site_under_list, is_host_of, is_own_domain}
+use Rattle.row_changes.specs.Names.{origin_of_text, is_host}
 use Rattle.row_changes.specs.Reading.{flags_of, same_site_of, answer_of}
-use Rattle.row_changes.specs.Spelled.{is_sound}
+use Rattle.row_changes.specs.Spelled.{IsText, change_stays, is_sound}
 use Rattle.row_changes.specs.Body.{changes_bytes, Begins, Row}
-use Rattle.row_changes.specs.Laws.{row_pieces, body_pieces}
+use Rattle.row_changes.specs.Laws.{row_pieces, body_pieces, IsSpelledPiece}
+use Rattle.row_changes.specs.Appended.{HasTexts, IsAppended}
 
 -- `https://a.test`
 abbrev a_site : PlainSite
@@ -100,36 +104,58 @@ origin_with_its_default_port : origin_of_text (codes "https://a.test:443") ≡ N
 unfolding url_on_literals
 origin_with_its_default_port = refl
 
--- under the empty list `https://a.test` is a site, and `https://x.a.test` and one with a port are none
-site_is : site_under_list [] (codes "https://a.test") ≡ Some a_site
-unfolding url_on_literals
-site_is = refl
-
-site_of_a_subdomain : site_under_list [] (codes "https://x.a.test") ≡ None
+-- a host with more labels than a domain has is a site's too, under whatever list; one with a port
+-- is none
+site_of_a_subdomain : site_of_text (codes "https://x.a.test") ≡ Ok (record { https = true; host = codes "x.a.test" })
 unfolding url_on_literals
 site_of_a_subdomain = refl
 
-site_with_a_port : site_under_list [] (codes "https://a.test:8443") ≡ None
+site_with_a_port : site_of_text (codes "https://a.test:8443") ≡ Err NotSite
 unfolding url_on_literals
 site_with_a_port = refl
 
--- an IP address is its own domain, and its labels are none
-ip_domain : is_own_domain [] (codes "192.0.2.7") ≡ true
+-- an IP address is a host, and its last labels are none: the parser makes an address of them
+ip_host : is_host (codes "192.0.2.7") ≡ true
 unfolding url_on_literals
-ip_domain = refl
+ip_host = refl
 
-ip_subdomain : is_host_of [] (codes "2.7") (codes "192.0.2.7") ≡ false
+ip_labels : is_host (codes "2.7") ≡ false
 unfolding url_on_literals
-ip_subdomain = refl
+ip_labels = refl
 
-host_of_a_domain : is_host_of [] (codes "a.test") (codes "x.a.test") ≡ true
+host_of_a_domain : is_host (codes "x.a.test") ≡ true
 unfolding url_on_literals
 host_of_a_domain = refl
 
 -- a text with a port is no host
-host_with_a_port : is_host_of [] (codes "a.test") (codes "a.test:80") ≡ false
+host_with_a_port : is_host (codes "a.test:80") ≡ false
 unfolding url_on_literals
 host_with_a_port = refl
+
+-- a row change of `https://x.a.test` and of `https://a.test` reads under any list, and is one of rows
+-- under the empty list where its top-level site is `https://a.test`
+abbrev x_origin : PlainOrigin
+x_origin = record { https = true; ip = false; host = codes "x.a.test"; port = 443 }
+
+x_stays : change_stays [] (AreaClear (record { top = a_site; origin = x_origin; bit = false })) ≡ true
+x_stays = refl
+
+x_top_goes : change_stays [] (AreaClear (record { top = record { https = true; host = codes "x.a.test" }; origin = x_origin; bit = false })) ≡ false
+x_top_goes = refl
+
+-- with the bit set the origin may be of any site
+other_stays : change_stays [] (AreaClear (record { top = record { https = true; host = codes "b.test" }; origin = x_origin; bit = true })) ≡ true
+other_stays = refl
+
+other_goes : change_stays [] (AreaClear (record { top = record { https = true; host = codes "b.test" }; origin = x_origin; bit = false })) ≡ false
+other_goes = refl
+
+-- a cookie of another domain than its cell's is none under the list
+cookie_stays_there : change_stays [] (CookieInsert (OwnCell (codes "w.test")) 0 n_cookie) ≡ true
+cookie_stays_there = refl
+
+cookie_goes : change_stays [] (CookieInsert (OwnCell (codes "a.test")) 0 n_cookie) ≡ false
+cookie_goes = refl
 
 -- the last values of the bytes of few values, and the first past them
 flags_last : flags_of 7 ≡ Some ((true, true), true)
@@ -159,3 +185,38 @@ path_without_slash = refl
 
 no_pair : is_sound false (record n_cookie { name = []; value = [] }) ≡ false
 no_pair = refl
+
+-- ---- each text that is written is one, and so is each that is read
+
+written_origin : (key : PlainKey) → HasTexts (AreaClear key) → IsText (origin_text key.origin)
+written_origin key texts = texts.0
+
+written_top : (key : PlainKey) → HasTexts (SetMode key) → IsText (site_text key.top)
+written_top key texts = texts.1
+
+written_value : (key : PlainKey) (name value : List ℕ) → HasTexts (AreaPut key name value) → IsText value
+written_value key name value texts = texts.2
+
+removed_name : (key : PlainKey) (name : List ℕ) → HasTexts (AreaRemove key name) → IsText name
+removed_name key name texts = texts.1
+
+written_path : (cell : PlainCell) (c : PlainCookie) → HasTexts (CookieInsert cell 0 c) → IsText c.path
+written_path cell c texts = texts.1.3
+
+written_domain : (cell : PlainCell) (c : PlainCookie) → HasTexts (CookieReplace cell 0 c) → IsText c.domain
+written_domain cell c texts = texts.1.2
+
+written_cell : (top : PlainSite) (domain : List ℕ) → HasTexts (CookieRemove (PartitionCell top true domain) 0)
+    → IsText (site_text top)
+written_cell top domain texts = texts.0
+
+written_site : (row : PlainGrant) → HasTexts (Grant row) → IsText (site_text row.site)
+written_site row texts = texts.1
+
+read_name : (key : PlainKey) (name : List ℕ) → IsSpelledPiece (Row 4 (AreaRemove key name)) → IsText name
+read_name key name spelled = spelled.1
+
+-- the number of appended row changes has room in four bytes
+room_for_the_count : (changes : List PlainChange) (before after : List ℕ) → IsAppended changes before after
+    → length changes < 2 ^ 32
+room_for_the_count changes before after is = is.2

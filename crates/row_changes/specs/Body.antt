@@ -8,7 +8,6 @@ use Rattle.std.specs.Prelude.{ℕ, suc, zero, ◌-◌, ◌==◌, nat_lt, Bool, n
 use Rattle.std.specs.Prelude.{Option, Some, None, if◌then◌else◌}
 use Rattle.std.specs.List.{flat_map}
 use Rattle.std.specs.Int.{w32, to_le_bytes}
-use Rattle.suffix_list.specs.Suffix.{Rule}
 use Rattle.row_changes.specs.Change.{PlainChange}
 use Rattle.row_changes.specs.Spelling.{change_bytes}
 use Rattle.row_changes.specs.Fields.{Reading, made, passing, number_at}
@@ -66,24 +65,24 @@ is_over p = p.left == 0 && length p.rest == 0
 
 -- the next piece, and how far the body is read behind it. Where no row change is due, a count comes
 -- next, but in a snapshot, which has none.
-unfoldable pub next_piece : List Rule → Bool → ℕ → PlainProgress → PlainPiece × PlainProgress
-next_piece rules snapshot size p =
+unfoldable pub next_piece : Bool → ℕ → PlainProgress → PlainPiece × PlainProgress
+next_piece snapshot size p =
     if p.left == 0 && not snapshot then begun size p (count_at p.rest)
-    else rowed size p (change_at rules p.rest)
+    else rowed size p (change_at p.rest)
 
 -- the pieces to come, of which there are at most so many
-abbrev pub pieces_within : ℕ → List Rule → Bool → ℕ → PlainProgress → List PlainPiece
-pieces_within zero rules snapshot size p = []
-pieces_within (suc most) rules snapshot size p =
+abbrev pub pieces_within : ℕ → Bool → ℕ → PlainProgress → List PlainPiece
+pieces_within zero snapshot size p = []
+pieces_within (suc most) snapshot size p =
     if is_over p then []
-    else (next_piece rules snapshot size p).0
-    ∷ pieces_within most rules snapshot size (next_piece rules snapshot size p).1
+    else (next_piece snapshot size p).0
+    ∷ pieces_within most snapshot size (next_piece snapshot size p).1
 
 -- the pieces to come. Each takes a byte at least, but for a fault.
-abbrev pub pieces_from : List Rule → Bool → ℕ → PlainProgress → List PlainPiece
-pieces_from rules snapshot size p = pieces_within (suc (length p.rest)) rules snapshot size p
+abbrev pub pieces_from : Bool → ℕ → PlainProgress → List PlainPiece
+pieces_from snapshot size p = pieces_within (suc (length p.rest)) snapshot size p
 
 -- the pieces of a body
-abbrev pub pieces_of : List Rule → Bool → List ℕ → List PlainPiece
-pieces_of rules snapshot body =
-    pieces_from rules snapshot (length body) (record { left = 0; rest = body })
+abbrev pub pieces_of : Bool → List ℕ → List PlainPiece
+pieces_of snapshot body =
+    pieces_from snapshot (length body) (record { left = 0; rest = body })

@@ -5,7 +5,6 @@ use Rattle.std.specs.Prelude.{◌≡◌, ⊤, ℕ, ◌+◌, ◌<◌, ◌^◌, Bo
 use Rattle.std.specs.Prelude.{Some, slice_index}
 use Rattle.std.specs.Int.{w32, byte_len}
 use Rattle.std.specs.List.{All, flat_map}
-use Rattle.suffix_list.specs.Suffix.{Rule}
 use Rattle.row_changes.specs.Change.{PlainChange}
 use Rattle.row_changes.specs.Spelling.{change_bytes}
 use Rattle.row_changes.specs.Spelled.{IsSpelled}
@@ -18,14 +17,14 @@ AreBytes bytes = (i : ℕ) → slice_index bytes i < 256
 
 -- a row change whose fields have a spelling reads back from its bytes, whatever stands behind them
 abbrev pub ReadsBack : Type 0
-ReadsBack = (rules : List Rule) (change : PlainChange) (rest : List ℕ) → IsSpelled rules change
-    → change_at rules (change_bytes change ++ rest) ≡ Some (change, rest)
+ReadsBack = (change : PlainChange) (rest : List ℕ) → IsSpelled change
+    → change_at (change_bytes change ++ rest) ≡ Some (change, rest)
 
 -- what is read has a spelling, and stands in its bytes
 abbrev pub IsOneSpelling : Type 0
-IsOneSpelling = (rules : List Rule) (bytes : List ℕ) (change : PlainChange) (rest : List ℕ)
-    → AreBytes bytes → change_at rules bytes ≡ Some (change, rest)
-    → IsSpelled rules change × (bytes ≡ change_bytes change ++ rest)
+IsOneSpelling = (bytes : List ℕ) (change : PlainChange) (rest : List ℕ)
+    → AreBytes bytes → change_at bytes ≡ Some (change, rest)
+    → IsSpelled change × (bytes ≡ change_bytes change ++ rest)
 
 -- the pieces of row changes whose bytes begin at this offset
 abbrev pub row_pieces : ℕ → List PlainChange → List PlainPiece
@@ -43,31 +42,31 @@ body_pieces at (changes ∷ later) =
 
 -- a durable change has a spelling: it has one row change at least, each has a spelling, and their
 -- number has room in four bytes
-abbrev pub IsWritable : List Rule → List PlainChange → Type 0
-IsWritable rules changes =
-    (0 < length changes) × (length changes < 2 ^ 32) × All (IsSpelled rules) changes
+abbrev pub IsWritable : List PlainChange → Type 0
+IsWritable changes =
+    (0 < length changes) × (length changes < 2 ^ 32) × All IsSpelled changes
 
 -- a body of durable changes that have a spelling reads back as these, in their order: each as its
 -- beginning and its row changes, at their offsets. Nothing else is read, and so no fault.
 abbrev pub BodiesReadBack : Type 0
-BodiesReadBack = (rules : List Rule) (written : List (List PlainChange))
-    → All (IsWritable rules) written
-    → pieces_of rules false (flat_map changes_bytes written) ≡ body_pieces 0 written
+BodiesReadBack = (written : List (List PlainChange))
+    → All IsWritable written
+    → pieces_of false (flat_map changes_bytes written) ≡ body_pieces 0 written
 
 -- a snapshot of row changes that have a spelling reads back as these, in their order and at their
 -- offsets. Nothing else is read, and so no fault.
 abbrev pub SnapshotsReadBack : Type 0
-SnapshotsReadBack = (rules : List Rule) (changes : List PlainChange)
-    → All (IsSpelled rules) changes
-    → pieces_of rules true (rows_bytes changes) ≡ row_pieces 0 changes
+SnapshotsReadBack = (changes : List PlainChange)
+    → All IsSpelled changes
+    → pieces_of true (rows_bytes changes) ≡ row_pieces 0 changes
 
 -- a piece that is a row change has a spelling
-abbrev pub IsSpelledPiece : List Rule → PlainPiece → Type 0
-IsSpelledPiece rules Begins = ⊤
-IsSpelledPiece rules (Row at change) = IsSpelled rules change
-IsSpelledPiece rules (Fault at) = ⊤
+abbrev pub IsSpelledPiece : PlainPiece → Type 0
+IsSpelledPiece Begins = ⊤
+IsSpelledPiece (Row at change) = IsSpelled change
+IsSpelledPiece (Fault at) = ⊤
 
 -- whatever the bytes of a body are, each row change that is read of it has a spelling
 abbrev pub PiecesAreSpelled : Type 0
-PiecesAreSpelled = (rules : List Rule) (snapshot : Bool) (body : List ℕ)
-    → AreBytes body → All (IsSpelledPiece rules) (pieces_of rules snapshot body)
+PiecesAreSpelled = (snapshot : Bool) (body : List ℕ)
+    → AreBytes body → All IsSpelledPiece (pieces_of snapshot body)

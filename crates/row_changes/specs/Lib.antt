@@ -7,6 +7,7 @@ pub mod Spelled
 pub mod Reading
 pub mod Body
 pub mod Laws
+pub mod Under
 pub mod Appended
 -- What contracts see of a row change, and what private functions answer.
 pub mod Plain

@@ -1,12 +1,12 @@
--- What bytes say as a row change, under the rules of a suffix list: one value at most, or nothing.
+-- What bytes say as a row change: one value at most, or nothing. No suffix list is asked.
 -- Source: none.
 -- Our own choice: the format of `Spelling`. Bytes that are no spelling say nothing, and which of
 -- their fields is wrong makes no difference.
 use Rattle.std.specs.Prelude.{ℕ, ◌/◌, ◌%◌, ℤ, pos, Bool, true, false, ◌&&◌, nat_lt, ◌==◌, List}
 use Rattle.std.specs.Prelude.{Option, Some, None, if◌then◌else◌}
-use Rattle.suffix_list.specs.Suffix.{Rule}
+use Rattle.std.specs.Result.{result_ok}
 use Rattle.origin_site.specs.Origin.{PlainOrigin}
-use Rattle.origin_site.specs.Site.{PlainSite}
+use Rattle.origin_site.specs.Site.{PlainSite, site_of_text}
 use Rattle.storage_key.specs.Key.{PlainKey}
 use Rattle.setcookie_parse.specs.declared.cookie.SameSite.{SameSite}
 use Rattle.setcookie_parse.specs.declared.cookie.SameSite.TheVariants.{Default, NoneSent, Lax, Strict}
@@ -17,42 +17,40 @@ use Rattle.row_changes.specs.Change.{PlainChange, AreaPut, AreaRemove, AreaClear
 use Rattle.row_changes.specs.Change.{CookieInsert, CookieReplace, CookieRemove, Grant}
 use Rattle.row_changes.specs.Fields.{Reading, both, made, passing, behind_byte, nothing_at, byte_at}
 use Rattle.row_changes.specs.Fields.{text_at, bit_at, signed_at}
-use Rattle.row_changes.specs.Names.{origin_of_text, site_under_list, is_own_domain}
-use Rattle.row_changes.specs.Spelled.{keeps_bit, suits}
+use Rattle.row_changes.specs.Names.{origin_of_text, is_host}
+use Rattle.row_changes.specs.Spelled.{suits}
 
 -- an origin, by its text
 unfoldable pub origin_at : Reading PlainOrigin
 origin_at = made origin_of_text text_at
 
 -- a site, by its text
-unfoldable pub site_at : List Rule → Reading PlainSite
-site_at rules = made (site_under_list rules) text_at
+unfoldable pub site_at : Reading PlainSite
+site_at = made (λ text. result_ok (site_of_text text)) text_at
 
--- a domain that is its own domain
-unfoldable pub domain_at : List Rule → Reading (List ℕ)
-domain_at rules = made (passing (is_own_domain rules)) text_at
+-- a domain, which is a host
+unfoldable pub domain_at : Reading (List ℕ)
+domain_at = made (passing is_host) text_at
 
 -- the key of an origin, a top-level site and a bit
 abbrev pub key_of : (PlainOrigin × PlainSite) × Bool → PlainKey
 key_of parts = record { top = parts.0.1; origin = parts.0.0; bit = parts.1 }
 
 -- a key
-unfoldable pub key_at : List Rule → Reading PlainKey
-key_at rules =
-    made (λ parts. passing (keeps_bit rules) (key_of parts))
-    (both (both origin_at (site_at rules)) bit_at)
+unfoldable pub key_at : Reading PlainKey
+key_at = made (λ parts. Some (key_of parts)) (both (both origin_at site_at) bit_at)
 
 -- what stands behind the first byte of a cell's name
-abbrev pub cell_behind : List Rule → ℕ → Reading PlainCell
-cell_behind rules kind =
-    if kind == 0 then made (λ domain. Some (OwnCell domain)) (domain_at rules)
+abbrev pub cell_behind : ℕ → Reading PlainCell
+cell_behind kind =
+    if kind == 0 then made (λ domain. Some (OwnCell domain)) domain_at
     else (if kind == 1 then made (λ parts. Some (PartitionCell parts.0.0 parts.0.1 parts.1))
-    (both (both (site_at rules) bit_at) (domain_at rules))
+    (both (both site_at bit_at) domain_at)
     else nothing_at)
 
 -- a cell's name
-unfoldable pub cell_at : List Rule → Reading PlainCell
-cell_at rules = behind_byte (cell_behind rules)
+unfoldable pub cell_at : Reading PlainCell
+cell_at = behind_byte cell_behind
 
 -- the three flags of a byte: host-only, Secure and HttpOnly
 abbrev pub flags_of : ℕ → Option ((Bool × Bool) × Bool)
@@ -103,10 +101,10 @@ unfoldable pub cookie_at : Reading PlainCookie
 cookie_at = made (λ parts. Some (cookie_of parts)) (both texts_at marks_at)
 
 -- a cookie at a place of a cell that it suits
-unfoldable pub placed_at : List Rule → Reading ((PlainCell × ℕ) × PlainCookie)
-placed_at rules =
-    made (passing (λ placed. suits rules placed.0.0 placed.1))
-    (both (both (cell_at rules) byte_at) cookie_at)
+unfoldable pub placed_at : Reading ((PlainCell × ℕ) × PlainCookie)
+placed_at =
+    made (passing (λ placed. suits placed.0.0 placed.1))
+    (both (both cell_at byte_at) cookie_at)
 
 -- whether the answer of a byte is a grant
 abbrev pub answer_of : ℕ → Option Bool
@@ -121,25 +119,25 @@ grant_of parts =
     else None
 
 -- a permission
-unfoldable pub grant_at : List Rule → Reading PlainGrant
-grant_at rules =
+unfoldable pub grant_at : Reading PlainGrant
+grant_at =
     made grant_of
-    (both (both (both (site_at rules) (site_at rules)) (made answer_of byte_at)) signed_at)
+    (both (both (both site_at site_at) (made answer_of byte_at)) signed_at)
 
 -- what stands behind the code of a row change
-abbrev pub change_behind : List Rule → ℕ → Reading PlainChange
-change_behind rules code =
+abbrev pub change_behind : ℕ → Reading PlainChange
+change_behind code =
     if code == 1 then made (λ p. Some (AreaPut p.0.0 p.0.1 p.1))
-    (both (both (key_at rules) text_at) text_at)
-    else (if code == 2 then made (λ p. Some (AreaRemove p.0 p.1)) (both (key_at rules) text_at)
-    else (if code == 3 then made (λ key. Some (AreaClear key)) (key_at rules)
-    else (if code == 4 then made (λ key. Some (SetMode key)) (key_at rules)
-    else (if code == 5 then made (λ p. Some (CookieInsert p.0.0 p.0.1 p.1)) (placed_at rules)
-    else (if code == 6 then made (λ p. Some (CookieReplace p.0.0 p.0.1 p.1)) (placed_at rules)
-    else (if code == 7 then made (λ p. Some (CookieRemove p.0 p.1)) (both (cell_at rules) byte_at)
-    else (if code == 8 then made (λ row. Some (Grant row)) (grant_at rules)
+    (both (both key_at text_at) text_at)
+    else (if code == 2 then made (λ p. Some (AreaRemove p.0 p.1)) (both key_at text_at)
+    else (if code == 3 then made (λ key. Some (AreaClear key)) key_at
+    else (if code == 4 then made (λ key. Some (SetMode key)) key_at
+    else (if code == 5 then made (λ p. Some (CookieInsert p.0.0 p.0.1 p.1)) placed_at
+    else (if code == 6 then made (λ p. Some (CookieReplace p.0.0 p.0.1 p.1)) placed_at
+    else (if code == 7 then made (λ p. Some (CookieRemove p.0 p.1)) (both cell_at byte_at)
+    else (if code == 8 then made (λ row. Some (Grant row)) grant_at
     else nothing_at)))))))
 
 -- the row change at the front of bytes, with the bytes behind it; `None` is no row change
-unfoldable pub change_at : List Rule → Reading PlainChange
-change_at rules = behind_byte (change_behind rules)
+unfoldable pub change_at : Reading PlainChange
+change_at = behind_byte change_behind

@@ -13,7 +13,6 @@ use crate::stop::Stop;
 use agent_base::NoMemory;
 use std::alloc::Global;
 use std::marker::Model;
-use suffix_list::SuffixList;
 
 /// A piece of a body.
 #[derive(Debug, Drop)]
@@ -34,32 +33,32 @@ pub struct Progress<'b> {
     rest: &'b [u8],
 }
 
-/// Reads a body, piece by piece, under a suffix list.
+/// Reads a body, piece by piece.
 #[derive(Debug, Drop)]
-pub struct Reader<'l, 'b> {
-    keys: Keys<'l>,
+pub struct Reader<'b> {
+    keys: Keys,
     snapshot: bool,
     size: usize,
     progress: Progress<'b>,
 }
 
-impl<'l, 'b> Model for Reader<'l, 'b> {
+impl<'b> Model for Reader<'b> {
     ghost use Rattle.std.specs.Prelude.{List};
     ghost use Rattle.row_changes.specs.Body.{PlainPiece, pieces_from};
     ghost use Rattle.row_changes.specs.Pieces.{plain_progress};
 
     ghost Value = { List PlainPiece };
 
-    ghost view = { λ r. pieces_from r.keys r.snapshot r.size (plain_progress r.progress) };
+    ghost view = { λ r. pieces_from r.snapshot r.size (plain_progress r.progress) };
 }
 
-impl<'l, 'b> Reader<'l, 'b> {
+impl<'b> Reader<'b> {
     /// A reader of a body of changes, or of a snapshot.
-    pub fn new(list: &'l SuffixList, snapshot: bool, body: &'b [u8]) -> Reader<'l, 'b>
-        ensures pieces { result ≡ spec.pieces_of list.now.rules snapshot body.now }
+    pub fn new(snapshot: bool, body: &'b [u8]) -> Reader<'b>
+        ensures pieces { result ≡ spec.pieces_of snapshot body.now }
     {
         Reader {
-            keys: Keys::new(list),
+            keys: Keys::new(),
             snapshot,
             size: body.len(),
             progress: Progress {
@@ -136,14 +135,13 @@ fn begun(size: usize, progress: Progress<'_>) -> Result<(Piece, Progress<'_>), N
 // A row change, or its fault.
 fn rowed<'b>(
     alloc: Global,
-    keys: &mut Keys<'_>,
+    keys: &mut Keys,
     size: usize,
     progress: Progress<'b>,
 ) -> Result<(Piece, Progress<'b>), NoMemory>
     ensures row { IfOk result (λ x. (plain_piece x.0, plain_progress x.1)
         ≡ spec.rowed size (plain_progress progress.entry)
-        (change_at keys.old progress.entry.rest.now)) }
-    ensures rules { keys.new ≡ keys.old }
+        (change_at progress.entry.rest.now)) }
 {
     match read_next(alloc, progress.rest, keys)? {
         Some((change, rest)) => {
@@ -158,14 +156,13 @@ fn rowed<'b>(
 #[tactic(auto, unfolding(crate::specs::Body::next_piece))]
 fn next_piece<'b>(
     alloc: Global,
-    keys: &mut Keys<'_>,
+    keys: &mut Keys,
     snapshot: bool,
     size: usize,
     progress: Progress<'b>,
 ) -> Result<(Piece, Progress<'b>), NoMemory>
     ensures next { IfOk result (λ x. (plain_piece x.0, plain_progress x.1)
-        ≡ spec.next_piece keys.old snapshot size (plain_progress progress.entry)) }
-    ensures rules { keys.new ≡ keys.old }
+        ≡ spec.next_piece snapshot size (plain_progress progress.entry)) }
 {
     if progress.left == 0 && !snapshot {
         begun(size, progress)

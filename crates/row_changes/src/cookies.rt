@@ -1,21 +1,22 @@
 //! Reading cookies, and the cells that they stand in.
-ghost use Rattle.std.specs.Prelude.{◌≡◌, IfOk, string_bytes};
+ghost use Rattle.std.specs.Prelude.{◌≡◌, IfOk, string_bytes, true};
 ghost use Rattle.std.specs.Rc.{rc_value};
 ghost use Rattle.cookie_jar.specs.Key.{plain_key as plain_cell};
 ghost use Rattle.cookie_jar.specs.Plain.{plain_cookie};
+ghost use Rattle.cookie_jar.specs.Stays.{domain_of_cell};
+ghost use Rattle.row_changes.specs.Names.{is_host};
 ghost use Rattle.row_changes.specs.Reading as spec;
 ghost use Rattle.row_changes.specs.Spelled as spelled;
 ghost use Rattle.row_changes.specs.Stops.{Gives};
 
 use crate::fields::{byte_at, signed_at, text_at};
-use crate::names::{cell_at, is_host_of};
+use crate::names::{cell_at, is_host};
 use crate::stop::Stop;
 use agent_base::NoMemory;
-use cookie_jar::{CellKey, Cookie, CookieIdentity};
+use cookie_jar::{CellKey, Cookie, CookieIdentity, domain_of_cell};
 use setcookie_parse::SameSite;
 use std::alloc::Global;
 use std::rc::Rc;
-use suffix_list::SuffixList;
 
 const PAIR_LIMIT: usize = 4_096;
 
@@ -173,15 +174,6 @@ fn is_sound(partition: bool, cookie: &Cookie) -> bool
         && (cookie.secure || !partition)
 }
 
-fn domain_of_cell(cell: &CellKey) -> &str
-    ensures { result.now ≡ spelled.domain_of_cell (plain_cell cell.now) }
-{
-    match cell {
-        CellKey::Own { domain } => domain.as_str(),
-        CellKey::Partition { domain, .. } => domain.as_str(),
-    }
-}
-
 fn is_partition(cell: &CellKey) -> bool
     ensures { result ≡ spelled.is_partition (plain_cell cell.now) }
 {
@@ -191,25 +183,20 @@ fn is_partition(cell: &CellKey) -> bool
     }
 }
 
-// Whether a cookie may stand in this cell.
-fn suits(
-    alloc: Global,
-    cell: &CellKey,
-    cookie: &Cookie,
-    list: &SuffixList,
-) -> Result<bool, NoMemory>
+// Whether a cookie may stand in this cell, whose domain is a host.
+fn suits(alloc: Global, cell: &CellKey, cookie: &Cookie) -> Result<bool, NoMemory>
+    requires named { is_host (domain_of_cell (plain_cell cell.now)) ≡ true }
     ensures { IfOk result
-        (λ is. is ≡ spelled.suits list.now.rules (plain_cell cell.now) (plain_cookie cookie.now)) }
+        (λ is. is ≡ spelled.suits (plain_cell cell.now) (plain_cookie cookie.now)) }
 {
     if !is_sound(is_partition(cell), cookie) {
         return Ok(false);
     }
-    is_host_of(
-        alloc,
-        domain_of_cell(cell),
-        cookie.identity.domain.as_str(),
-        list,
-    )
+    let host = cookie.identity.domain.as_str();
+    if host == domain_of_cell(cell) {
+        return Ok(true);
+    }
+    is_host(alloc, host)
 }
 
 /// A cookie at a place of a cell.
@@ -221,14 +208,14 @@ pub struct Placed {
 }
 
 #[tactic(auto, unfolding(crate::specs::Reading::placed_at))]
-pub fn placed_at(alloc: Global, bytes: &mut &[u8], list: &SuffixList) -> Result<Placed, Stop>
+pub fn placed_at(alloc: Global, bytes: &mut &[u8]) -> Result<Placed, Stop>
     ensures { Gives (λ x. (((plain_cell x.cell, x.place), plain_cookie x.cookie), bytes.new.now))
-        (spec.placed_at list.now.rules bytes.old.now) result }
+        (spec.placed_at bytes.old.now) result }
 {
-    let cell = cell_at(alloc, bytes, list)?;
+    let cell = cell_at(alloc, bytes)?;
     let place = byte_at(bytes)?;
     let cookie = cookie_at(alloc, bytes)?;
-    if !suits(alloc, &cell, &cookie, list)? {
+    if !suits(alloc, &cell, &cookie)? {
         return Err(Stop::NoField);
     }
     Ok(Placed {

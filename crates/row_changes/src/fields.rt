@@ -1,4 +1,4 @@
-//! Fields that say nothing of a list: bytes, numbers, texts and bits.
+//! Fields that are no names: bytes, numbers, texts and bits.
 //!
 //! A reader takes its field off the front of the bytes. After a refusal nothing is told of them.
 ghost use Rattle.std.specs.Int.{w32};

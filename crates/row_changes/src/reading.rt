@@ -18,7 +18,6 @@ use crate::stop::Stop;
 use access_grants::GrantRow;
 use agent_base::NoMemory;
 use std::alloc::Global;
-use suffix_list::SuffixList;
 
 fn answer_at(bytes: &mut &[u8]) -> Result<bool, Stop>
     ensures { Gives (λ granted. (granted, bytes.new.now))
@@ -32,12 +31,12 @@ fn answer_at(bytes: &mut &[u8]) -> Result<bool, Stop>
 }
 
 #[tactic(auto, unfolding(crate::specs::Reading::grant_at))]
-fn grant_at(alloc: Global, bytes: &mut &[u8], list: &SuffixList) -> Result<GrantRow, Stop>
+fn grant_at(alloc: Global, bytes: &mut &[u8]) -> Result<GrantRow, Stop>
     ensures { Gives (λ row. (plain_grant row, bytes.new.now))
-        (spec.grant_at list.now.rules bytes.old.now) result }
+        (spec.grant_at bytes.old.now) result }
 {
-    let top = site_at(alloc, bytes, list)?;
-    let site = site_at(alloc, bytes, list)?;
+    let top = site_at(alloc, bytes)?;
+    let site = site_at(alloc, bytes)?;
     let granted = answer_at(bytes)?;
     let until = signed_at(bytes)?;
     if !top.https || !site.https {
@@ -91,11 +90,10 @@ fn change_behind(
     alloc: Global,
     code: u8,
     bytes: &mut &[u8],
-    keys: &mut Keys<'_>,
+    keys: &mut Keys,
 ) -> Result<Change, Stop>
     ensures change { Gives (λ change. (plain_change change, bytes.new.now))
-        (spec.change_behind keys.old code bytes.old.now) result }
-    ensures rules { keys.new ≡ keys.old }
+        (spec.change_behind code bytes.old.now) result }
 {
     match code {
         1 => Ok(Change::AreaPut {
@@ -113,24 +111,23 @@ fn change_behind(
         4 => Ok(Change::SetMode {
             key: keys.read(alloc, bytes)?,
         }),
-        5 => Ok(cookie_change(placed_at(alloc, bytes, keys.list())?, false)),
-        6 => Ok(cookie_change(placed_at(alloc, bytes, keys.list())?, true)),
+        5 => Ok(cookie_change(placed_at(alloc, bytes)?, false)),
+        6 => Ok(cookie_change(placed_at(alloc, bytes)?, true)),
         7 => Ok(Change::CookieRemove {
-            cell: cell_at(alloc, bytes, keys.list())?,
+            cell: cell_at(alloc, bytes)?,
             place: byte_at(bytes)?,
         }),
         8 => Ok(Change::Grant {
-            row: grant_at(alloc, bytes, keys.list())?,
+            row: grant_at(alloc, bytes)?,
         }),
         _ => Err(Stop::NoField),
     }
 }
 
 #[tactic(auto, unfolding(crate::specs::Reading::change_at))]
-fn change_at(alloc: Global, bytes: &mut &[u8], keys: &mut Keys<'_>) -> Result<Change, Stop>
+fn change_at(alloc: Global, bytes: &mut &[u8], keys: &mut Keys) -> Result<Change, Stop>
     ensures change { Gives (λ change. (plain_change change, bytes.new.now))
-        (spec.change_at keys.old bytes.old.now) result }
-    ensures rules { keys.new ≡ keys.old }
+        (spec.change_at bytes.old.now) result }
 {
     let code = byte_at(bytes)?;
     change_behind(alloc, code, bytes, keys)
@@ -140,11 +137,10 @@ fn change_at(alloc: Global, bytes: &mut &[u8], keys: &mut Keys<'_>) -> Result<Ch
 pub fn read_next<'b>(
     alloc: Global,
     bytes: &'b [u8],
-    keys: &mut Keys<'_>,
+    keys: &mut Keys,
 ) -> Result<Option<(Change, &'b [u8])>, NoMemory>
     ensures change { IfOk result (λ found. option_map (λ f. (plain_change f.0, f.1.now)) found
-        ≡ spec.change_at keys.old bytes.now) }
-    ensures rules { keys.new ≡ keys.old }
+        ≡ spec.change_at bytes.now) }
 {
     let mut rest = bytes;
     match change_at(alloc, &mut rest, keys) {
@@ -157,14 +153,13 @@ pub fn read_next<'b>(
 /// Reads the row change at the front of bytes, and answers it with the bytes behind it. None is no
 /// row change.
 ///
-/// Of what it tests, nothing depends on a state.
+/// Of what it tests, nothing depends on a state or on a suffix list.
 pub fn read_change<'b>(
     alloc: Global,
     bytes: &'b [u8],
-    list: &SuffixList,
 ) -> Result<Option<(Change, &'b [u8])>, NoMemory>
     ensures change { IfOk result (λ found. option_map (λ f. (plain_change f.0, f.1.now)) found
-        ≡ spec.change_at list.now.rules bytes.now) }
+        ≡ spec.change_at bytes.now) }
 {
-    read_next(alloc, bytes, &mut Keys::new(list))
+    read_next(alloc, bytes, &mut Keys::new())
 }

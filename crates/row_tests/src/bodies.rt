@@ -1,10 +1,8 @@
 //! Bodies read piece by piece, whole and cut.
-use crate::parts::list_of;
 use Want::{Begins, Fault, Row};
 use row_changes::{Piece, Reader};
 use std::alloc::Global;
 use std::test::Fail;
-use suffix_list::SuffixList;
 
 /// A piece that is wanted. Of a row change its offset is looked at alone.
 #[derive(Clone, Copy, Debug, PartialEq, Eq)]
@@ -14,14 +12,9 @@ enum Want {
     Fault(usize),
 }
 
-fn pieces_of(
-    alloc: Global,
-    list: &SuffixList,
-    snapshot: bool,
-    body: &[u8],
-) -> Result<Vec<Want>, Fail> {
+fn pieces_of(alloc: Global, snapshot: bool, body: &[u8]) -> Result<Vec<Want>, Fail> {
     let mut wants = Vec::new(alloc);
-    let mut reader = Reader::new(list, snapshot, body);
+    let mut reader = Reader::new(snapshot, body);
     for _ in 0..body.len() + 2 {
         match reader.next(alloc)? {
             Some(Piece::Begins) => wants.push(Begins)?,
@@ -141,27 +134,20 @@ fn joined(alloc: Global, parts: &[&[u8]]) -> Result<Vec<u8>, Fail> {
 }
 
 // Whether a body is read in these pieces.
-fn has_pieces(
-    alloc: Global,
-    list: &SuffixList,
-    snapshot: bool,
-    body: &[u8],
-    want: &[Want],
-) -> Result<bool, Fail> {
-    Ok(pieces_of(alloc, list, snapshot, body)?.as_slice() == want)
+fn has_pieces(alloc: Global, snapshot: bool, body: &[u8], want: &[Want]) -> Result<bool, Fail> {
+    Ok(pieces_of(alloc, snapshot, body)?.as_slice() == want)
 }
 
-fn is_read(alloc: Global, list: &SuffixList, case: &Case) -> Result<bool, Fail> {
+fn is_read(alloc: Global, case: &Case) -> Result<bool, Fail> {
     let body = joined(alloc, case.parts)?;
-    has_pieces(alloc, list, case.snapshot, body.as_slice(), case.pieces)
+    has_pieces(alloc, case.snapshot, body.as_slice(), case.pieces)
 }
 
 #[test]
 fn pieces_and_first_faults(rt: HostRuntime) -> Result<(), Fail> {
     let alloc = rt.alloc();
-    let list = list_of(alloc, b"")?;
     for case in CASES {
-        assert!(rt; is_read(alloc, &list, case)?, "{}", case.name);
+        assert!(rt; is_read(alloc, case)?, "{}", case.name);
     }
     Ok(())
 }
@@ -174,11 +160,10 @@ const CUT_BEHIND: &[Want] = &[Begins, Fault(4)];
 #[test]
 fn a_cut_body_has_its_fault_where_its_row_begins(rt: HostRuntime) -> Result<(), Fail> {
     let alloc = rt.alloc();
-    let list = list_of(alloc, b"")?;
     let body = joined(alloc, &[ONE, CLEAR])?;
     for count in 1..body.len() {
         let want = if count < 4 { CUT } else { CUT_BEHIND };
-        let found = has_pieces(alloc, &list, false, &body[..count], want)?;
+        let found = has_pieces(alloc, false, &body[..count], want)?;
         assert!(rt; found, "{count} bytes");
     }
     Ok(())

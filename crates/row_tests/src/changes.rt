@@ -1,14 +1,13 @@
 //! Row changes, written by hand field by field: each kind, and each condition on a key, a cell
 //! and a permission, just inside and outside.
 use crate::parts::Part::{Byte, Raw, Signed, Text};
-use crate::parts::{HTTP_A, HTTPS_A, Part, Row, bytes_of, is_change, list_of};
+use crate::parts::{HTTP_A, HTTPS_A, Part, Row, bytes_of, is_change};
 use access_grants::GrantRow;
-use origin_site::{Address, Site, site_of};
+use origin_site::{Address, Site};
 use row_changes::{Change, read_change, write_changes, write_rows};
 use std::alloc::Global;
 use std::test::Fail;
 use storage_key::StorageKey;
-use suffix_list::SuffixList;
 
 const KINDS: &[Row] = &[
     Row {
@@ -105,12 +104,12 @@ const KEYS: &[Row] = &[
     Row {
         name: "the bit clear under another site",
         parts: &[Byte(3), HTTPS_A, Text("https://b.test"), Byte(0)],
-        taken: false,
+        taken: true,
     },
     Row {
         name: "the bit clear under the other scheme",
         parts: &[Byte(3), HTTP_A, HTTPS_A, Byte(0)],
-        taken: false,
+        taken: true,
     },
     Row {
         name: "the bit set under the own site",
@@ -143,9 +142,34 @@ const KEYS: &[Row] = &[
         taken: false,
     },
     Row {
-        name: "a top-level site that is no domain of the list",
+        name: "a top-level site of a host below a domain",
         parts: &[Byte(3), HTTPS_A, Text("https://x.a.test"), Byte(1)],
+        taken: true,
+    },
+    Row {
+        name: "a top-level site of a part of the origin's host",
+        parts: &[
+            Byte(3),
+            Text("https://y.x.a.test"),
+            Text("https://x.a.test"),
+            Byte(0),
+        ],
+        taken: true,
+    },
+    Row {
+        name: "a top-level site of the origin's last label",
+        parts: &[Byte(3), HTTPS_A, Text("https://test"), Byte(0)],
+        taken: true,
+    },
+    Row {
+        name: "a top-level site of an empty host",
+        parts: &[Byte(3), HTTPS_A, Text("https://"), Byte(0)],
         taken: false,
+    },
+    Row {
+        name: "a top-level site that begins with the origin's dot",
+        parts: &[Byte(3), HTTPS_A, Text("https://.test"), Byte(0)],
+        taken: true,
     },
     Row {
         name: "a top-level site with a port",
@@ -166,6 +190,16 @@ const KEYS: &[Row] = &[
             Byte(0),
         ],
         taken: true,
+    },
+    Row {
+        name: "the last labels of an IP address",
+        parts: &[
+            Byte(3),
+            Text("https://192.0.2.7"),
+            Text("https://2.7"),
+            Byte(0),
+        ],
+        taken: false,
     },
     Row {
         name: "a name that is not UTF-8",
@@ -193,7 +227,7 @@ const CELLS: &[Row] = &[
     Row {
         name: "a host below its domain",
         parts: &[Byte(7), Byte(0), Text("x.a.co.uk"), Byte(0)],
-        taken: false,
+        taken: true,
     },
     Row {
         name: "a domain with a port",
@@ -240,28 +274,27 @@ const CELLS: &[Row] = &[
 const TABLES: &[&[Row]] = &[KINDS, KEYS, CELLS];
 
 // Whether fields are taken as a row change, or not.
-fn is_as_told(alloc: Global, list: &SuffixList, row: &Row) -> Result<bool, Fail> {
+fn is_as_told(alloc: Global, row: &Row) -> Result<bool, Fail> {
     let bytes = bytes_of(alloc, row.parts)?;
-    Ok(is_change(alloc, list, bytes.as_slice())? == row.taken)
+    Ok(is_change(alloc, bytes.as_slice())? == row.taken)
 }
 
 #[test]
 fn each_kind_and_condition(rt: HostRuntime) -> Result<(), Fail> {
     let alloc = rt.alloc();
-    let list = list_of(alloc, b"co.uk")?;
     for rows in TABLES {
         for row in *rows {
-            assert!(rt; is_as_told(alloc, &list, row)?, "{}", row.name);
+            assert!(rt; is_as_told(alloc, row)?, "{}", row.name);
         }
     }
     Ok(())
 }
 
 // Whether fields that are cut short are a row change at some length.
-fn has_front(alloc: Global, list: &SuffixList, row: &Row) -> Result<bool, Fail> {
+fn has_front(alloc: Global, row: &Row) -> Result<bool, Fail> {
     let bytes = bytes_of(alloc, row.parts)?;
     for count in 0..bytes.len() {
-        if read_change(alloc, &bytes[..count], list)?.is_some() {
+        if read_change(alloc, &bytes[..count])?.is_some() {
             return Ok(true);
         }
     }
@@ -271,9 +304,8 @@ fn has_front(alloc: Global, list: &SuffixList, row: &Row) -> Result<bool, Fail> 
 #[test]
 fn no_front_of_a_row_change_is_one(rt: HostRuntime) -> Result<(), Fail> {
     let alloc = rt.alloc();
-    let list = list_of(alloc, b"")?;
     for row in KINDS {
-        assert!(rt; !has_front(alloc, &list, row)?, "{}", row.name);
+        assert!(rt; !has_front(alloc, row)?, "{}", row.name);
     }
     Ok(())
 }
@@ -284,9 +316,9 @@ const WORKED: &[u8] = b"\x01\x00\x00\x00\
     \x01\x00\x00\x00k\x01\x00\x00\x00v";
 
 // The row change of that body.
-fn worked(alloc: Global, list: &SuffixList) -> Result<Vec<Change>, Fail> {
+fn worked(alloc: Global) -> Result<Vec<Change>, Fail> {
     let origin = Address::read(alloc, "https://a.test/")?.origin(alloc)?;
-    let top = site_of(alloc, &origin, list)?;
+    let top = Site::read(alloc, "https://a.test")?;
     let key = StorageKey {
         top,
         origin,
@@ -305,8 +337,8 @@ fn are_written(alloc: Global, changes: &[Change], bytes: &[u8]) -> Result<bool, 
 }
 
 // Whether the worked row change is written as that body.
-fn is_worked_body(alloc: Global, list: &SuffixList) -> Result<bool, Fail> {
-    let changes = worked(alloc, list)?;
+fn is_worked_body(alloc: Global) -> Result<bool, Fail> {
+    let changes = worked(alloc)?;
     if changes.is_empty() {
         return Ok(false);
     }
@@ -317,10 +349,9 @@ fn is_worked_body(alloc: Global, list: &SuffixList) -> Result<bool, Fail> {
 #[test]
 fn the_worked_body(rt: HostRuntime) -> Result<(), Fail> {
     let alloc = rt.alloc();
-    let list = list_of(alloc, b"")?;
     assert_eq!(rt; WORKED.len(), 52);
-    assert!(rt; is_worked_body(alloc, &list)?);
-    assert!(rt; is_change(alloc, &list, &WORKED[4..])?);
+    assert!(rt; is_worked_body(alloc)?);
+    assert!(rt; is_change(alloc, &WORKED[4..])?);
     Ok(())
 }
 
@@ -334,16 +365,11 @@ fn all_kinds(alloc: Global) -> Result<Vec<u8>, Fail> {
 }
 
 // Copies of so many row changes that stand in bytes, or nothing where they are no more, no fewer.
-fn read_all(
-    alloc: Global,
-    list: &SuffixList,
-    bytes: &[u8],
-    count: usize,
-) -> Result<Option<Vec<Change>>, Fail> {
+fn read_all(alloc: Global, bytes: &[u8], count: usize) -> Result<Option<Vec<Change>>, Fail> {
     let mut changes = Vec::new(alloc);
     let mut rest = bytes;
     for _ in 0..count {
-        let Some((change, behind)) = read_change(alloc, rest, list)? else {
+        let Some((change, behind)) = read_change(alloc, rest)? else {
             return Ok(None);
         };
         changes.push(change.copy(alloc)?)?;
@@ -353,9 +379,9 @@ fn read_all(
 }
 
 // Whether row changes one behind another are written again as they were read.
-fn are_written_again(alloc: Global, list: &SuffixList) -> Result<bool, Fail> {
+fn are_written_again(alloc: Global) -> Result<bool, Fail> {
     let bytes = all_kinds(alloc)?;
-    match read_all(alloc, list, bytes.as_slice(), KINDS.len())? {
+    match read_all(alloc, bytes.as_slice(), KINDS.len())? {
         Some(changes) => are_written(alloc, changes.as_slice(), bytes.as_slice()),
         None => Ok(false),
     }
@@ -364,8 +390,7 @@ fn are_written_again(alloc: Global, list: &SuffixList) -> Result<bool, Fail> {
 #[test]
 fn what_stands_behind_is_left(rt: HostRuntime) -> Result<(), Fail> {
     let alloc = rt.alloc();
-    let list = list_of(alloc, b"")?;
-    assert!(rt; are_written_again(alloc, &list)?);
+    assert!(rt; are_written_again(alloc)?);
     Ok(())
 }
 

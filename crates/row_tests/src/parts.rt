@@ -1,10 +1,8 @@
 //! Row changes as fields, written by hand.
 use Part::{Byte, Letters, Raw, Signed, Text};
-use agent_base::MemSource;
 use row_changes::{read_change, write_rows};
 use std::alloc::Global;
 use std::test::Fail;
-use suffix_list::SuffixList;
 
 pub const HTTPS_A: Part = Text("https://a.test");
 
@@ -57,14 +55,9 @@ pub fn bytes_of(alloc: Global, parts: &[Part]) -> Result<Vec<u8>, Fail> {
     Ok(out)
 }
 
-pub fn list_of(alloc: Global, text: &[u8]) -> Result<SuffixList, Fail> {
-    let mut source = MemSource::new(Vec::from_slice(alloc, text)?, Vec::new(alloc));
-    Ok(SuffixList::read(alloc, &mut source)?)
-}
-
 // Whether bytes are one row change, which has these bytes when it is written again.
-pub fn is_change(alloc: Global, list: &SuffixList, bytes: &[u8]) -> Result<bool, Fail> {
-    let Some((change, rest)) = read_change(alloc, bytes, list)? else {
+pub fn is_change(alloc: Global, bytes: &[u8]) -> Result<bool, Fail> {
+    let Some((change, rest)) = read_change(alloc, bytes)? else {
         return Ok(false);
     };
     let mut changes = Vec::new(alloc);

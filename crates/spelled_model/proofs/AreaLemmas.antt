@@ -20,7 +20,6 @@ use Rattle.local_area.specs.Put.{PlainPut, put_answer}
 use Rattle.storage_events.specs.declared.event.AreaKind.{AreaKind}
 use Rattle.storage_events.specs.declared.event.AreaKind.TheVariants.{Local, Session}
 use Rattle.storage_events.specs.Event.{PlainEvent}
-use Rattle.live_state.specs.Tabs.{PlainTab}
 use Rattle.script_actions.specs.declared.words.Prompt.{Prompt}
 use Rattle.reply_lines.specs.Reply.{Plain, Truth}
 use Rattle.row_changes.specs.Appended.{HasKeyTexts}
@@ -37,14 +36,14 @@ use Rattle.agent_model.proofs.EachTabLemmas.{each_by_tabs, each_mapped}
 use Rattle.agent_model.proofs.HoldingsLemmas.{with_area_tabs}
 use Rattle.agent_model.proofs.KeptLemmas.{kept_cell, tied}
 use Rattle.spelled_model.specs.Frames.{IsReadTab}
-use Rattle.spelled_model.specs.Rows.{IsNamedKey, IsReadCell}
+use Rattle.spelled_model.specs.Rows.{IsNamedKey, IsReadCell, IsReadKey}
 use Rattle.spelled_model.specs.Worlds.{AreNamed}
 use Rattle.spelled_model.proofs.DoneLemmas.{AreReadShared, IsReadDone, IsReadHeld, answered, by_frames}
 use Rattle.spelled_model.proofs.SpellsLemmas.{Spells}
 
--- a named key has a spelling, where its texts are texts
-key_spelled : (rules : List Rule) (key : PlainKey) → IsNamedKey rules key → HasKeyTexts key → IsKey rules key
-key_spelled rules key named texts = (texts.0, named.origin, (texts.1, named.top), named.bit)
+-- a key that was read has a spelling, where its texts are texts
+key_spelled : (key : PlainKey) → IsReadKey key → HasKeyTexts key → IsKey key
+key_spelled key read texts = (texts.0, read.origin, (texts.1, read.top))
 
 one_spells : (rules : List Rule) (change : PlainChange) → Spells rules change → All (Spells rules) (change ∷ [])
 one_spells rules change spells = All-cons (Spells rules) change [] spells (All-nil (Spells rules))
@@ -53,10 +52,10 @@ one_spells rules change spells = All-cons (Spells rules) change [] spells (All-n
 
 module _ (rules : List Rule) (key : PlainKey) (named : IsNamedKey rules key) where
   write_spells : (name value : Option (List ℕ)) (pairs : List Pair) → All (Spells rules) (changes_of_write key name value pairs)
-  write_spells (Some name) (Some value) pairs = one_spells rules (AreaPut key name value) (λ texts. (key_spelled rules key named texts.0, texts.1, texts.2))
-  write_spells (Some name) None pairs = one_spells rules (AreaRemove key name) (λ texts. (key_spelled rules key named texts.0, texts.1))
+  write_spells (Some name) (Some value) pairs = one_spells rules (AreaPut key name value) (λ texts. ((key_spelled key named.read texts.0, texts.1, texts.2), named.stays))
+  write_spells (Some name) None pairs = one_spells rules (AreaRemove key name) (λ texts. ((key_spelled key named.read texts.0, texts.1), named.stays))
   write_spells None value [] = All-nil (Spells rules)
-  write_spells None value (pair ∷ pairs) = one_spells rules (AreaClear key) (λ texts. key_spelled rules key named texts)
+  write_spells None value (pair ∷ pairs) = one_spells rules (AreaClear key) (λ texts. (key_spelled key named.read texts, named.stays))
 
   durable_spells : (kind : AreaKind) (changes : List PlainChange) → All (Spells rules) changes → All (Spells rules) (durable_in kind changes)
   durable_spells Local changes spells = spells
@@ -125,7 +124,7 @@ module _ (rules : List Rule) (cells : SharedCells) (held : Holdings) (shared : A
         by true granted = answered rules cells held (Truth true) shared read
         by false true =
             record {
-              spells = one_spells rules (SetMode writer.key) (λ texts. key_spelled rules writer.key named texts);
+              spells = one_spells rules (SetMode writer.key) (λ texts. (key_spelled writer.key named.read texts, named.stays));
               held = record { tabs = read.tabs; areas = read.areas; partitioned = read.partitioned };
               shared = shared;
             }
@@ -179,7 +178,7 @@ module _ (rules : List Rule) (cells : SharedCells) (held : Holdings) (shared : A
         let there = ordered_all (λ q. list_any (eq_by_cmp key_order q) all ≡ true) all [] (each_there all all (λ q is. is)) (All-nil (λ q. list_any (eq_by_cmp key_order q) all ≡ true)) in
         record {
           spells = All-map (Spells rules) (λ key. AreaClear key) (by_text all)
-              (All-weaker (λ q. list_any (eq_by_cmp key_order q) all ≡ true) (λ q. Spells rules (AreaClear q)) (λ q is texts. key_spelled rules q (taken_named q is) texts) (by_text all) there);
+              (All-weaker (λ q. list_any (eq_by_cmp key_order q) all ≡ true) (λ q. Spells rules (AreaClear q)) (λ q is texts. (key_spelled q (taken_named q is).read texts, (taken_named q is).stays)) (by_text all) there);
           held = record { tabs = read.tabs; areas = left_named; partitioned = read.partitioned };
           shared = shared;
         }

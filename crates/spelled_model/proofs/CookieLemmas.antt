@@ -20,14 +20,13 @@ use Rattle.cookie_jar.specs.Cookie.{pair_bytes, same}
 use Rattle.cookie_jar.specs.Drops.{dropped, drop_rows, first_drop, is_mismatch}
 use Rattle.cookie_jar.specs.Lifetime.{is_expired}
 use Rattle.cookie_jar.specs.NewCookie.{has_such, lower_domain, made, own_domain, renewed}
-use Rattle.row_changes.specs.Names.{is_host_of}
 use Rattle.row_changes.specs.Spelled.{begins_with_slash, is_sound}
 use Rattle.agent_model.specs.CookieCells.{Cookies}
 use Rattle.agent_model.specs.CookieUse.{CookieUse, access_of, cookie_domain}
 use Rattle.spelled_model.specs.Addresses.{IsReadAddress}
 use Rattle.spelled_model.proofs.CellLemmas.{IsTimed}
 use Rattle.spelled_model.proofs.KeyLemmas.{found_all}
-use Rattle.spelled_model.proofs.NameLemmas.{suffix_named}
+use Rattle.spelled_model.proofs.NameLemmas.{IsHostUnder, suffix_named}
 use Rattle.spelled_model.proofs.TextLemmas.{IsReadText, slash_first}
 
 -- ---- the rows of the table of drops
@@ -110,7 +109,7 @@ match_suffix ip host domain is =
 -- ---- the cookie of a text
 
 module _ (rules : List Rule) (how : CookieUse) (read : IsReadAddress how.url) where
-  host_read : (own : Option (List ℕ)) → has_such (is_mismatch rules (access_of how)) own ≡ false → is_host_of rules (cookie_domain rules how) (unwrap_or own how.url.host) ≡ true
+  host_read : (own : Option (List ℕ)) → has_such (is_mismatch rules (access_of how)) own ≡ false → IsHostUnder rules (cookie_domain rules how) (unwrap_or own how.url.host)
   host_read None fits = suffix_named rules how.url read how.url.host (inl refl) refl
   host_read (Some domain) fits =
       let parts = or_parts (not (domain_matches how.url.ip how.url.host domain)) _ fits in
@@ -125,7 +124,7 @@ module _ (rules : List Rule) (how : CookieUse) (read : IsReadAddress how.url) wh
     row : (k : ℕ) → k < 14 → (slice_index_or (drop_rows rules text (access_of how) (pos now) cs) k (false, why.ThirdParty)).0 ≡ false
     row k low = none_first (drop_rows rules text (access_of how) (pos now) cs) none k (false, why.ThirdParty) low
 
-    pub new_host : is_host_of rules (cookie_domain rules how) new.domain ≡ true
+    pub new_host : IsHostUnder rules (cookie_domain rules how) new.domain
     new_host = host_read (own_domain rules (access_of how) (lower_domain text)) (row 2 (omega arith))
 
     new_path : begins_with_slash new.path ≡ true

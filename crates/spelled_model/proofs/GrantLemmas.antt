@@ -3,7 +3,7 @@ use Rattle.std.proofs.Common.{◌≡◌, pos, ℕ, Bool, true, false, not, List,
 use Rattle.std.specs.Prelude.{FitsSigned, ◌||◌}
 use Rattle.std.specs.Int.{w64}
 use Rattle.std.specs.List.{All, Contains, list_all}
-use Rattle.std.proofs.lemmas.Bool.{and_parts, not-false}
+use Rattle.std.proofs.lemmas.Bool.{and_from, and_parts, not-false}
 use Rattle.std.proofs.lemmas.Int.{ints}
 use Rattle.std.proofs.lemmas.Option.{none-some, same_Some}
 use Rattle.std.proofs.lemmas.List.Elements.{All-contains, All-cons, All-head, All-nil, All-weaker}
@@ -99,7 +99,8 @@ module _ (rules : List Rule) (frames : List PlainFrame) (all : AreReadFrames rul
       → Spells rules (change.Grant (row_of permission site (embedded_site rules document)))
   grant_spells n document there permission secure fits texts =
       let own = site_named rules document.address (document_read rules n frames all document there).address in
-      ((texts.0, top_named rules frames all site top), (texts.1, own), fits, site_https n secure, own_https n document there secure)
+      let under = top_named rules frames all site top in
+      (((texts.0, under.0), (texts.1, own.0), fits, site_https n secure, own_https n document there secure), and_from _ _ under.1 own.1)
 
 -- ---- a request
 

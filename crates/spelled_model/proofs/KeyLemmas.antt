@@ -3,7 +3,7 @@ use Rattle.std.proofs.Common.{◌≡◌, ℕ, Bool, true, false, cond, not, List
 use Rattle.std.specs.Prelude.{◌==◌, ◌||◌, find, option_map}
 use Rattle.std.specs.List.{All, Contains, list_all}
 use Rattle.std.specs.Option.{option_or}
-use Rattle.std.proofs.lemmas.Bool.{both_ways, eqb-true}
+use Rattle.std.proofs.lemmas.Bool.{and_from, both_ways, eqb-true}
 use Rattle.std.proofs.lemmas.List.Elements.{All-contains, All-head, All-tail, Contains-push}
 use Rattle.std.proofs.lemmas.List.Folds.{find-append, list_all-map}
 use Rattle.std.proofs.lemmas.List.Sums.{AllPass-from_list_all}
@@ -159,10 +159,13 @@ module _ (rules : List Rule) (frames : List PlainFrame) (all : AreReadFrames rul
       named own =
           let parts = key_parts chain (origin_of_address document.address) key (sym (ap (storage_key chain) own) ∙ e) in
           let under : key.top ≡ site = same_Some key.top site (sym parts.1 ∙ top-of-sites site n frames grown top (has-document n frames document (sym there))) in
+          let named_top : IsNamedSite rules key.top = subst (IsNamedSite rules) (sym under) (top_named rules frames all site top) in
           record {
-            origin = subst (λ o. origin_of_text (origin_text o) ≡ Some o) (sym parts.0) (origin_named document.address read.address);
-            top = subst (IsNamedSite rules) (sym under) (top_named rules frames all site top);
-            bit = bit_kept key.bit (has_only key.top chain) _ (parts.2 ∙ bit-of-chain key.top chain parts.1) (λ only. own_site_is parts.0 (only_own only));
+            read = record {
+              origin = subst (λ o. origin_of_text (origin_text o) ≡ Some o) (sym parts.0) (origin_named document.address read.address);
+              top = named_top.0;
+            };
+            stays = and_from _ _ named_top.1 (bit_kept key.bit (has_only key.top chain) _ (parts.2 ∙ bit-of-chain key.top chain parts.1) (λ only. own_site_is parts.0 (only_own only)));
           }
         where
           only_own : has_only key.top chain ≡ true → is_of key.top document.site ≡ true

@@ -1,6 +1,6 @@
 -- The names that a read address gives: its origin, its site, and the hosts of its domain.
 use Rattle.std.proofs.Common.{◌≡◌, ℕ, ◌≤◌, Bool, true, false, cond, not, List, ◌++◌, length, None, Some, Ok, Err, refl, sym, ap, subst, arith, length-append, ◌∙◌}
-use Rattle.std.specs.Prelude.{Result, bytes_eq, codes, nat_le, nat_lt, ◌&&◌}
+use Rattle.std.specs.Prelude.{Result, bytes_eq, codes, is_ok, nat_le, nat_lt, ◌&&◌}
 use Rattle.std.proofs.lemmas.Bool.{and_from, cond-true, le-leb, ltb-false, or_left, or_right}
 use Rattle.std.proofs.lemmas.Slice.Eq.{bytes_eq-Decides}
 use Rattle.url.specs.Parser.{parse_url}
@@ -8,17 +8,27 @@ use Rattle.url.specs.Parts.{Parts, serialize}
 use Rattle.suffix_list.specs.Suffix.{Rule}
 use Rattle.origin_site.specs.declared.address.AddressFault.{AddressFault}
 use Rattle.origin_site.specs.declared.address.AddressFault.TheVariants.{OtherScheme, TooLong, TrailingDot}
-use Rattle.origin_site.specs.Address.{PlainAddress, address_by, address_limit, address_of, address_parts, ends_with_dot, host_of, is_web}
+use Rattle.origin_site.specs.Address.{PlainAddress, address_by, address_limit, address_parts, ends_with_dot, host_of, is_web}
 use Rattle.origin_site.specs.Domain.{IsLabelSuffix, host_domain}
 use Rattle.origin_site.specs.Origin.{ReadsBack, default_origin, origin_of_address, origin_text, root_address}
-use Rattle.origin_site.specs.Site.{PlainSite, site_of_address, site_text}
-use Rattle.origin_site.proofs.SiteLemmas.{domain_suffix, host_domain_again}
-use Rattle.row_changes.specs.Names.{domain_by, is_host_by, is_host_of, is_own_domain, origin_by, origin_of_text, site_by, site_under_list}
+use Rattle.origin_site.specs.Own.{domain_under, is_ip_host, is_own_host}
+use Rattle.origin_site.specs.Site.{PlainSite, SiteReadsBack, site_of_address}
+use Rattle.origin_site.proofs.KindLemmas.{addresses_tell}
+use Rattle.origin_site.proofs.SiteLemmas.{domain_suffix, host_domain_again, site_of_host}
+use Rattle.row_changes.specs.Names.{is_host, is_host_by, origin_by, origin_of_text}
 use Rattle.spelled_model.specs.Addresses.{IsReadAddress}
 
--- the text of a site is read back as that site
+-- the text of a site is read back, and it is a site under the list
 abbrev pub IsNamedSite : List Rule → PlainSite → Type 0
-IsNamedSite rules site = site_under_list rules (site_text site) ≡ Some site
+IsNamedSite rules site = SiteReadsBack site × (is_own_host rules site.host ≡ true)
+
+-- a domain is a host, and its own domain under the list
+abbrev pub IsNamedDomain : List Rule → List ℕ → Type 0
+IsNamedDomain rules domain = (is_host domain ≡ true) × (is_own_host rules domain ≡ true)
+
+-- a text is a host, and has this domain under the list
+abbrev pub IsHostUnder : List Rule → List ℕ → List ℕ → Type 0
+IsHostUnder rules domain host = (is_host host ≡ true) × (bytes_eq (domain_under rules host) domain ≡ true)
 
 -- ---- the text of an origin
 
@@ -47,51 +57,51 @@ origin_named address read =
     ap (origin_by text) read.origin
     ∙ cond-true (bytes_eq text text && nat_le (length text) 8192) _ _ (and_from _ _ ((bytes_eq-Decides text text).1 refl) (le-leb (length text) 8192 few))
 
--- ---- the text of a site
+-- ---- hosts, by their texts
 
--- at the default port the text of an origin is that of its scheme and host
-text_is : (https ip : Bool) (host : List ℕ) → origin_text (default_origin https ip host) ≡ site_text (record { https = https; host = host })
-text_is true ip host = refl
-text_is false ip host = refl
+module _ (https ip : Bool) (host : List ℕ) (reads : ReadsBack (default_origin https ip host)) where
+  -- whether a host that reads back is an IP address follows from its text
+  kind_told : ip ≡ is_ip_host host
+  kind_told = addresses_tell (origin_text (default_origin https ip host)) (root_address (default_origin https ip host)) reads
 
--- the text of a scheme and a host is an address
-site_address : (https ip : Bool) (host : List ℕ) → ReadsBack (default_origin https ip host)
-    → address_of (site_text (record { https = https; host = host })) ≡ Ok (root_address (default_origin https ip host))
-site_address https ip host reads = ap address_of (sym (text_is https ip host)) ∙ reads
+  -- and so does its domain
+  domain_told : (rules : List Rule) → domain_under rules host ≡ host_domain rules ip host
+  domain_told rules = ap (λ b. host_domain rules b host) (sym kind_told)
 
--- the site of a read address is read back from its text
-pub site_named : (rules : List Rule) (address : PlainAddress) → IsReadAddress address → IsNamedSite rules (site_of_address rules address)
-site_named rules address read =
-    let domain = host_domain rules address.ip address.host in
-    let site : PlainSite = site_of_address rules address in
-    let root = root_address (default_origin address.https address.ip domain) in
-    let reads = read.suffixes domain (domain_suffix rules address.ip address.host) in
-    let own : site_of_address rules root ≡ site = λ i. record { https = address.https; host = host_domain_again rules address.ip address.host i } in
-    ap (site_by rules (site_text site)) (site_address address.https address.ip domain reads)
-    ∙ cond-true (bytes_eq (site_text (site_of_address rules root)) (site_text site)) _ _ ((bytes_eq-Decides _ _).1 (ap site_text own)) ∙ ap Some own
+  -- one that is its own domain
+  own_host : (rules : List Rule) → host_domain rules ip host ≡ host → is_own_host rules host ≡ true
+  own_host rules own = (bytes_eq-Decides (domain_under rules host) host).1 (domain_told rules ∙ own)
 
--- ---- hosts
+  host_by : is_host_by https host ≡ true
+  host_by = ap is_ok (site_of_host https ip host reads)
 
--- a host whose text reads back has its domain
-host_by : (rules : List Rule) (https ip : Bool) (domain host : List ℕ) → ReadsBack (default_origin https ip host) → host_domain rules ip host ≡ domain
-    → is_host_by https rules domain host ≡ true
-host_by rules https ip domain host reads own =
-    ap (domain_by rules domain host) (site_address https ip host reads)
-    ∙ and_from _ _ ((bytes_eq-Decides host host).1 refl) ((bytes_eq-Decides (host_domain rules ip host) domain).1 own)
+pub host_named : (https ip : Bool) (host : List ℕ) → ReadsBack (default_origin https ip host) → is_host host ≡ true
+host_named true ip host reads = or_left _ _ (host_by true ip host reads)
+host_named false ip host reads = or_right _ _ (host_by false ip host reads)
 
-pub host_named : (rules : List Rule) (https ip : Bool) (domain host : List ℕ) → ReadsBack (default_origin https ip host) → host_domain rules ip host ≡ domain
-    → is_host_of rules domain host ≡ true
-host_named rules true ip domain host reads own = or_left _ _ (host_by rules true ip domain host reads own)
-host_named rules false ip domain host reads own = or_right _ _ (host_by rules false ip domain host reads own)
+-- ---- the site of a read address
 
 module _ (rules : List Rule) (address : PlainAddress) (read : IsReadAddress address) where
-  -- the domain of its site is its own
-  pub domain_named : is_own_domain rules (site_of_address rules address).host ≡ true
-  domain_named =
-      let domain = host_domain rules address.ip address.host in
-      host_named rules address.https address.ip domain domain (read.suffixes domain (domain_suffix rules address.ip address.host)) (host_domain_again rules address.ip address.host)
+  abbrev domain : List ℕ
+  domain = host_domain rules address.ip address.host
+
+  domain_reads : ReadsBack (default_origin address.https address.ip domain)
+  domain_reads = read.suffixes domain (domain_suffix rules address.ip address.host)
+
+  domain_own : is_own_host rules domain ≡ true
+  domain_own = own_host address.https address.ip domain domain_reads rules (host_domain_again rules address.ip address.host)
+
+  -- it is a site under the list, and its text reads back
+  pub site_named : IsNamedSite rules (site_of_address rules address)
+  site_named = (site_of_host address.https address.ip domain domain_reads, domain_own)
+
+  -- its domain is a host, and its own
+  pub domain_named : IsNamedDomain rules (site_of_address rules address).host
+  domain_named = (host_named address.https address.ip domain domain_reads, domain_own)
 
   -- each label suffix of its host that has its domain is a host of it
   pub suffix_named : (suffix : List ℕ) → IsLabelSuffix address.ip address.host suffix → host_domain rules address.ip suffix ≡ host_domain rules address.ip address.host
-      → is_host_of rules (site_of_address rules address).host suffix ≡ true
-  suffix_named suffix is own = host_named rules address.https address.ip (host_domain rules address.ip address.host) suffix (read.suffixes suffix is) own
+      → IsHostUnder rules (site_of_address rules address).host suffix
+  suffix_named suffix is own =
+      let reads = read.suffixes suffix is in
+      (host_named address.https address.ip suffix reads, (bytes_eq-Decides (domain_under rules suffix) domain).1 (domain_told address.https address.ip suffix reads rules ∙ own))

@@ -1,11 +1,12 @@
 -- Row changes that lines make, worked out by hand, and their spelling.
-use Rattle.std.proofs.Common.{◌≡◌, pos, Bool, true, false, List, [], ◌∷◌, ◌++◌, ℕ, Some, refl}
+use Rattle.std.proofs.Common.{◌≡◌, pos, Bool, true, false, List, [], ◌∷◌, ◌++◌, ℕ, Some, Ok, refl}
 use Rattle.std.specs.Prelude.{codes}
 use Rattle.url.proofs.OnLiterals.{url_on_literals}
 use Rattle.origin_site.specs.Address.{PlainAddress}
 use Rattle.origin_site.specs.Origin.{origin_of_address, origin_text}
-use Rattle.origin_site.specs.Site.{PlainSite, site_text}
+use Rattle.origin_site.specs.Site.{PlainSite, site_of_text, site_text}
 use Rattle.storage_key.specs.Key.{PlainKey}
+use Rattle.storage_key.specs.Stays.{key_stays}
 use Rattle.setcookie_parse.specs.declared.cookie.SameSite.TheVariants.{NoneSent}
 use Rattle.stored_cookie.specs.StoredCookie.{PlainCookie}
 use Rattle.cookie_jar.specs.Key.{PlainKey as PlainCell, PartitionCell}
@@ -14,8 +15,8 @@ use Rattle.frame_tree.specs.Keys.{key_of_frame}
 use Rattle.frame_tree.specs.Sandbox.{unrestricted}
 use Rattle.frame_tree.specs.Tree.{PlainFrame}
 use Rattle.row_changes.specs.Change.{CookieInsert}
-use Rattle.row_changes.specs.Names.{origin_of_text, site_under_list}
-use Rattle.row_changes.specs.Spelled.{keeps_bit, suits}
+use Rattle.row_changes.specs.Names.{origin_of_text}
+use Rattle.row_changes.specs.Spelled.{change_stays, suits}
 use Rattle.agent_model.specs.CookieStore.{BothCells, store_text}
 use Rattle.agent_model.specs.CookieUse.{CookieUse}
 
@@ -47,14 +48,14 @@ framed_origin : origin_of_text (origin_text framed_key.origin) ≡ Some framed_k
 unfolding url_on_literals
 framed_origin = refl
 
-framed_top : site_under_list [] (site_text framed_key.top) ≡ Some a_site
+framed_top : site_of_text (site_text framed_key.top) ≡ Ok a_site
 unfolding url_on_literals
 framed_top = refl
 
-framed_bit : keeps_bit [] framed_key ≡ true
-framed_bit = refl
+framed_stays : key_stays [] framed_key ≡ true
+framed_stays = refl
 
-framed_without_bit : keeps_bit [] (record framed_key { bit = false }) ≡ false
+framed_without_bit : key_stays [] (record framed_key { bit = false }) ≡ false
 framed_without_bit = refl
 
 -- ---- cookies
@@ -97,15 +98,18 @@ n_cookie domain host_only =
       last = pos 0;
     }
 
--- one with a Domain attribute goes to the cell of its registrable domain, and it suits there
+-- one with a Domain attribute goes to the cell of its registrable domain, and it suits and stays there
 with_domain :
     (store_text [] 7 use_of_w no_cells (codes "n=1; Domain=.W.test; Max-Age=60; Secure; SameSite=None; Partitioned")).changes
     ≡ CookieInsert w_cell 0 (n_cookie (codes "w.test") false) ∷ []
 with_domain = refl
 
-domain_suits : suits [] w_cell (n_cookie (codes "w.test") false) ≡ true
+domain_suits : suits w_cell (n_cookie (codes "w.test") false) ≡ true
 unfolding url_on_literals
 domain_suits = refl
+
+domain_stays : change_stays [] (CookieInsert w_cell 0 (n_cookie (codes "w.test") false)) ≡ true
+domain_stays = refl
 
 -- so does one of the host alone, whose Path is none
 without_domain :
@@ -113,18 +117,25 @@ without_domain :
     ≡ CookieInsert w_cell 0 (n_cookie (codes "x.w.test") true) ∷ []
 without_domain = refl
 
-host_suits : suits [] w_cell (n_cookie (codes "x.w.test") true) ≡ true
+host_suits : suits w_cell (n_cookie (codes "x.w.test") true) ≡ true
 unfolding url_on_literals
 host_suits = refl
+
+host_stays : change_stays [] (CookieInsert w_cell 0 (n_cookie (codes "x.w.test") true)) ≡ true
+host_stays = refl
 
 -- one that is not Secure is dropped, and would not suit
 not_secure : (store_text [] 7 use_of_w no_cells (codes "n=1; Max-Age=60; Partitioned; SameSite=None")).changes ≡ []
 not_secure = refl
 
-not_secure_suits : suits [] w_cell (record (n_cookie (codes "w.test") false) { secure = false }) ≡ false
+not_secure_suits : suits w_cell (record (n_cookie (codes "w.test") false) { secure = false }) ≡ false
 not_secure_suits = refl
 
--- and a host of another domain would not
-other_suits : suits [] w_cell (n_cookie (codes "v.test") true) ≡ false
+-- and one of a host of another domain would suit, as a row that was written under another list
+-- may, but would not stay
+other_suits : suits w_cell (n_cookie (codes "v.test") true) ≡ true
 unfolding url_on_literals
 other_suits = refl
+
+other_goes : change_stays [] (CookieInsert w_cell 0 (n_cookie (codes "v.test") true)) ≡ false
+other_goes = refl

@@ -76,7 +76,7 @@ module _ (rules : List Rule) (now : ℕ) (short : now ≤ last_moment) (how : Co
           let sound = new_sound rules how read.url now text kept both.own none false (λ other. cc) in
           let host = new_host rules how read.url now text kept both.own none in
           record {
-            spells = steps_spell rules (own_cell rules how) own_named (fresh both.own) timed kept.expiry (and_from _ _ sound host)
+            spells = steps_spell rules (own_cell rules how) own_named (fresh both.own) timed kept.expiry (and_from _ _ sound host.0) host.1
                 (steps kind.Own (pos now) (fresh both.own) both.own) (steps_low kind.Own (pos now) (fresh both.own) both.own cells.0.few);
             cells = (stored_read kind.Own (pos now) (fresh both.own) both.own (small_pair kind.Own (fresh both.own) kept.small) timed cells.0, cells.1);
           }
@@ -89,7 +89,7 @@ module _ (rules : List Rule) (now : ℕ) (short : now ≤ last_moment) (how : Co
           let sound = new_sound rules how read.url now text kept both.partition none true (λ other. asks) in
           let host = new_host rules how read.url now text kept both.partition none in
           record {
-            spells = steps_spell rules (partition_cell rules how) partition_named (fresh both.partition) timed kept.expiry (and_from _ _ sound host)
+            spells = steps_spell rules (partition_cell rules how) partition_named (fresh both.partition) timed kept.expiry (and_from _ _ sound host.0) host.1
                 (steps kind.Partition (pos now) (fresh both.partition) both.partition) (steps_low kind.Partition (pos now) (fresh both.partition) both.partition cells.1.few);
             cells = (cells.0, stored_read kind.Partition (pos now) (fresh both.partition) both.partition (small_pair kind.Partition (fresh both.partition) kept.small) timed cells.1);
           }

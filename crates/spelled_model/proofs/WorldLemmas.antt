@@ -9,7 +9,7 @@ use Rattle.unwinding.specs.World.{after_main, after_side, after_sides, consulted
 use Rattle.suffix_list.specs.Suffix.{Rule}
 use Rattle.origin_site.specs.Site.{PlainSite, same_plain_site}
 use Rattle.row_changes.specs.Change.{PlainChange}
-use Rattle.row_changes.specs.Spelled.{IsSpelled}
+use Rattle.row_changes.specs.Spelled.{IsSpelledUnder}
 use Rattle.script_actions.specs.Action.{PlainAction, Tick, Open, Close, Go, Evict, Act}
 use Rattle.agent_model.specs.CookieCells.{Domain, domain_order}
 use Rattle.agent_model.specs.Partition.{Partition}
@@ -183,20 +183,20 @@ module _ (rules : List Rule) (w : AgentWorld) (ok : IsSoundWorld w) (read : IsRe
     -- ---- row changes
 
     one_spelled : (s : PlainSite) (changes : List PlainChange) → All (Spells rules) changes → All (λ one. All HasTexts one.changes) (durable_change (machine rules) s changes)
-        → All (λ one. All (IsSpelled rules) one.changes) (durable_change (machine rules) s changes)
-    one_spelled s [] spells texts = All-nil (λ one. All (IsSpelled rules) one.changes)
+        → All (λ one. All (IsSpelledUnder rules) one.changes) (durable_change (machine rules) s changes)
+    one_spelled s [] spells texts = All-nil (λ one. All (IsSpelledUnder rules) one.changes)
     one_spelled s (c ∷ cs) spells texts =
         let one : DurableChange PlainSite PlainChange = record { site = s; changes = c ∷ cs } in
         let are : All HasTexts (c ∷ cs) = All-head (λ (o : DurableChange PlainSite PlainChange). All HasTexts o.changes) one [] texts in
-        All-cons (λ (o : DurableChange PlainSite PlainChange). All (IsSpelled rules) o.changes) one [] (λ k d low. spells k d low (are k d low)) (All-nil (λ (o : DurableChange PlainSite PlainChange). All (IsSpelled rules) o.changes))
+        All-cons (λ (o : DurableChange PlainSite PlainChange). All (IsSpelledUnder rules) o.changes) one [] (λ k d low. spells k d low (are k d low)) (All-nil (λ (o : DurableChange PlainSite PlainChange). All (IsSpelledUnder rules) o.changes))
 
-    line_spelled : IsReadAction l → All (λ one. All HasTexts one.changes) (line_changes (machine rules) w l) → All (λ one. All (IsSpelled rules) one.changes) (line_changes (machine rules) w l)
+    line_spelled : IsReadAction l → All (λ one. All HasTexts one.changes) (line_changes (machine rules) w l) → All (λ one. All (IsSpelledUnder rules) one.changes) (line_changes (machine rules) w l)
     unfolding line_changes machine
     line_spelled is_read texts = by (main_event rules w l) (main_read l is_read) texts
       where
         by : (o : Option SiteOccurrence) → IsMain o → All (λ one. All HasTexts one.changes) (main_changes (machine rules) beside o)
-            → All (λ one. All (IsSpelled rules) one.changes) (main_changes (machine rules) beside o)
-        by None is texts = All-nil (λ one. All (IsSpelled rules) one.changes)
+            → All (λ one. All (IsSpelledUnder rules) one.changes) (main_changes (machine rules) beside o)
+        by None is texts = All-nil (λ one. All (IsSpelledUnder rules) one.changes)
         by (Some a) is texts = one_spelled a.site _ (outcome_read a is).spells texts
 
 pub lines_are_spelled : LinesAreSpelled

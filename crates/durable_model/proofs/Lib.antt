@@ -25,6 +25,8 @@ pub mod WorldLemmas
 -- Durable states that are valid.
 pub mod ValidLemmas
 pub mod NothingLemmas
+-- What stays under another list.
+pub mod MigrateLemmas
 -- The facts that the general law asks.
 pub mod FactLemmas
 -- The laws.

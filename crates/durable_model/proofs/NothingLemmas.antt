@@ -16,7 +16,7 @@ use Rattle.durable_model.specs.Keeping.{keeping, partition_again, rows_under}
 use Rattle.durable_model.specs.Histories.{reopened_world}
 use Rattle.durable_model.proofs.CellsLemmas.{get_none}
 
-none_kept : IsKeptCell []
+pub none_kept : IsKeptCell []
 none_kept = (refl, λ c. omega arith)
 
 pub nothing_valid : IsValid nothing_saved

@@ -5,3 +5,4 @@ pub mod Keeping
 pub mod Sound
 pub mod Histories
 pub mod Laws
+pub mod Migrate

@@ -1,6 +1,9 @@
 //! Cookies of texts, stored in a jar or dropped, and sent.
 use agent_base::MemSource;
-use cookie_jar::{Access, CookieDrop, Jar, JarStep, Plan, Stored, StoredKind, header};
+use cookie_jar::{
+    Access, CellKey, CookieDrop, Jar, JarStep, Plan, Stored, StoredKind, domain_of_cell, header,
+};
+use origin_site::Site;
 use partition_limits::CellKind;
 use setcookie_parse::{Parsed, parse};
 use std::alloc::Global;
@@ -8,7 +11,11 @@ use std::test::Fail;
 use suffix_list::SuffixList;
 
 fn list_of(alloc: Global) -> Result<SuffixList, Fail> {
-    let bytes = Vec::from_slice(alloc, b"co.uk")?;
+    list_of_text(alloc, "co.uk")
+}
+
+fn list_of_text(alloc: Global, text: &str) -> Result<SuffixList, Fail> {
+    let bytes = Vec::from_slice(alloc, text.as_bytes())?;
     let mut source = MemSource::new(bytes, Vec::new(alloc));
     Ok(SuffixList::read(alloc, &mut source)?)
 }
@@ -290,5 +297,50 @@ fn a_cookie_is_added_replaced_and_removed(rt: HostRuntime) -> Result<(), Fail> {
         assert!(rt; is_stored(alloc, &mut jar, &list, *row)?, "{}", row.0);
     }
     assert!(rt; is_marked_apart(alloc, &mut jar)?);
+    Ok(())
+}
+
+/// A list, the top-level site of a cell with a cookie of `www.shop.co.uk`, if it is a partition,
+/// the cell's domain, and whether the list has it.
+type CellCase = (&'static str, Option<&'static str>, &'static str, bool);
+
+const CELLS: &[CellCase] = &[
+    ("co.uk", None, "shop.co.uk", true),
+    ("co.uk", None, "co.uk", false),
+    ("", None, "co.uk", true),
+    ("", None, "shop.co.uk", false),
+    ("co.uk", Some("https://a.test"), "shop.co.uk", true),
+    ("co.uk", Some("https://x.a.test"), "shop.co.uk", false),
+    ("", Some("https://a.test"), "shop.co.uk", false),
+];
+
+fn key_of(alloc: Global, top: Option<&str>, domain: &str) -> Result<CellKey, Fail> {
+    let domain = String::from_str(alloc, domain)?;
+    match top {
+        None => Ok(CellKey::Own { domain }),
+        Some(top) => Ok(CellKey::Partition {
+            top: Site::read(alloc, top)?,
+            bit: false,
+            domain,
+        }),
+    }
+}
+
+// Whether a list has a cell just where it should.
+fn is_told(alloc: Global, (rules, top, domain, stays): CellCase) -> Result<bool, Fail> {
+    let key = key_of(alloc, top, domain)?;
+    let list = list_of_text(alloc, rules)?;
+    let mut jar = Jar::new(alloc, CellKind::Own);
+    let page = access_of("www.shop.co.uk", "/");
+    store(alloc, &mut jar, &list, &page, "a=1", 1)?;
+    Ok(domain_of_cell(&key) == domain && jar.stays(&key, &list) == stays)
+}
+
+#[test]
+fn cells_of_lists(rt: HostRuntime) -> Result<(), Fail> {
+    let alloc = rt.alloc();
+    for case in CELLS {
+        assert!(rt; is_told(alloc, *case)?, "{} under {}", case.2, case.0);
+    }
     Ok(())
 }

@@ -13,7 +13,11 @@ use suffix_list::SuffixList;
 use web_cookies::{CookieUse, Cookies, LineInput};
 
 fn list_of(alloc: Global) -> Result<SuffixList, Fail> {
-    let bytes = Vec::from_slice(alloc, b"test")?;
+    list_with(alloc, "test")
+}
+
+fn list_with(alloc: Global, text: &str) -> Result<SuffixList, Fail> {
+    let bytes = Vec::from_slice(alloc, text.as_bytes())?;
     let mut source = MemSource::new(bytes, Vec::new(alloc));
     Ok(SuffixList::read(alloc, &mut source)?)
 }
@@ -197,6 +201,84 @@ fn sites_and_partitions_stand_apart(rt: HostRuntime) -> Result<(), Fail> {
     for (place, step) in STEPS.iter().enumerate() {
         let answered = is_answered(&input_at(alloc, &list, 7), &mut cookies, *step)?;
         assert!(rt; answered, "step {place}");
+    }
+    Ok(())
+}
+
+const C: Who = (
+    "https://www.c.co.test/",
+    "https://c.co.test",
+    Kind::FirstParty,
+);
+
+const W_IN_C: Who = ("https://w.test/", "https://c.co.test", Kind::ThirdParty);
+
+// Cookies of two domains, and one of w.test in the pages of one of them.
+const STORED: &[Step] = &[
+    (
+        A,
+        "Set-Cookie",
+        "s=1; Domain=a.test|t=1",
+        "",
+        &["added", "added"],
+    ),
+    (C, "Set-Cookie", "s=2; Domain=c.co.test", "", &["added"]),
+    (
+        W_IN_C,
+        "Set-Cookie",
+        "p=1; Secure; SameSite=None; Partitioned",
+        "",
+        &["added"],
+    ),
+];
+
+// The list that the cookies are stored and sent under.
+const OWN_LIST: &str = "co.test\ntest";
+
+// A list, whether a cell goes under it, and what goes out to the readers afterwards. A domain that
+// has become a suffix keeps its cell, unless one of its cookies is of another domain there.
+const LISTS: &[(&str, bool, &[&str])] = &[
+    (OWN_LIST, false, &["s=1; t=1", "s=2", "p=1"]),
+    (
+        "co.test\na.test\nc.co.test\nw.test",
+        true,
+        &["", "s=2", "p=1"],
+    ),
+    ("test", true, &["", "", ""]),
+    (OWN_LIST, false, &["", "", ""]),
+];
+
+const READERS: &[Who] = &[A, C, W_IN_C];
+
+// Whether these go out to the readers in turn.
+fn are_sent(
+    input: &LineInput<'_>,
+    cookies: &mut Cookies,
+    wanted: &[&'static str],
+) -> Result<bool, Fail> {
+    let mut done = true;
+    for (who, want) in READERS.iter().zip(wanted) {
+        let step = (*who, "Cookie", "", *want, NO_WORDS);
+        done = done && is_answered(input, cookies, step)?;
+    }
+    Ok(done)
+}
+
+#[test]
+fn cells_under_another_list_go(rt: HostRuntime) -> Result<(), Fail> {
+    let alloc = rt.alloc();
+    let list = list_with(alloc, OWN_LIST)?;
+    let mut cookies = Cookies::new(alloc);
+    for step in STORED {
+        assert!(rt; is_answered(&input_at(alloc, &list, 7), &mut cookies, *step)?);
+    }
+    for (text, went, wanted) in LISTS {
+        let other = list_with(alloc, text)?;
+        assert!(rt; cookies.migrate(&other) == *went, "under {text}");
+        assert!(rt;
+            are_sent(&input_at(alloc, &list, 7), &mut cookies, wanted)?,
+            "after {text}"
+        );
     }
     Ok(())
 }

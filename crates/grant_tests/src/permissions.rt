@@ -2,10 +2,11 @@
 use access_grants::{
     Answer, Decision, Facts, GrantRow, GrantState, Grants, Outcome, Permission, Refusal,
 };
-use agent_base::NoMemory;
+use agent_base::{MemSource, NoMemory};
 use origin_site::Site;
 use std::alloc::Global;
 use std::test::Fail;
+use suffix_list::SuffixList;
 
 /// A third-party document that was just activated, and may ask.
 const ASKS: Facts = Facts {
@@ -161,5 +162,59 @@ fn rows_keep_their_places(rt: HostRuntime) -> Result<(), Fail> {
     assert!(rt; grants.row(2).is_none());
     assert!(rt; has_row(alloc, &copy, 0, FIRST)?);
     assert!(rt; has_row(alloc, &copy, 1, SECOND)?);
+    Ok(())
+}
+
+// The list that a text is.
+fn list_of(alloc: Global, text: &str) -> Result<SuffixList, Fail> {
+    let bytes = Vec::from_slice(alloc, text.as_bytes())?;
+    let mut source = MemSource::new(bytes, Vec::new(alloc));
+    Ok(SuffixList::read(alloc, &mut source)?)
+}
+
+// Top-level sites and embedded sites.
+const PAIRS: &[(&str, &str)] = &[
+    ("https://shop.co.uk", "https://x.test"),
+    ("https://a.test", "https://x.test"),
+    ("https://a.test", "https://shop.co.uk"),
+];
+
+// A list, and which of these pairs are of its sites.
+const LISTS: &[(&str, &[bool])] = &[
+    ("co.uk", &[true, true, true]),
+    ("", &[false, true, false]),
+    ("co.uk\na.test", &[true, true, true]),
+];
+
+// Permissions of these pairs.
+fn of_pairs(alloc: Global) -> Result<Grants, Fail> {
+    let mut grants = Grants::new(alloc);
+    for (top, site) in PAIRS {
+        keep_at(alloc, &mut grants, top, site, Permission::at(true, NOW))?;
+    }
+    Ok(grants)
+}
+
+// Whether there are permissions of those of these pairs, and of no others.
+fn has_only(alloc: Global, grants: &Grants, stay: &[bool]) -> Result<bool, Fail> {
+    for (pair, stays) in PAIRS.iter().zip(stay) {
+        let top = Site::read(alloc, pair.0)?;
+        let site = Site::read(alloc, pair.1)?;
+        if (grants.state(&top, &site, NOW) == GrantState::Granted) != *stays {
+            return Ok(false);
+        }
+    }
+    Ok(grants.rows().len() == stay.iter().filter(|stays| **stays).count())
+}
+
+#[test]
+fn permissions_of_lists(rt: HostRuntime) -> Result<(), Fail> {
+    let alloc = rt.alloc();
+    for (rules, stay) in LISTS {
+        let mut grants = of_pairs(alloc)?;
+        let went = grants.migrate(&list_of(alloc, rules)?);
+        assert!(rt; went == stay.iter().any(|stays| !*stays), "{rules}");
+        assert!(rt; has_only(alloc, &grants, stay)?, "{rules}");
+    }
     Ok(())
 }

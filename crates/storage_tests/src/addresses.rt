@@ -1,7 +1,8 @@
 //! Addresses, origins and sites from outside, and calls that take memory where there is enough.
 use crate::shared::list_of;
 use origin_site::{
-    Address, AddressFault, Origin, Site, SiteFault, same_origin, same_site, site_of,
+    Address, AddressFault, Origin, Site, SiteFault, domain_under, is_ip_host, is_own_host,
+    same_origin, same_site, site_of,
 };
 use std::alloc::Global;
 use std::test::Fail;
@@ -171,6 +172,39 @@ fn ports_and_schemes_tell_origins_apart(rt: HostRuntime) -> Result<(), Fail> {
     for (text, same) in SAME {
         let found = at_one_origin(alloc, "https://a.test/p", text)?;
         assert!(rt; found == *same, "{text}");
+    }
+    Ok(())
+}
+
+// A list, an address, whether its host is an IP address, and the domain of the host.
+const HOSTS: &[(&str, &str, bool, &str)] = &[
+    ("*", "http://[::1]/", true, "[::1]"),
+    ("*\n3.4", "http://1.2.3.4/", true, "1.2.3.4"),
+    ("*\n0.1", "http://0x7f.1/", true, "127.0.0.1"),
+    ("", "http://1e3.test/", false, "1e3.test"),
+    ("test", "http://x.1e3.test/", false, "1e3.test"),
+    ("", "http://a.1b/", false, "a.1b"),
+    ("*", "http://4.a.1b/", false, "a.1b"),
+    ("a.1b", "http://a.1b/", false, "a.1b"),
+    ("", "http://1.2.3.4.test/", false, "4.test"),
+    ("", "http://localhost/", false, "localhost"),
+];
+
+// Whether the host of an address tells its kind and its domain.
+fn tells(alloc: Global, rules: &str, text: &str, ip: bool, domain: &str) -> Result<bool, Fail> {
+    let list = list_of(alloc, rules)?;
+    let address = Address::read(alloc, text)?;
+    let host = address.host.as_str();
+    let kind = address.ip == ip && is_ip_host(host) == ip;
+    let own = is_own_host(host, &list) == (host == domain);
+    Ok(kind && own && domain_under(host, &list) == domain && is_own_host(domain, &list))
+}
+
+#[test]
+fn hosts_tell_their_kind(rt: HostRuntime) -> Result<(), Fail> {
+    let alloc = rt.alloc();
+    for (rules, text, ip, domain) in HOSTS {
+        assert!(rt; tells(alloc, rules, text, *ip, domain)?, "{text}");
     }
     Ok(())
 }

@@ -1,5 +1,5 @@
 //! Worked chains, and each call that takes memory with ample memory.
-use crate::shared::origin_at;
+use crate::shared::{list_of, origin_at};
 use agent_base::NoMemory;
 use origin_site::{Origin, Site, same_origin};
 use std::alloc::Global;
@@ -138,5 +138,65 @@ fn copies_and_order_of_keys(rt: HostRuntime) -> Result<(), Fail> {
     let alloc = rt.alloc();
     assert!(rt; opaque_has_no_key(alloc)?);
     assert!(rt; copies_are_in_order(alloc)?);
+    Ok(())
+}
+
+// A list, the top-level site and the origin of a key, its bit, and whether the list has it.
+const STAYS: &[(&str, &str, &str, bool, bool)] = &[
+    ("", "https://co.uk", "https://www.shop.co.uk", false, true),
+    (
+        "co.uk",
+        "https://co.uk",
+        "https://www.shop.co.uk",
+        false,
+        false,
+    ),
+    (
+        "co.uk",
+        "https://co.uk",
+        "https://www.shop.co.uk",
+        true,
+        true,
+    ),
+    (
+        "co.uk",
+        "https://shop.co.uk",
+        "https://www.shop.co.uk",
+        false,
+        true,
+    ),
+    (
+        "co.uk",
+        "http://shop.co.uk",
+        "https://www.shop.co.uk",
+        false,
+        false,
+    ),
+    (
+        "",
+        "https://shop.co.uk",
+        "https://www.shop.co.uk",
+        true,
+        false,
+    ),
+    ("3.4", "http://1.2.3.4", "http://1.2.3.4:8080", false, true),
+];
+
+fn stays(alloc: Global, (rules, top, origin, bit): (&str, &str, &str, bool)) -> Result<bool, Fail> {
+    let key = StorageKey {
+        top: Site::read(alloc, top)?,
+        origin: origin_at(alloc, origin)?,
+        bit,
+    };
+    Ok(key.stays(&list_of(alloc, rules)?))
+}
+
+#[test]
+fn keys_of_lists(rt: HostRuntime) -> Result<(), Fail> {
+    let alloc = rt.alloc();
+    for (rules, top, origin, bit, stay) in STAYS {
+        let found = stays(alloc, (*rules, *top, *origin, *bit))?;
+        assert!(rt; found == *stay, "{origin} under {top}");
+    }
     Ok(())
 }

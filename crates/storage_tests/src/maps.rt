@@ -56,6 +56,33 @@ fn written_values_are_found(rt: HostRuntime) -> Result<(), Fail> {
     Ok(())
 }
 
+// The least value that stays, whether an entry goes, and the keys that are left.
+const TESTS: &[(u32, bool, &[u32])] = &[
+    (0, false, &[3, 5, 7, 9]),
+    (3, true, &[5, 7, 9]),
+    (3, false, &[5, 7, 9]),
+    (5, true, &[9]),
+    (6, true, &[]),
+    (6, false, &[]),
+];
+
+#[test]
+fn entries_that_pass_stay(rt: HostRuntime) -> Result<(), Fail> {
+    let alloc = rt.alloc();
+    let mut map = KeyMap::new(alloc);
+    for (key, value) in WRITES {
+        assert!(rt; map.insert(*key, *value) == Ok(()));
+    }
+    for (least, went, left) in TESTS {
+        assert!(rt;
+            map.retain(|_, value| *value >= *least) == *went,
+            "from {least}"
+        );
+        assert!(rt; are_keys(alloc, &map, left), "left from {least}");
+    }
+    Ok(())
+}
+
 // Thousands of keys, each third of which is taken out again.
 fn fill(map: &mut KeyMap<u32, u32>) -> bool {
     let mut done = true;

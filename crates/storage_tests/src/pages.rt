@@ -1,5 +1,5 @@
 //! Each call that takes memory, with ample memory.
-use crate::shared::origin_at;
+use crate::shared::{list_of, origin_at};
 use local_area::Put;
 use origin_site::Site;
 use std::alloc::Global;
@@ -177,6 +177,40 @@ fn evictions_spare_persistent_buckets(rt: HostRuntime) -> Result<(), Fail> {
     assert!(rt; is_persisted(alloc, &mut storage, KEPT, A)?);
     assert!(rt; are_evicted(alloc, &mut storage)?);
     check_usages(&rt, alloc, &storage)
+}
+
+// A key whose top-level site is one where `co.uk` is a suffix.
+const SHOP: Place = ("https://w.test/", "https://shop.co.uk");
+
+// What is used at both places under one list after another, and whether a bucket goes.
+const LISTS: &[(&str, bool, usize, usize)] = &[
+    ("co.uk\ntest", false, 2, 2),
+    ("uk\na.test", true, 2, 0),
+    ("co.uk\ntest", false, 2, 0),
+    ("a.test\n*.a.test\nw.test", false, 2, 0),
+];
+
+#[test]
+fn buckets_under_another_list_go(rt: HostRuntime) -> Result<(), Fail> {
+    let alloc = rt.alloc();
+    let mut storage = Storage::new(alloc);
+    assert!(rt; are_put(alloc, &mut storage, AreaKind::Local, &[A, SHOP])?);
+    assert!(rt; are_put(alloc, &mut storage, AreaKind::Session, &[SHOP])?);
+    assert!(rt; is_persisted(alloc, &mut storage, SHOP, A)?);
+    for (text, went, at_a, at_shop) in LISTS {
+        let list = list_of(alloc, text)?;
+        assert!(rt; storage.migrate(&list) == *went, "under {text}");
+        assert!(rt;
+            usage(alloc, &storage, A)? == *at_a,
+            "at a.test under {text}"
+        );
+        assert!(rt;
+            usage(alloc, &storage, SHOP)? == *at_shop,
+            "at shop.co.uk under {text}"
+        );
+    }
+    assert!(rt; !storage.is_persistent(&key_of(alloc, SHOP)?));
+    check_values(&rt, alloc, &storage, &[(AreaKind::Session, 1, SHOP, "v")])
 }
 
 // Copies the session areas of tab 1 under a site to tab 2.

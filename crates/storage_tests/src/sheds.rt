@@ -78,6 +78,31 @@ fn eviction_spares_persistent_buckets(rt: HostRuntime) -> Result<(), Fail> {
     Ok(())
 }
 
+// The least key that stays, whether a bucket goes, and what is used at 3 and 7 afterwards. An empty
+// best-effort bucket at 4 is none.
+const TESTS: &[(u32, bool, usize, usize)] = &[
+    (0, false, 2, 2),
+    (3, true, 2, 2),
+    (5, true, 0, 2),
+    (5, false, 0, 2),
+    (8, true, 0, 0),
+];
+
+#[test]
+fn buckets_whose_keys_pass_stay(rt: HostRuntime) -> Result<(), Fail> {
+    let mut shed = shed_of(rt.alloc(), &[7, 3])?;
+    assert!(rt; shed.reserve(4).is_ok() && shed.reserve(1).is_ok() && shed.persist(&1));
+    for (least, went, at_three, at_seven) in TESTS {
+        assert!(rt; shed.retain(|key| *key >= *least) == *went, "from {least}");
+        assert!(rt;
+            shed.usage(&3) == *at_three && shed.usage(&7) == *at_seven,
+            "left from {least}"
+        );
+    }
+    assert!(rt; shed.mode(&1) == Mode::BestEffort);
+    Ok(())
+}
+
 // A key or none, and the next one that has a bucket.
 const KEYS: &[(Option<u32>, Option<u32>)] = &[
     (None, Some(3)),

@@ -18,3 +18,5 @@ pub mod RowsLemmas
 mod StandardFacts
 -- The cells that have cookies.
 pub mod ListedLemmas
+-- What stays under a list.
+pub mod MigrateLemmas

@@ -1,5 +1,5 @@
 //! The cookies of all sites, by cell.
-ghost use Rattle.std.specs.Prelude.{◌≡◌, ◌≤◌, [], IfOk, IfSome, IsOk, OnErr, OnOk, is_some, map, option_map, true};
+ghost use Rattle.std.specs.Prelude.{◌≡◌, ◌≤◌, [], IfOk, IfSome, IsOk, OnErr, OnOk, is_some, map, not, option_map, true};
 ghost use Rattle.std.specs.Option.{ForSome};
 ghost use Rattle.std.specs.Rc.{rc_value};
 ghost use Rattle.cookie_jar.specs.Key.{PlainKey, plain_key};
@@ -12,6 +12,7 @@ ghost use Rattle.agent_model.specs.Cookies.{read_cookies_by, request, set_cookie
 ghost use Rattle.agent_model.specs.Effects.{Effect};
 ghost use Rattle.web_cookies.specs.Stored.{IsDoneBy, shared_in, partitioned_in};
 ghost use Rattle.web_cookies.specs.Uses.{plain_use};
+ghost use Rattle.web_cookies.specs.Migrated.{all_stay, partitioned_kept, shared_kept};
 ghost use Rattle.web_cookies.specs.Cells.{cookies_at, jar_at, kind_of};
 ghost use Rattle.web_cookies.specs.Prepared.{HasPlace, HasPlaceIf, Prepares, changed, changed_if};
 ghost use Rattle.web_cookies.specs.Becoming.{FitsKey};
@@ -34,6 +35,7 @@ use script_actions::HeadField;
 use std::alloc::Global;
 use std::marker::Model;
 use std::rc::Rc;
+use suffix_list::SuffixList;
 
 /// The cookies of all sites: a jar for each cell.
 ///
@@ -151,6 +153,22 @@ impl Cookies {
         let keys = keys_of(input, how, &self.last_keys)?;
         let Sending { text, .. } = self.sending(input, how, &keys)?;
         Ok(ReplyBody::Cookie { cookie: text })
+    }
+}
+
+impl Cookies {
+    /// Keeps the cells that are such under a list with the cookies that they have, and drops the
+    /// others, each with all of its cookies. Tells whether one that has cookies was dropped. It
+    /// takes no memory.
+    pub fn migrate(&mut self, list: &SuffixList) -> bool
+        ensures shared { shared_in self.new ≡ shared_kept list.now.rules (shared_in self.old) }
+        ensures partitioned { partitioned_in self.new
+            ≡ partitioned_kept list.now.rules (partitioned_in self.old) }
+        ensures went { result
+            ≡ not (all_stay list.now.rules (shared_in self.old) (partitioned_in self.old)) }
+    {
+        self.cells
+            .retain(|cell, jar| jar.len() == 0 || jar.stays(cell, list))
     }
 }
 

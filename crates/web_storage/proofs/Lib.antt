@@ -6,6 +6,7 @@ pub mod SessionWrites
 pub mod HeldLemmas
 pub mod EvictionLemmas
 pub mod EvictionCounts
+pub mod MigrateLemmas
 pub mod UnderLemmas
 pub mod RisingLemmas
 pub mod StableOrder

@@ -1,12 +1,14 @@
 //! Local areas: room for a storage key in a shed, and evictions.
-ghost use Rattle.std.specs.Prelude.{◌≡◌, ◌-◌, ◌^◌, [], IfOk, IsOk, OnOk, OnErr, filter, map, min, is_some, true, false};
+ghost use Rattle.std.specs.Prelude.{◌≡◌, ◌-◌, ◌^◌, ◌&&◌, not, [], IfOk, IsOk, OnOk, OnErr, filter, map, min, is_some, true, false};
 ghost use Rattle.std.specs.FinMap as finite;
+ghost use Rattle.std.specs.List.{list_all};
 ghost use Rattle.std.specs.List.Sorted.{IsStrictlySortedBy};
 ghost use Rattle.std.specs.Map.{keys_of};
 ghost use Rattle.origin_site.specs.Plain.{plain_site};
 ghost use Rattle.unwinding.specs.FiniteCells.{get_cell, set_cell};
 ghost use Rattle.storage_key.specs.Key.{key_order};
 ghost use Rattle.storage_key.specs.Plain.{plain_key};
+ghost use Rattle.storage_key.specs.Stays.{key_stays};
 ghost use Rattle.key_map.specs.Entries.{map_get};
 ghost use Rattle.buckets.specs.Shed.{is_best_effort};
 ghost use Rattle.web_storage.specs.Stored.{areas_in, keys_in};
@@ -18,6 +20,7 @@ use buckets::{Bucket, Mode, Shed};
 use origin_site::Site;
 use std::alloc::Global;
 use storage_key::StorageKey;
+use suffix_list::SuffixList;
 
 /// Makes room for a key in a shed. The key is copied only where it is new.
 pub fn reserve_local(
@@ -66,6 +69,21 @@ pub fn evict_local(alloc: Global, shed: &mut Shed<StorageKey>, site: &Site) -> R
 {
     let keys = best_effort_under(alloc, shed, site)?;
     Ok(shed.evict(keys.as_slice()))
+}
+
+/// Keeps the buckets whose keys are storage keys under a list, and drops the others. Tells whether
+/// one that is not empty, or is persistent, was dropped. It takes no memory.
+pub fn migrate_local(shed: &mut Shed<StorageKey>, list: &SuffixList) -> bool
+    ensures areas { areas_in shed.new
+        ≡ finite.retain_keys (areas_in shed.old) (key_stays list.now.rules) }
+    ensures modes { keys_in shed.new
+        ≡ finite.retain_keys (keys_in shed.old) (key_stays list.now.rules) }
+    ensures went { let areas = finite.keys (areas_in shed.old) in
+        let modes = finite.keys (keys_in shed.old) in
+        let stays = key_stays list.now.rules in
+        result ≡ not (list_all stays areas && list_all stays modes) }
+{
+    shed.retain(|key| key.stays(list))
 }
 
 /// Copies of the keys under a site whose buckets are best-effort. No key that stays is copied.

@@ -1,5 +1,5 @@
 //! Local and session areas of all sites, by storage key.
-ghost use Rattle.std.specs.Prelude.{◌≡◌, ◌<◌, ◌↔◌, ◌⊎◌, [], Err, IfErr, IfOk, IsOk, None, OnOk, OnErr, MatchOption, map, nat_lt, option_map, string_bytes, false, if◌then◌else◌};
+ghost use Rattle.std.specs.Prelude.{◌≡◌, ◌<◌, ◌↔◌, ◌⊎◌, [], Err, IfErr, IfOk, IsOk, None, OnOk, OnErr, MatchOption, map, nat_lt, option_map, string_bytes, false, not, if◌then◌else◌};
 ghost use Rattle.std.specs.Borrow.{sem};
 ghost use Rattle.origin_site.specs.Plain.{plain_site};
 ghost use Rattle.storage_key.specs.Plain.{plain_key};
@@ -18,9 +18,10 @@ ghost use Rattle.web_storage.specs.Listed.{stored_in};
 ghost use Rattle.web_storage.specs.Stored.{held_with, without_areas};
 ghost use Rattle.web_storage.specs.SiteSessions.{has_session_under};
 ghost use Rattle.web_storage.specs.Lends.{LendsArea, HoldsSame, HoldsPairs};
+ghost use Rattle.web_storage.specs.Migrated.{all_stay, migrated};
 
 use crate::listing::{keys_stored, keys_taken};
-use crate::local::{clear_local, evict_local, is_persistent, reserve_local};
+use crate::local::{clear_local, evict_local, is_persistent, migrate_local, reserve_local};
 use crate::session::{copy_areas, has_session_under, reserve_session};
 use agent_base::NoMemory;
 use buckets::Shed;
@@ -31,6 +32,7 @@ use std::alloc::Global;
 use std::marker::Model;
 use storage_events::AreaKind;
 use storage_key::StorageKey;
+use suffix_list::SuffixList;
 
 /// The storage of all sites: local areas with the modes of their buckets, and the session areas of
 /// tabs.
@@ -270,6 +272,18 @@ impl Storage {
             ≡ stored_in held.areas held.persistent) }
     {
         keys_stored(self.alloc, &self.local)
+    }
+
+    /// Keeps the local buckets whose keys are storage keys under a list, and drops the others, each
+    /// with its area and its mode. Tells whether one that is not empty, or is persistent, was
+    /// dropped. Session areas stay. It takes no memory.
+    pub fn migrate(&mut self, list: &SuffixList) -> bool
+        ensures state { (beside : Holdings) → held_with beside self.new
+            ≡ migrated list.now.rules (held_with beside self.old) }
+        ensures went { (beside : Holdings) → result
+            ≡ not (all_stay list.now.rules (held_with beside self.old)) }
+    {
+        migrate_local(&mut self.local, list)
     }
 
     /// Copies the session areas that one tab has under a site to another tab, which has none.

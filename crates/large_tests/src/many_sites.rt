@@ -1,12 +1,10 @@
 //! A body of 200,000 durable changes, each a pair under a site of its own.
-use agent_base::MemSource;
 use journal::Replay;
 use origin_site::{Address, Site};
 use row_store::{Parts, Rows};
 use std::alloc::Global;
 use std::test::Fail;
 use storage_key::StorageKey;
-use suffix_list::SuffixList;
 
 /// How many sites there are. Each change takes 64 bytes of the body.
 const SITES: u32 = 200_000;
@@ -49,11 +47,6 @@ fn body_of_sites(alloc: Global) -> Result<Vec<u8>, Fail> {
     Ok(body)
 }
 
-fn empty_list(alloc: Global) -> Result<SuffixList, Fail> {
-    let mut source = MemSource::new(Vec::new(alloc), Vec::new(alloc));
-    Ok(SuffixList::read(alloc, &mut source)?)
-}
-
 fn key_of(alloc: Global, number: u32) -> Result<StorageKey, Fail> {
     let bytes = site_text(number);
     let text = std::str::from_utf8(&bytes).unwrap_or("");
@@ -81,10 +74,9 @@ fn found(alloc: Global, parts: &Parts) -> Result<u32, Fail> {
 #[test]
 fn each_of_200_000_sites_has_its_pair(rt: HostRuntime) -> Result<(), Fail> {
     let alloc = rt.alloc();
-    let list = empty_list(alloc)?;
     let body = body_of_sites(alloc)?;
     assert_eq!(rt; body.len(), 12_800_000);
-    let mut rows = Rows::new(alloc, &list);
+    let mut rows = Rows::new(alloc);
     assert_eq!(rt; rows.frame(false, body.as_slice()), Ok(200_000));
     assert_eq!(rt; found(alloc, &rows.into_parts())?, SITES);
     Ok(())

@@ -41,7 +41,7 @@ body_taken at (changes ∷ later) d count valid =
 
 pub written_bodies_mean : WrittenBodiesMean
 unfolding body_means
-written_bodies_mean rules d written writable valid =
+written_bodies_mean d written writable valid =
     let same : 0 + length written ≡ length written = omega arith in
-    ap (after_pieces d 0) (body_again rules written writable) ∙ body_taken 0 written d 0 valid
+    ap (after_pieces d 0) (body_again written writable) ∙ body_taken 0 written d 0 valid
     ∙ ap (λ (n : ℕ). Ok (fold after_changes d written, n)) same

@@ -2,7 +2,6 @@
 use Rattle.std.proofs.Common.{◌≡◌, ℕ, zero, suc, ◌+◌, ◌≤◌, ◌==◌, Bool, true, false, cond, not, ◌&&◌, List, [], ◌∷◌, drop, length, Option, Some, None, ap, sym, subst, arith}
 use Rattle.std.specs.Prelude.{slice_get}
 use Rattle.std.specs.Prelude.{Result, Ok, Err}
-use Rattle.suffix_list.specs.Suffix.{Rule}
 use Rattle.row_changes.specs.Change.{PlainChange}
 use Rattle.row_changes.specs.Body.{PlainPiece, Begins, Row, Fault, PlainProgress, begun, count_at, is_over, next_piece, pieces_of, pieces_within, rowed}
 use Rattle.row_changes.specs.Reading.{change_at}
@@ -10,14 +9,14 @@ use Rattle.durable_model.specs.Saved.{Saved}
 use Rattle.durable_model.specs.RowEdits.{edited, is_valid}
 use Rattle.row_store.specs.Bodies.{Counted, after_pieces, body_means, from}
 
-module _ (rules : List Rule) (snapshot : Bool) (size : ℕ) where
-  few_within : (most : ℕ) (p : PlainProgress) → length (pieces_within most rules snapshot size p) ≤ most
+module _ (snapshot : Bool) (size : ℕ) where
+  few_within : (most : ℕ) (p : PlainProgress) → length (pieces_within most snapshot size p) ≤ most
   few_within zero p = omega arith
-  few_within (suc most) p = at (is_over p) (few_within most (next_piece rules snapshot size p).1)
+  few_within (suc most) p = at (is_over p) (few_within most (next_piece snapshot size p).1)
     where
-      at : (b : Bool) → length (pieces_within most rules snapshot size (next_piece rules snapshot size p).1) ≤ most
-          → length (cond b [] ((next_piece rules snapshot size p).0
-          ∷ pieces_within most rules snapshot size (next_piece rules snapshot size p).1)) ≤ suc most
+      at : (b : Bool) → length (pieces_within most snapshot size (next_piece snapshot size p).1) ≤ most
+          → length (cond b [] ((next_piece snapshot size p).0
+          ∷ pieces_within most snapshot size (next_piece snapshot size p).1)) ≤ suc most
       at true ih = omega arith
       at false ih = omega (arith, ih)
 
@@ -35,13 +34,13 @@ module _ (rules : List Rule) (snapshot : Bool) (size : ℕ) where
   rowed_within p (Some found) = omega arith
   rowed_within p None = omega arith
 
-  piece_within : (p : PlainProgress) → IsWithin (next_piece rules snapshot size p).0
+  piece_within : (p : PlainProgress) → IsWithin (next_piece snapshot size p).0
   unfolding next_piece
   piece_within p = at (p.left == 0 && not snapshot)
     where
-      at : (b : Bool) → IsWithin (cond b (begun size p (count_at p.rest)) (rowed size p (change_at rules p.rest))).0
+      at : (b : Bool) → IsWithin (cond b (begun size p (count_at p.rest)) (rowed size p (change_at p.rest))).0
       at true = begun_within p (count_at p.rest)
-      at false = rowed_within p (change_at rules p.rest)
+      at false = rowed_within p (change_at p.rest)
 
   fault_of : (o p : ℕ) → ◌≡◌ {A = Result Counted ℕ} (Err o) (Err p) → o ≡ p
   fault_of o p e = cc
@@ -60,38 +59,36 @@ module _ (rules : List Rule) (snapshot : Bool) (size : ℕ) where
   first_within (Fault at) pieces d n o within more h = subst (λ k. k ≤ size) (fault_of at o h) within
 
   fault_within : (most : ℕ) (p : PlainProgress) (d : Saved) (n o : ℕ)
-      → after_pieces d n (pieces_within most rules snapshot size p) ≡ Err o → o ≤ size
+      → after_pieces d n (pieces_within most snapshot size p) ≡ Err o → o ≤ size
   fault_within zero p d n o h = absurd (no_fault (d, n) o h)
-  fault_within (suc most) p d n o h = at (is_over p) (λ e m. fault_within most (next_piece rules snapshot size p).1 e m o) h
+  fault_within (suc most) p d n o h = at (is_over p) (λ e m. fault_within most (next_piece snapshot size p).1 e m o) h
     where
       at : (b : Bool) → ((e : Saved) (m : ℕ) → after_pieces e m
-          (pieces_within most rules snapshot size (next_piece rules snapshot size p).1) ≡ Err o → o ≤ size)
-          → after_pieces d n (cond b [] ((next_piece rules snapshot size p).0
-          ∷ pieces_within most rules snapshot size (next_piece rules snapshot size p).1)) ≡ Err o → o ≤ size
+          (pieces_within most snapshot size (next_piece snapshot size p).1) ≡ Err o → o ≤ size)
+          → after_pieces d n (cond b [] ((next_piece snapshot size p).0
+          ∷ pieces_within most snapshot size (next_piece snapshot size p).1)) ≡ Err o → o ≤ size
       at true more h = absurd (no_fault (d, n) o h)
       at false more h =
-          first_within (next_piece rules snapshot size p).0
-          (pieces_within most rules snapshot size (next_piece rules snapshot size p).1) d n o (piece_within p) more h
+          first_within (next_piece snapshot size p).0
+          (pieces_within most snapshot size (next_piece snapshot size p).1) d n o (piece_within p) more h
 
 -- a body has at most one piece more than bytes
-pub few_pieces : (rules : List Rule) (snapshot : Bool) (body : List ℕ) → length (pieces_of rules snapshot body) ≤ length body + 1
-few_pieces rules snapshot body =
-    let few = few_within rules snapshot (length body) (suc (length body)) (record { left = 0; rest = body }) in omega (arith, few)
+pub few_pieces : (snapshot : Bool) (body : List ℕ) → length (pieces_of snapshot body) ≤ length body + 1
+few_pieces snapshot body =
+    let few = few_within snapshot (length body) (suc (length body)) (record { left = 0; rest = body }) in omega (arith, few)
 
 -- the first fault is within the body
-pub fault_in_body : (rules : List Rule) (snapshot : Bool) (body : List ℕ) (d : Saved) (o : ℕ)
-    → after_pieces d 0 (pieces_of rules snapshot body) ≡ Err o → o ≤ length body
-fault_in_body rules snapshot body d o h = fault_within rules snapshot (length body) (suc (length body))
+pub fault_in_body : (snapshot : Bool) (body : List ℕ) (d : Saved) (o : ℕ)
+    → after_pieces d 0 (pieces_of snapshot body) ≡ Err o → o ≤ length body
+fault_in_body snapshot body d o h = fault_within snapshot (length body) (suc (length body))
     (record { left = 0; rest = body }) d 0 o h
 
--- what a body means, by the pieces that it has under the rules, from the state from which it is read
-pub meaning : (rules by : List Rule) (d e : Saved) (snapshot : Bool) (body : List ℕ) → by ≡ rules → e ≡ from snapshot d
-    → body_means rules d snapshot body ≡ after_pieces e 0 (pieces_of by snapshot body)
+-- what a body means, by its pieces, from the state from which it is read
+pub meaning : (d e : Saved) (snapshot : Bool) (body : List ℕ) → e ≡ from snapshot d
+    → body_means d snapshot body ≡ after_pieces e 0 (pieces_of snapshot body)
 unfolding body_means
-meaning rules by d e snapshot body same_rules same_state =
-    let back = sym same_rules in
-    let state = sym same_state in
-    λ i. after_pieces (state i) 0 (pieces_of (back i) snapshot body)
+meaning d e snapshot body same_state =
+    ap (λ (s : Saved). after_pieces s 0 (pieces_of snapshot body)) (sym same_state)
 
 -- pieces whose first one is told
 pub first_piece : (pieces : List PlainPiece) {piece : PlainPiece} → Some piece ≡ slice_get pieces 0 → pieces ≡ piece ∷ drop 1 pieces

@@ -3,7 +3,6 @@ use Rattle.std.proofs.Common.{◌≡◌, ℕ, ◌+◌, Bool, true, false, cond, 
 use Rattle.std.specs.Prelude.{Result, Ok, Err, IfOk, OnErr, slice_get}
 use Rattle.std.specs.List.{All}
 use Rattle.std.proofs.lemmas.List.Elements.{All-head}
-use Rattle.suffix_list.specs.Suffix.{Rule}
 use Rattle.row_changes.specs.Change.{PlainChange}
 use Rattle.row_changes.specs.Body.{PlainPiece, Begins, Row, Fault}
 use Rattle.row_changes.specs.Laws.{IsSpelledPiece}
@@ -26,7 +25,7 @@ use Rattle.row_store.proofs.StorableLaws.{edits_keep_storable}
 
 -- a durable change begins
 pub begun : (parts : Parts) → IsTaken Begins parts parts 1
-begun parts = record { after = λ count pieces. refl; standing = λ rules spelled s. s; one = omega arith }
+begun parts = record { after = λ count pieces. refl; standing = λ spelled s. s; one = omega arith }
 
 as_many : (count : ℕ) → count ≡ count + 0
 as_many count = omega arith
@@ -34,12 +33,12 @@ as_many count = omega arith
 -- ---- a row change by itself
 
 -- parts whose durable state stays stand as they stood
-pub stays_standing : (rules : List Rule) (old new : Parts) → IsUndone old new → IsStanding rules old → IsStanding rules new
-stays_standing rules old new is s = record {
+pub stays_standing : (old new : Parts) → IsUndone old new → IsStanding old → IsStanding new
+stays_standing old new is s = record {
   valid = subst IsValid (sym is.saved) s.valid;
-  read = subst (IsReadSaved rules) (sym is.saved) s.read;
+  read = subst IsReadSaved (sym is.saved) s.read;
   storable = subst IsStorable (sym is.saved) s.storable;
-  spelled = subst (IsSpelledState rules) (sym is.saved) s.spelled;
+  spelled = subst IsSpelledState (sym is.saved) s.spelled;
   sessions = is.sessions s.sessions;
 }
 
@@ -49,14 +48,14 @@ module _ (change : PlainChange) (old new : Parts) where
   done_saved is = is.saved ∙ ap (λ b. cond b (edited change (saved_of old)) (saved_of old)) (sym is.valid)
 
   -- and keeps the parts standing, where it has a spelling
-  pub done_standing : (rules : List Rule) → ChangesKeepValid → RowsStayRead → IsSpelled rules change
-      → IsEdited change old new true → IsStanding rules old → IsStanding rules new
-  done_standing rules law read spelled is s = record {
+  pub done_standing : ChangesKeepValid → RowsStayRead → IsSpelled change
+      → IsEdited change old new true → IsStanding old → IsStanding new
+  done_standing law read spelled is s = record {
     valid = subst IsValid (sym is.saved) (law (saved_of old) change s.valid);
-    read = subst (IsReadSaved rules) (sym is.saved) (read rules (saved_of old) change spelled s.read);
+    read = subst IsReadSaved (sym is.saved) (read (saved_of old) change spelled s.read);
     storable = subst IsStorable (sym (done_saved is)) (edits_keep_storable.1 (saved_of old) change (sym is.valid) s.storable);
-    spelled = subst (IsSpelledState rules) (sym (done_saved is))
-        ((edits_keep_spelled rules).1 (saved_of old) change spelled s.spelled);
+    spelled = subst IsSpelledState (sym (done_saved is))
+        (edits_keep_spelled.1 (saved_of old) change spelled s.spelled);
     sessions = is.sessions s.sessions;
   }
 
@@ -64,17 +63,17 @@ module _ (change : PlainChange) (old new : Parts) where
   pub passed_saved : IsEdited change old new false → saved_of new ≡ saved_of old
   passed_saved is = is.saved ∙ ap (λ b. cond b (edited change (saved_of old)) (saved_of old)) (sym is.valid)
 
-  pub passed_standing : (rules : List Rule) → IsEdited change old new false → IsStanding rules old → IsStanding rules new
-  passed_standing rules is = stays_standing rules old new (record { saved = passed_saved is; sessions = is.sessions })
+  pub passed_standing : IsEdited change old new false → IsStanding old → IsStanding new
+  passed_standing is = stays_standing old new (record { saved = passed_saved is; sessions = is.sessions })
 
 -- parts stand after each answer to a row change that has a spelling
-pub edit_standing : {E : Type 0} (rules : List Rule) (change : PlainChange) (old new : Parts)
-    (r : Result Bool E) → ChangesKeepValid → RowsStayRead → IsSpelled rules change
-    → IfOk r (λ valid. IsEdited change old new valid) → OnErr r (IsUndone old new) → IsStanding rules old → IsStanding rules new
-edit_standing rules change old new (Ok true) law read spelled is stays s =
-    done_standing change old new rules law read spelled is s
-edit_standing rules change old new (Ok false) law read spelled is stays s = passed_standing change old new rules is s
-edit_standing rules change old new (Err why) law read spelled is stays s = stays_standing rules old new stays s
+pub edit_standing : {E : Type 0} (change : PlainChange) (old new : Parts)
+    (r : Result Bool E) → ChangesKeepValid → RowsStayRead → IsSpelled change
+    → IfOk r (λ valid. IsEdited change old new valid) → OnErr r (IsUndone old new) → IsStanding old → IsStanding new
+edit_standing change old new (Ok true) law read spelled is stays s =
+    done_standing change old new law read spelled is s
+edit_standing change old new (Ok false) law read spelled is stays s = passed_standing change old new is s
+edit_standing change old new (Err why) law read spelled is stays s = stays_standing old new stays s
 
 -- ---- a row change as a piece
 
@@ -87,7 +86,7 @@ module _ (at : ℕ) (change : PlainChange) (old new : Parts) where
             ap (λ b. cond b (after_pieces (edited change (saved_of old)) count pieces) (Err at)) (sym is.valid)
             ∙ ap (λ d. after_pieces d count pieces) (sym (done_saved change old new is))
             ∙ ap (λ n. after_pieces (saved_of new) n pieces) (as_many count);
-        standing = λ rules spelled s. done_standing change old new rules law read spelled is s;
+        standing = λ spelled s. done_standing change old new law read spelled is s;
         one = omega arith;
       }
 
@@ -111,10 +110,10 @@ over [] is = refl
 over (first ∷ rest) is = let no : ◌≡◌ {A = Option PlainPiece} (Some first) None = is in cc
 
 -- where each piece is spelled, the first is
-pub front_spelled : (rules : List Rule) (pieces : List PlainPiece) (piece : PlainPiece)
-    → slice_get pieces 0 ≡ Some piece → All (IsSpelledPiece rules) pieces → IsSpelledPiece rules piece
-front_spelled rules pieces piece is spelled =
-    All-head (IsSpelledPiece rules) piece (drop 1 pieces) (subst (All (IsSpelledPiece rules)) (front pieces piece is) spelled)
+pub front_spelled : (pieces : List PlainPiece) (piece : PlainPiece)
+    → slice_get pieces 0 ≡ Some piece → All IsSpelledPiece pieces → IsSpelledPiece piece
+front_spelled pieces piece is spelled =
+    All-head IsSpelledPiece piece (drop 1 pieces) (subst (All IsSpelledPiece) (front pieces piece is) spelled)
 
 -- ---- the beginning
 
@@ -128,12 +127,12 @@ nothing_valid (PartitionCell top bit domain) = subst IsKeptCell
     (sym (partitioned_at (record { top = top; bit = bit; domain = domain }) [])) empty_kept
 
 -- parts of which nothing is durable
-pub nothing_standing : (rules : List Rule) (parts : Parts) → saved_of parts ≡ nothing_saved
-    → HasNoSession parts.storage → IsStanding rules parts
-nothing_standing rules parts is none = record {
+pub nothing_standing : (parts : Parts) → saved_of parts ≡ nothing_saved
+    → HasNoSession parts.storage → IsStanding parts
+nothing_standing parts is none = record {
   valid = subst IsValid (sym is) nothing_valid;
-  read = subst (IsReadSaved rules) (sym is) (nothing_read rules);
+  read = subst IsReadSaved (sym is) nothing_read.0;
   storable = subst IsStorable (sym is) edits_keep_storable.0;
-  spelled = subst (IsSpelledState rules) (sym is) (edits_keep_spelled rules).0;
+  spelled = subst IsSpelledState (sym is) edits_keep_spelled.0;
   sessions = none;
 }

@@ -270,7 +270,7 @@ module _ (d : Saved) (storable : IsStorable d) where
 
 pub snapshots_mean : SnapshotsMean
 unfolding body_means
-snapshots_mean rules e d storable spelled =
+snapshots_mean e d storable spelled =
     let leads = listed_leads d storable in
-    ap (after_pieces nothing_saved 0) (snapshot_again rules (listed d) spelled ∙ sym (append-nil (row_pieces 0 (listed d))))
+    ap (after_pieces nothing_saved 0) (snapshot_again (listed d) spelled ∙ sym (append-nil (row_pieces 0 (listed d))))
     ∙ rows_taken 0 (listed d) nothing_saved 0 [] leads.valid ∙ ap (λ state. Ok (state, 0)) leads.after

@@ -1,4 +1,4 @@
--- Row changes that have a spelling lead to states whose snapshots have one.
+-- Row changes that have a spelling lead to states whose snapshots have one, under a list too.
 use Rattle.std.proofs.Common.{◌≡◌, ℕ, suc, ◌+◌, ◌≤◌, Bool, true, false, cond, List, [], ◌∷◌, ◌++◌, map, length, take, drop, Some, refl, sym, ap, subst, ◌∙◌, arith}
 use Rattle.std.specs.Prelude.{is_some, not}
 use Rattle.std.specs.List.{All, flat_map}
@@ -16,7 +16,7 @@ use Rattle.cookie_jar.specs.Persistent.{CookieRow, RowInsert, RowReplace, RowRem
 use Rattle.cookie_jar.proofs.CellLemmas.{count_small}
 use Rattle.access_grants.specs.Grant.{PlainGrant, has_row, is_of, with_row}
 use Rattle.row_changes.specs.Change.{PlainChange, AreaPut, AreaRemove, AreaClear, SetMode, CookieInsert, CookieReplace, CookieRemove, Grant}
-use Rattle.row_changes.specs.Spelled.{IsPlaced, IsSpelled}
+use Rattle.row_changes.specs.Spelled.{IsSpelled, IsSpelledUnder}
 use Rattle.agent_model.specs.CookieCells.{Cookies}
 use Rattle.agent_model.proofs.KeptLemmas.{tied}
 use Rattle.web_cookies.specs.Cells.{cell_order}
@@ -24,7 +24,7 @@ use Rattle.web_cookies.proofs.OrderOfCells.{equal_keys}
 use Rattle.durable_model.specs.Saved.{Saved, cookies_at, kind_of, no_rows, nothing_saved, pairs_at, with_cookies, with_pairs}
 use Rattle.durable_model.specs.RowEdits.{edited, edited_in}
 use Rattle.row_store.specs.Listing.{cell_rows, cookie_rows, key_rows, listed, mode_rows, pair_rows, stored_cells, stored_keys}
-use Rattle.row_store.specs.Laws.{EditsKeepSpelled, IsSpelledState, IsStorable, SnapshotsAreSpelled}
+use Rattle.row_store.specs.Laws.{EditsKeepSpelled, EditsKeepSpelledUnder, IsMadeBy, IsStorable, SnapshotsAreSpelled, SnapshotsAreSpelledUnder}
 use Rattle.row_store.proofs.AreaRowLemmas.{pairs_with}
 use Rattle.row_store.proofs.CookieRowLemmas.{cookies_with}
 use Rattle.row_store.proofs.SnapshotLaws.{no_cookie, no_mode, none_stored}
@@ -38,15 +38,25 @@ each_made P f (x ∷ xs) each = All-append P (f x) (flat_map f xs) (each x) (eac
 false_true : {P : Type 0} → ◌≡◌ {A = Bool} false true → P
 false_true e = absurd (cc)
 
-module _ (rules : List Rule) where
+-- what the row changes of a kind have in common: a name takes another value, and a cookie another
+-- place, and one that replaces another can be put anew
+pub record IsOfFields (IsOf : PlainChange → Type 0) : Type 0 where
+  pub value : (key : PlainKey) (name other value more : List ℕ) → IsOf (AreaPut key name value)
+      → IsOf (AreaPut key other more) → IsOf (AreaPut key other value)
+  pub place : (cell : PlainCell) (place other : ℕ) (cookie : PlainCookie) → other ≤ 255
+      → IsOf (CookieInsert cell place cookie) → IsOf (CookieInsert cell other cookie)
+  pub anew : (cell : PlainCell) (place : ℕ) (cookie : PlainCookie)
+      → IsOf (CookieReplace cell place cookie) → IsOf (CookieInsert cell 0 cookie)
+
+module _ (IsOf : PlainChange → Type 0) (of : IsOfFields IsOf) where
   abbrev IsPairOf : PlainKey → Pair → Type 0
-  IsPairOf key pair = IsSpelled rules (AreaPut key pair.name pair.value)
+  IsPairOf key pair = IsOf (AreaPut key pair.name pair.value)
 
   abbrev IsCookieOf : PlainCell → PlainCookie → Type 0
-  IsCookieOf cell cookie = IsSpelled rules (CookieInsert cell 0 cookie)
+  IsCookieOf cell cookie = IsOf (CookieInsert cell 0 cookie)
 
   abbrev IsRowOf : PlainGrant → Type 0
-  IsRowOf row = IsSpelled rules (Grant row)
+  IsRowOf row = IsOf (Grant row)
 
   -- ---- the pairs of an area
 
@@ -54,14 +64,14 @@ module _ (rules : List Rule) where
   replaced name value pair = cond (has_name name pair) (record pair { value = value }) pair
 
   -- a pair, or its name with another value
-  replaced_spelled : (key : PlainKey) (name value : List ℕ) → IsSpelled rules (AreaPut key name value)
+  replaced_spelled : (key : PlainKey) (name value : List ℕ) → IsOf (AreaPut key name value)
       → (pair : Pair) (b : Bool) → IsPairOf key pair
       → IsPairOf key (cond b (record pair { value = value }) pair)
-  replaced_spelled key name value new pair true is = (is.0, is.1, new.2)
+  replaced_spelled key name value new pair true is = of.value key name pair.name value pair.value new is
   replaced_spelled key name value new pair false is = is
 
   put_spelled : (key : PlainKey) (name value : List ℕ) (pairs : List Pair)
-      → IsSpelled rules (AreaPut key name value) → All (IsPairOf key) pairs
+      → IsOf (AreaPut key name value) → All (IsPairOf key) pairs
       → All (IsPairOf key) (area_put name value pairs)
   put_spelled key name value pairs new all = at (is_some (area_get name pairs))
     where
@@ -74,11 +84,6 @@ module _ (rules : List Rule) where
       at false = All-push (IsPairOf key) pairs (record { name = name; value = value }) all new
 
   -- ---- the cookies of a cell
-
-  -- a cookie that has a spelling at a place has one at another
-  placed_at : (cell : PlainCell) (place other : ℕ) (cookie : PlainCookie) → other ≤ 255
-      → IsPlaced rules cell place cookie → IsPlaced rules cell other cookie
-  placed_at cell place other cookie low is = (is.0, omega (arith, low), is.2, is.3)
 
   -- a change of a cell puts such a cookie, if any
   abbrev PutsSpelled : PlainCell → CookieRow → Type 0
@@ -115,10 +120,10 @@ module _ (rules : List Rule) where
 
   -- ---- states
 
-  module _ (d : Saved) (spelled : IsSpelledState rules d) where
+  module _ (d : Saved) (spelled : IsMadeBy IsOf d) where
     -- other pairs of one key
     pairs_spelled : (key : PlainKey) (pairs : List Pair) → All (IsPairOf key) pairs
-        → IsSpelledState rules (with_pairs key pairs d)
+        → IsMadeBy IsOf (with_pairs key pairs d)
     pairs_spelled key pairs all = record {
       pairs = λ q. subst (All (IsPairOf q)) (sym (pairs_with q key pairs d)) (at q (eq_by_cmp key_order q key) refl);
       modes = spelled.modes;
@@ -137,7 +142,7 @@ module _ (rules : List Rule) where
 
     -- other cookies in one cell
     cookies_spelled : (cell : PlainCell) (cookies : Cookies) → All (IsCookieOf cell) cookies
-        → IsSpelledState rules (with_cookies cell cookies d)
+        → IsMadeBy IsOf (with_cookies cell cookies d)
     cookies_spelled cell cookies all = record {
       pairs = λ q. subst (All (IsPairOf q)) (sym (with_same_pairs cell q cookies d)) (spelled.pairs q);
       modes = λ q is. spelled.modes q (subst (λ keys. finite.contains_key keys q ≡ true) (same_modes cell cookies) is);
@@ -149,12 +154,12 @@ module _ (rules : List Rule) where
         at q true tie = subst (λ c. All (IsCookieOf c) cookies) (sym (equal_keys q cell tie)) all
         at q false tie = spelled.cookies q
 
-    row_spelled : (cell : PlainCell) (row : CookieRow) → PutsSpelled cell row → IsSpelledState rules (edited_in cell row d)
+    row_spelled : (cell : PlainCell) (row : CookieRow) → PutsSpelled cell row → IsMadeBy IsOf (edited_in cell row d)
     row_spelled cell row new = cookies_spelled cell (row_edit (cookies_at cell d) row)
         (edit_spelled cell (cookies_at cell d) row new (spelled.cookies cell))
 
     -- one more persistent bucket
-    mode_spelled : (key : PlainKey) → IsSpelled rules (SetMode key) → IsSpelledState rules (edited (SetMode key) d)
+    mode_spelled : (key : PlainKey) → IsOf (SetMode key) → IsMadeBy IsOf (edited (SetMode key) d)
     mode_spelled key new = record {
       pairs = spelled.pairs;
       modes = λ q is. at q (eq_by_cmp key_order q key) refl
@@ -165,12 +170,12 @@ module _ (rules : List Rule) where
     }
       where
         at : (q : PlainKey) (b : Bool) → eq_by_cmp key_order q key ≡ b
-            → is_some (cond b (Some tt) (finite.get d.under.persistent q)) ≡ true → IsSpelled rules (SetMode q)
-        at q true tie is = subst (λ k. IsSpelled rules (SetMode k))
+            → is_some (cond b (Some tt) (finite.get d.under.persistent q)) ≡ true → IsOf (SetMode q)
+        at q true tie is = subst (λ k. IsOf (SetMode k))
             (sym (tied key_order key_order_total key_order_same q key tie)) new
         at q false tie is = spelled.modes q is
 
-    grant_spelled : (row : PlainGrant) → IsRowOf row → IsSpelledState rules (edited (Grant row) d)
+    grant_spelled : (row : PlainGrant) → IsRowOf row → IsMadeBy IsOf (edited (Grant row) d)
     grant_spelled row new = record {
       pairs = spelled.pairs;
       modes = spelled.modes;
@@ -179,7 +184,7 @@ module _ (rules : List Rule) where
       grants = kept_spelled row d.under.grants new spelled.grants;
     }
 
-    edited_spelled : (change : PlainChange) → IsSpelled rules change → IsSpelledState rules (edited change d)
+    edited_spelled : (change : PlainChange) → IsOf change → IsMadeBy IsOf (edited change d)
     edited_spelled (AreaPut key name value) is = pairs_spelled key (area_put name value (pairs_at key d))
         (put_spelled key name value (pairs_at key d) is (spelled.pairs key))
     edited_spelled (AreaRemove key name) is = pairs_spelled key _
@@ -187,13 +192,13 @@ module _ (rules : List Rule) where
     edited_spelled (AreaClear key) is = pairs_spelled key [] (All-nil (IsPairOf key))
     edited_spelled (SetMode key) is = mode_spelled key is
     edited_spelled (CookieInsert cell place cookie) is =
-        row_spelled cell (RowInsert place cookie) (placed_at cell place 0 cookie (omega arith) is)
+        row_spelled cell (RowInsert place cookie) (of.place cell place 0 cookie (omega arith) is)
     edited_spelled (CookieReplace cell place cookie) is =
-        row_spelled cell (RowReplace place cookie) (placed_at cell place 0 cookie (omega arith) is)
+        row_spelled cell (RowReplace place cookie) (of.anew cell place cookie is)
     edited_spelled (CookieRemove cell place) is = row_spelled cell (RowRemove place) tt
     edited_spelled (Grant row) is = grant_spelled row is
 
-  nothing_spelled : IsSpelledState rules nothing_saved
+  nothing_spelled : IsMadeBy IsOf nothing_saved
   unfolding nothing_saved no_rows
   nothing_spelled = record {
     pairs = λ key. subst (All (IsPairOf key)) (sym (none_stored key)) (All-nil (IsPairOf key));
@@ -205,17 +210,17 @@ module _ (rules : List Rule) where
   -- ---- what is listed
 
   abbrev IsListed : PlainChange → Type 0
-  IsListed change = IsSpelled rules change
+  IsListed change = IsOf change
 
   cookie_rows_spelled : (cell : PlainCell) (place : ℕ) (cs : Cookies) → place + length cs ≤ 256
       → All (IsCookieOf cell) cs → All IsListed (cookie_rows cell place cs)
   cookie_rows_spelled cell place [] few all = All-nil IsListed
   cookie_rows_spelled cell place (c ∷ cs) few all =
       All-cons IsListed (CookieInsert cell place c) (cookie_rows cell (place + 1) cs)
-      (placed_at cell 0 place c (omega (arith, few)) (All-head (IsCookieOf cell) c cs all))
+      (of.place cell 0 place c (omega (arith, few)) (All-head (IsCookieOf cell) c cs all))
       (cookie_rows_spelled cell (place + 1) cs (omega (arith, few)) (All-tail (IsCookieOf cell) c cs all))
 
-  module _ (d : Saved) (storable : IsStorable d) (spelled : IsSpelledState rules d) where
+  module _ (d : Saved) (storable : IsStorable d) (spelled : IsMadeBy IsOf d) where
     mode_rows_spelled : (key : PlainKey) (b : Bool) → finite.contains_key d.under.persistent key ≡ b
         → All IsListed (mode_rows key b)
     mode_rows_spelled key true is = All-cons IsListed (SetMode key) [] (spelled.modes key is) (All-nil IsListed)
@@ -242,8 +247,34 @@ module _ (rules : List Rule) where
         (each_made IsListed (cell_rows d) (stored_cells d) cell_rows_spelled))
         (All-map IsListed (λ row. Grant row) d.under.grants spelled.grants)
 
+-- ---- those with a spelling, and those with one under the rules of a list
+
+spelled_fields : IsOfFields IsSpelled
+spelled_fields = record {
+  value = λ key name other value more new is. (is.0, is.1, new.2);
+  place = λ cell place other cookie low is. (is.0, omega (arith, low), is.2, is.3);
+  anew = λ cell place cookie is. (is.0, omega arith, is.2, is.3);
+}
+
+under_fields : (rules : List Rule) → IsOfFields (IsSpelledUnder rules)
+under_fields rules = record {
+  value = λ key name other value more new is. (spelled_fields.value key name other value more new.0 is.0, is.1);
+  place = λ cell place other cookie low is. (spelled_fields.place cell place other cookie low is.0, is.1);
+  anew = λ cell place cookie is. (spelled_fields.anew cell place cookie is.0, is.1);
+}
+
 pub edits_keep_spelled : EditsKeepSpelled
-edits_keep_spelled rules = (nothing_spelled rules, λ d change is spelled. edited_spelled rules d spelled change is)
+edits_keep_spelled =
+    (nothing_spelled IsSpelled spelled_fields, λ d change is made. edited_spelled IsSpelled spelled_fields d made change is)
+
+pub edits_keep_spelled_under : EditsKeepSpelledUnder
+edits_keep_spelled_under rules = (
+  nothing_spelled (IsSpelledUnder rules) (under_fields rules),
+  λ d change is made. edited_spelled (IsSpelledUnder rules) (under_fields rules) d made change is,
+)
 
 pub snapshots_are_spelled : SnapshotsAreSpelled
-snapshots_are_spelled rules d storable spelled = listed_spelled rules d storable spelled
+snapshots_are_spelled d storable made = listed_spelled IsSpelled spelled_fields d storable made
+
+pub snapshots_are_spelled_under : SnapshotsAreSpelledUnder
+snapshots_are_spelled_under rules d storable made = listed_spelled (IsSpelledUnder rules) (under_fields rules) d storable made

@@ -64,28 +64,29 @@ put_apart name value pairs apart = at (is_some (area_get name pairs)) refl
         subst (IsDistinct bytes_eq) (sym (map-append name_of pairs (record { name = name; value = value } ∷ [])))
         (IsDistinct-push bytes_equiv (map name_of pairs) name apart new)
 
-left_apart : (test : Pair → Bool) (name : List ℕ) (pairs : List Pair)
-    → AllByRecursion (λ y. bytes_eq name y ≡ false) (map name_of pairs)
-    → AllByRecursion (λ y. bytes_eq name y ≡ false) (map name_of (filter test pairs))
-left_apart test name [] all = tt
-left_apart test name (p ∷ ps) all = at (test p) (left_apart test name ps all.1)
-  where
-    at : (b : Bool) → AllByRecursion (λ y. bytes_eq name y ≡ false) (map name_of (filter test ps))
-        → AllByRecursion (λ y. bytes_eq name y ≡ false) (map name_of (cond b (p ∷ filter test ps) (filter test ps)))
-    at true later = (all.0, later)
-    at false later = later
+-- what a filter keeps has distinct names, whatever is named and however
+module _ {X K : Type 0} (eq : K → K → Bool) (of : X → K) (test : X → Bool) where
+  left_apart : (name : K) (xs : List X) → AllByRecursion (λ y. eq name y ≡ false) (map of xs)
+      → AllByRecursion (λ y. eq name y ≡ false) (map of (filter test xs))
+  left_apart name [] all = tt
+  left_apart name (x ∷ xs) all = at (test x) (left_apart name xs all.1)
+    where
+      at : (b : Bool) → AllByRecursion (λ y. eq name y ≡ false) (map of (filter test xs))
+          → AllByRecursion (λ y. eq name y ≡ false) (map of (cond b (x ∷ filter test xs) (filter test xs)))
+      at true later = (all.0, later)
+      at false later = later
 
-filter_apart : (test : Pair → Bool) (pairs : List Pair) → HasDistinctNames pairs → HasDistinctNames (filter test pairs)
-filter_apart test [] apart = apart
-filter_apart test (p ∷ ps) apart =
-    at (test p) (left_apart test p.name ps (IsDistinct-head bytes_eq p.name (map name_of ps) apart))
-    (filter_apart test ps (IsDistinct-tail bytes_eq p.name (map name_of ps) apart))
-  where
-    at : (b : Bool) → AllByRecursion (λ y. bytes_eq p.name y ≡ false) (map name_of (filter test ps))
-        → HasDistinctNames (filter test ps)
-        → HasDistinctNames (cond b (p ∷ filter test ps) (filter test ps))
-    at true here later = IsDistinct-cons bytes_eq p.name (map name_of (filter test ps)) here later
-    at false here later = later
+  pub filter_apart : (xs : List X) → IsDistinct eq (map of xs) → IsDistinct eq (map of (filter test xs))
+  filter_apart [] apart = apart
+  filter_apart (x ∷ xs) apart =
+      at (test x) (left_apart (of x) xs (IsDistinct-head eq (of x) (map of xs) apart))
+      (filter_apart xs (IsDistinct-tail eq (of x) (map of xs) apart))
+    where
+      at : (b : Bool) → AllByRecursion (λ y. eq (of x) y ≡ false) (map of (filter test xs))
+          → IsDistinct eq (map of (filter test xs))
+          → IsDistinct eq (map of (cond b (x ∷ filter test xs) (filter test xs)))
+      at true here later = IsDistinct-cons eq (of x) (map of (filter test xs)) here later
+      at false here later = later
 
 filter_light : (test : Pair → Bool) (pairs : List Pair) → area_weight (filter test pairs) ≤ area_weight pairs
 filter_light test [] = omega arith
@@ -96,13 +97,13 @@ filter_light test (p ∷ ps) = at (test p) (filter_light test ps)
     at true later = omega (arith, later, sum_by-cons pair_weight p ps, sum_by-cons pair_weight p (filter test ps))
     at false later = omega (arith, later, sum_by-cons pair_weight p ps)
 
-none_apart : HasDistinctNames []
+pub none_apart : HasDistinctNames []
 unfolding IsDistinct
 none_apart = tt
 
 -- ---- the cookies of a cell
 
-no_limit : (k : CellKind) → keeps_limits k [] ≡ true
+pub no_limit : (k : CellKind) → keeps_limits k [] ≡ true
 no_limit kind.Own = refl
 no_limit kind.Partition = refl
 
@@ -204,7 +205,7 @@ edit_storable d (AreaRemove key name) valid storable =
     let lighter = filter_light test (pairs_at key d) in
     let before = storable.weights key in
     pairs_storable (AreaRemove key name) key (area_remove name (pairs_at key d)) d refl valid storable
-    (filter_apart test (pairs_at key d) (storable.names key)) (omega (arith, lighter, before))
+    (filter_apart bytes_eq name_of test (pairs_at key d) (storable.names key)) (omega (arith, lighter, before))
 edit_storable d (AreaClear key) valid storable = pairs_storable (AreaClear key)
     key [] d refl valid storable none_apart (omega arith)
 edit_storable d (SetMode key) valid storable = record {

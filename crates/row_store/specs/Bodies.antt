@@ -2,10 +2,10 @@
 -- Source: none.
 -- Our own choice: a body is read from its front, and a row change that is not valid in the state
 -- before it is a fault at the offset at which it begins. A snapshot is row changes from the empty
--- state, and counts as no durable change.
+-- state, and counts as no durable change. No suffix list is asked: a body means one state, whatever
+-- list it was written under.
 use Rattle.std.specs.Prelude.{◌≡◌, ℕ, ◌+◌, Bool, true, false, List, [], ◌∷◌, if◌then◌else◌}
 use Rattle.std.specs.Prelude.{Result, Ok, Err}
-use Rattle.suffix_list.specs.Suffix.{Rule}
 use Rattle.row_changes.specs.Body.{PlainPiece, Begins, Row, Fault, pieces_of}
 use Rattle.durable_model.specs.Saved.{Saved, nothing_saved}
 use Rattle.durable_model.specs.RowEdits.{edited, is_valid}
@@ -28,14 +28,14 @@ abbrev pub from : Bool → Saved → Saved
 from true d = nothing_saved
 from false d = d
 
--- what a body means under the rules of a list, in a state: a snapshot, or durable changes
-unfoldable pub body_means : List Rule → Saved → (snapshot : Bool) → List ℕ → Result Counted ℕ
-body_means rules d snapshot body = after_pieces (from snapshot d) 0 (pieces_of rules snapshot body)
+-- what a body means in a state: a snapshot, or durable changes
+unfoldable pub body_means : Saved → (snapshot : Bool) → List ℕ → Result Counted ℕ
+body_means d snapshot body = after_pieces (from snapshot d) 0 (pieces_of snapshot body)
 
 -- a body leads from a state to another, by so many durable changes
-abbrev pub Takes : List Rule → Saved → Bool → List ℕ → Saved → ℕ → Type 0
-Takes rules d snapshot body after count = body_means rules d snapshot body ≡ Ok (after, count)
+abbrev pub Takes : Saved → Bool → List ℕ → Saved → ℕ → Type 0
+Takes d snapshot body after count = body_means d snapshot body ≡ Ok (after, count)
 
 -- the first fault of a body is at this offset
-abbrev pub Refuses : List Rule → Saved → Bool → List ℕ → ℕ → Type 0
-Refuses rules d snapshot body offset = body_means rules d snapshot body ≡ Err offset
+abbrev pub Refuses : Saved → Bool → List ℕ → ℕ → Type 0
+Refuses d snapshot body offset = body_means d snapshot body ≡ Err offset

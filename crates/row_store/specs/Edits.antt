@@ -1,6 +1,5 @@
 -- What a private function does to the parts of a durable state.
 use Rattle.std.specs.Prelude.{◌≡◌, ℕ, ◌+◌, ◌≤◌, Bool, List, ◌∷◌, Ok, Err}
-use Rattle.suffix_list.specs.Suffix.{Rule}
 use Rattle.row_changes.specs.Change.{PlainChange}
 use Rattle.row_changes.specs.Body.{PlainPiece}
 use Rattle.row_changes.specs.Laws.{IsSpelledPiece}
@@ -24,13 +23,12 @@ pub record IsUndone (old new : Parts) : Type 0 where
   pub sessions : HasNoSession old.storage → HasNoSession new.storage
 
 -- parts that an agent goes on with: each cell is as it outlives a restart, the durable state is one
--- that was read under the rules of a list, a snapshot can be made of it, and no tab has a session
--- area
-pub record IsStanding (rules : List Rule) (parts : Parts) : Type 0 where
+-- that was read, a snapshot can be made of it, and no tab has a session area
+pub record IsStanding (parts : Parts) : Type 0 where
   pub valid : IsValid (saved_of parts)
-  pub read : IsReadSaved rules (saved_of parts)
+  pub read : IsReadSaved (saved_of parts)
   pub storable : IsStorable (saved_of parts)
-  pub spelled : IsSpelledState rules (saved_of parts)
+  pub spelled : IsSpelledState (saved_of parts)
   pub sessions : HasNoSession parts.storage
 
 -- a piece is taken from the front of others, and so many durable changes begin with it
@@ -38,8 +36,7 @@ pub record IsTaken (piece : PlainPiece) (old new : Parts) (begun : ℕ) : Type 0
   pub after : (count : ℕ) (pieces : List PlainPiece)
       → after_pieces (saved_of old) count (piece ∷ pieces)
       ≡ after_pieces (saved_of new) (count + begun) pieces
-  pub standing : (rules : List Rule) → IsSpelledPiece rules piece
-      → IsStanding rules old → IsStanding rules new
+  pub standing : IsSpelledPiece piece → IsStanding old → IsStanding new
   pub one : begun ≤ 1
 
 -- a piece is the fault of each body that goes on with it from here
@@ -48,9 +45,8 @@ IsFaultAt piece parts at =
     (count : ℕ) (pieces : List PlainPiece)
     → after_pieces (saved_of parts) count (piece ∷ pieces) ≡ Err at
 
--- pieces that were read under the rules of a list were taken to their end, by so many durable
--- changes
-pub record AreTaken (rules : List Rule) (pieces : List PlainPiece) (old new : Parts) (count : ℕ)
+-- pieces were taken to their end, by so many durable changes
+pub record AreTaken (pieces : List PlainPiece) (old new : Parts) (count : ℕ)
     : Type 0 where
   pub after : after_pieces (saved_of old) 0 pieces ≡ Ok (saved_of new, count)
-  pub standing : IsStanding rules old → IsStanding rules new
+  pub standing : IsStanding old → IsStanding new

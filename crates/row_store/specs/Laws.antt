@@ -12,7 +12,7 @@ use Rattle.cookie_jar.specs.Key.{PlainKey as PlainCell}
 use Rattle.cookie_jar.specs.Persistent.{persistent_part}
 use Rattle.access_grants.specs.Grant.{HasDistinctPairs}
 use Rattle.row_changes.specs.Change.{PlainChange, AreaPut, SetMode, CookieInsert, Grant}
-use Rattle.row_changes.specs.Spelled.{IsSpelled}
+use Rattle.row_changes.specs.Spelled.{IsSpelled, IsSpelledUnder}
 use Rattle.row_changes.specs.Body.{changes_bytes, rows_bytes}
 use Rattle.row_changes.specs.Laws.{IsWritable}
 use Rattle.durable_model.specs.Saved.{IsKeptCell, IsValid, Saved, cookies_at, kind_of, nothing_saved}
@@ -30,9 +30,9 @@ AreAllValid d (changes ∷ later) = AreValid d changes × AreAllValid (after_cha
 -- a body of durable changes that have a spelling, and are valid one after another, means the state
 -- after all of them, and as many durable changes as were written
 abbrev pub WrittenBodiesMean : Type 0
-WrittenBodiesMean = (rules : List Rule) (d : Saved) (written : List (List PlainChange))
-    → All (IsWritable rules) written → AreAllValid d written
-    → body_means rules d false (flat_map changes_bytes written)
+WrittenBodiesMean = (d : Saved) (written : List (List PlainChange))
+    → All IsWritable written → AreAllValid d written
+    → body_means d false (flat_map changes_bytes written)
     ≡ Ok (fold after_changes d written, length written)
 
 -- what each state has that row changes lead to: the pairs of an area have distinct names and keep
@@ -54,32 +54,52 @@ EditsKeepStorable =
 
 -- a snapshot of such a state means this state, from whichever state it is read
 abbrev pub SnapshotsMean : Type 0
-SnapshotsMean = (rules : List Rule) (e d : Saved) → IsStorable d
-    → All (IsSpelled rules) (listed d)
-    → body_means rules e true (rows_bytes (listed d)) ≡ Ok (d, 0)
+SnapshotsMean = (e d : Saved) → IsStorable d → All IsSpelled (listed d)
+    → body_means e true (rows_bytes (listed d)) ≡ Ok (d, 0)
 
--- what each state has that row changes with a spelling lead to: of each area, mode, cell and
--- permission, the row changes that make it again have a spelling, whatever place a cookie gets
-pub record IsSpelledState (rules : List Rule) (d : Saved) : Type 0 where
+-- of each area, mode, cell and permission of a state, the row changes that make it again are of a
+-- kind, whatever place a cookie gets
+pub record IsMadeBy (IsOf : PlainChange → Type 0) (d : Saved) : Type 0 where
   pub pairs : (key : PlainKey)
-      → All (λ pair. IsSpelled rules (AreaPut key pair.name pair.value)) (pairs_at key d)
+      → All (λ pair. IsOf (AreaPut key pair.name pair.value)) (pairs_at key d)
   pub modes : (key : PlainKey) → finite.contains_key d.under.persistent key ≡ true
-      → IsSpelled rules (SetMode key)
+      → IsOf (SetMode key)
   pub cookies : (cell : PlainCell)
-      → All (λ cookie. IsSpelled rules (CookieInsert cell 0 cookie)) (cookies_at cell d)
-  pub grants : All (λ row. IsSpelled rules (Grant row)) d.under.grants
+      → All (λ cookie. IsOf (CookieInsert cell 0 cookie)) (cookies_at cell d)
+  pub grants : All (λ row. IsOf (Grant row)) d.under.grants
 
--- the state in which nothing is durable is so, and a row change that has a spelling keeps it
+-- what each state has that row changes with a spelling lead to
+abbrev pub IsSpelledState : Saved → Type 0
+IsSpelledState d = IsMadeBy IsSpelled d
+
+-- what each state has that row changes with a spelling under the rules of a list lead to
+abbrev pub IsSpelledStateUnder : List Rule → Saved → Type 0
+IsSpelledStateUnder rules d = IsMadeBy (IsSpelledUnder rules) d
+
+-- the state in which nothing is durable is made by row changes of a kind, and one more keeps it so
+abbrev pub EditsKeep : (PlainChange → Type 0) → Type 0
+EditsKeep IsOf =
+    IsMadeBy IsOf nothing_saved
+    × ((d : Saved) (change : PlainChange) → IsOf change → IsMadeBy IsOf d
+    → IsMadeBy IsOf (edited change d))
+
+-- so are those with a spelling, and those with one under the rules of a list
 abbrev pub EditsKeepSpelled : Type 0
-EditsKeepSpelled = (rules : List Rule)
-    → IsSpelledState rules nothing_saved
-    × ((d : Saved) (change : PlainChange) → IsSpelled rules change → IsSpelledState rules d
-    → IsSpelledState rules (edited change d))
+EditsKeepSpelled = EditsKeep IsSpelled
 
--- each row change of a snapshot of such a state has a spelling
+abbrev pub EditsKeepSpelledUnder : Type 0
+EditsKeepSpelledUnder = (rules : List Rule) → EditsKeep (IsSpelledUnder rules)
+
+-- each row change of a snapshot of a state is of the kind by which the state is made
+abbrev pub SnapshotsAre : (PlainChange → Type 0) → Type 0
+SnapshotsAre IsOf = (d : Saved) → IsStorable d → IsMadeBy IsOf d → All IsOf (listed d)
+
+-- so each has a spelling, and one under the rules of a list
 abbrev pub SnapshotsAreSpelled : Type 0
-SnapshotsAreSpelled = (rules : List Rule) (d : Saved) → IsStorable d → IsSpelledState rules d
-    → All (IsSpelled rules) (listed d)
+SnapshotsAreSpelled = SnapshotsAre IsSpelled
+
+abbrev pub SnapshotsAreSpelledUnder : Type 0
+SnapshotsAreSpelledUnder = (rules : List Rule) → SnapshotsAre (IsSpelledUnder rules)
 
 -- what outlives a restart of a state has of each cell what outlives one of its cookies
 abbrev pub KeepsEachCell : Type 0

@@ -1,8 +1,7 @@
 -- The durable state that the parts of a store's rows stand for, as contracts see it.
 -- Source: none.
-use Rattle.std.specs.Prelude.{◌≡◌, List}
+use Rattle.std.specs.Prelude.{◌≡◌}
 use Rattle.std.specs.FinMap as finite
-use Rattle.suffix_list.specs.Suffix.{Rule}
 use Rattle.access_grants.specs.Grant.{PlainGrants}
 use Rattle.agent_model.specs.Partition.{Holdings, no_holdings}
 use Rattle.web_storage.specs.Stored as storage
@@ -32,7 +31,6 @@ abbrev pub HasNoSession : storage.Entries → Type 0
 HasNoSession areas =
     (beside : Holdings) → (storage.held_with beside areas).sessions ≡ finite.empty
 
--- what contracts see of rows: the list's rules, and the parts
+-- what contracts see of rows: the parts
 pub record PlainRows : Type 0 where
-  pub rules : List Rule
   pub parts : Parts

@@ -1,11 +1,13 @@
 //! The parts of a durable state, and row changes of them.
-ghost use Rattle.std.specs.Prelude.{◌≡◌, ◌<◌, IfOk, IsOk, None, OnErr, OnOk, length, nat_lt, string_bytes, true};
+ghost use Rattle.std.specs.Prelude.{◌≡◌, ◌<◌, IfOk, IsOk, None, OnErr, OnOk};
+ghost use Rattle.std.specs.Prelude.{length, nat_lt, not, string_bytes, true};
 ghost use Rattle.cookie_jar.specs.Key.{plain_key as plain_cell};
 ghost use Rattle.cookie_jar.specs.Plain.{plain_cookie};
 ghost use Rattle.storage_key.specs.Plain.{plain_key};
 ghost use Rattle.access_grants.specs.Plain.{plain_grant};
 ghost use Rattle.row_changes.specs.Change as plain;
 ghost use Rattle.row_changes.specs.Plain.{plain_change};
+ghost use Rattle.durable_model.specs.Migrate.{migrate, stays_whole};
 ghost use Rattle.durable_model.specs.RowEdits.{is_valid};
 ghost use Rattle.durable_model.specs.Saved.{is_kept_cookie, nothing_saved, pairs_at};
 ghost use Rattle.row_store.specs.Stored.{HasNoSession, saved_of};
@@ -23,6 +25,7 @@ use row_changes::Change;
 use std::alloc::Global;
 use storage_events::AreaKind;
 use storage_key::StorageKey;
+use suffix_list::SuffixList;
 use web_cookies::Cookies;
 use web_storage::Storage;
 
@@ -92,6 +95,18 @@ impl Parts {
             Change::CookieRemove { .. } => Ok(()),
             Change::Grant { .. } => self.grants.reserve(1),
         }
+    }
+
+    // Drops what is none under a list, and tells whether something went.
+    pub(crate) fn migrate(&mut self, list: &SuffixList) -> bool
+        ensures state { saved_of self.new ≡ migrate list.now.rules (saved_of self.old) }
+        ensures went { result ≡ not (stays_whole list.now.rules (saved_of self.old)) }
+        ensures sessions { HasNoSession self.old.storage → HasNoSession self.new.storage }
+    {
+        let areas = self.storage.migrate(list);
+        let cells = self.cookies.migrate(list);
+        let grants = self.grants.migrate(list);
+        areas || cells || grants
     }
 
     fn put(&mut self, key: &StorageKey, name: String, value: String) -> Result<bool, NoMemory>

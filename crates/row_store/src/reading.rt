@@ -14,23 +14,21 @@ use journal::ReplayFault;
 use row_changes::{Piece, Reader, changes_read_back};
 use spelled_model::lines_have_spellings;
 use std::alloc::Global;
-use suffix_list::SuffixList;
 
 /// Reads a body to its end, and answers how many durable changes it has.
 pub fn read_body(
     parts: &mut Parts,
     alloc: Global,
-    list: &SuffixList,
     snapshot: bool,
     body: &[u8],
 ) -> Result<u64, ReplayFault>
-    ensures taken { let pieces = pieces_of list.now.rules snapshot body.now in
-        IfOk result (λ count. AreTaken list.now.rules pieces parts.old parts.new count) }
-    ensures fault { let pieces = pieces_of list.now.rules snapshot body.now in
+    ensures taken { let pieces = pieces_of snapshot body.now in
+        IfOk result (λ count. AreTaken pieces parts.old parts.new count) }
+    ensures fault { let pieces = pieces_of snapshot body.now in
         (at : ℕ) → IsErrOf result (Bad at) → after_pieces (saved_of parts.old) 0 pieces ≡ Err at }
 {
     changes_read_back();
-    let mut reader = Reader::new(list, snapshot, body);
+    let mut reader = Reader::new(snapshot, body);
     let mut count = 0;
     loop {
         match reader.next(alloc) {

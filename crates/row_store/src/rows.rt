@@ -1,14 +1,16 @@
 //! The durable state that frames lead to.
-ghost use Rattle.std.specs.Prelude.{◌≡◌, ◌↔◌, Err, IfOk, IsTrue, OnErr, OnOk, false, map, true};
+ghost use Rattle.std.specs.Prelude.{◌≡◌, ◌↔◌, Err, IfOk, IsTrue, OnErr, OnOk};
+ghost use Rattle.std.specs.Prelude.{false, map, not, true};
 ghost use Rattle.row_changes.specs.Body.{rows_bytes};
 ghost use Rattle.row_changes.specs.Plain.{plain_change};
 ghost use Rattle.row_changes.specs.Spelled.{IsSpelled};
+ghost use Rattle.durable_model.specs.Migrate.{IsUnder, migrate, stays_whole};
 ghost use Rattle.durable_model.specs.RowEdits.{edited, is_valid};
 ghost use Rattle.durable_model.specs.Saved.{IsValid, nothing_saved};
-ghost use Rattle.spelled_model.specs.Rows.{IsReadSaved};
+ghost use Rattle.spelled_model.specs.Rows.{IsReadSaved, IsReadSavedUnder};
 ghost use Rattle.row_store.specs.Applying.{IsReady, PutsNewName};
 ghost use Rattle.row_store.specs.Bodies.{from};
-ghost use Rattle.row_store.specs.Laws.{IsSpelledState, IsStorable};
+ghost use Rattle.row_store.specs.Laws.{IsSpelledState, IsSpelledStateUnder, IsStorable};
 ghost use Rattle.row_store.specs.Listing.{listed};
 ghost use Rattle.row_store.specs.Stored.{HasNoSession, saved_of};
 
@@ -25,33 +27,30 @@ use std::alloc::Global;
 use std::marker::Model;
 use suffix_list::SuffixList;
 
-/// The durable state that the frames of a store lead to, under the rules of a suffix list.
+/// The durable state that the frames of a store lead to.
 #[derive(Debug, Drop)]
-pub struct Rows<'l> {
-    list: &'l SuffixList,
+pub struct Rows {
     alloc: Global,
     parts: Parts,
 }
 
-impl<'l> Model for Rows<'l> {
+impl Model for Rows {
     ghost use Rattle.row_store.specs.Edits.{IsStanding};
     ghost use Rattle.row_store.specs.Stored.{PlainRows};
 
     ghost Value = { PlainRows };
 
-    ghost view = { λ r. record { rules = r.list.now.rules; parts = r.parts } };
+    ghost view = { λ r. record { parts = r.parts } };
 
-    ghost invariant = { λ r. IsStanding r.list.now.rules r.parts };
+    ghost invariant = { λ r. IsStanding r.parts };
 }
 
-impl<'l> Rows<'l> {
-    /// No rows. Frames are read under the rules of this list.
-    pub fn new(alloc: Global, list: &'l SuffixList) -> Rows<'l>
-        ensures rules { result.rules ≡ list.now.rules }
+impl Rows {
+    /// No rows.
+    pub fn new(alloc: Global) -> Rows
         ensures empty { saved_of result.parts ≡ nothing_saved }
     {
         Rows {
-            list,
             alloc,
             parts: Parts::new(alloc),
         }
@@ -66,14 +65,44 @@ impl<'l> Rows<'l> {
 
     /// The parts, for an agent that goes on with them.
     pub fn into_parts(self) -> Parts
-        ensures parts { result ≡ self.entry.parts }
-        ensures valid { IsValid (saved_of self.entry.parts) }
-        ensures read { IsReadSaved self.entry.rules (saved_of self.entry.parts) }
-        ensures storable { IsStorable (saved_of self.entry.parts) }
-        ensures spelled { IsSpelledState self.entry.rules (saved_of self.entry.parts) }
-        ensures sessions { HasNoSession self.entry.parts.storage }
+        ensures parts { result ≡ self.parts }
+        ensures valid { IsValid (saved_of self.parts) }
+        ensures read { IsReadSaved (saved_of self.parts) }
+        ensures storable { IsStorable (saved_of self.parts) }
+        ensures spelled { IsSpelledState (saved_of self.parts) }
+        ensures sessions { HasNoSession self.parts.storage }
     {
         self.parts
+    }
+
+    /// The parts, for an agent that goes on with them under a list. Where all of their state stays
+    /// under it, as after a [`migrate`](Rows::migrate), it is one that was read under it, and the
+    /// row changes that make it again have a spelling under it.
+    pub fn into_parts_under(self, list: &SuffixList) -> Parts
+        ensures parts { result ≡ self.parts }
+        ensures valid { IsValid (saved_of self.parts) }
+        ensures read { IsReadSaved (saved_of self.parts) }
+        ensures storable { IsStorable (saved_of self.parts) }
+        ensures spelled { IsSpelledState (saved_of self.parts) }
+        ensures sessions { HasNoSession self.parts.storage }
+        ensures read_under { IsUnder list.now.rules (saved_of self.parts)
+            → IsReadSavedUnder list.now.rules (saved_of self.parts) }
+        ensures spelled_under { IsUnder list.now.rules (saved_of self.parts)
+            → IsSpelledStateUnder list.now.rules (saved_of self.parts) }
+    {
+        lines_have_spellings();
+        let _ = list;
+        self.parts
+    }
+
+    /// Drops what of the rows is none under a list, and tells whether something went. What stays is
+    /// as it was. Takes no memory.
+    pub fn migrate(&mut self, list: &SuffixList) -> bool
+        ensures state { let saved = saved_of self.old.parts in
+            saved_of self.new.parts ≡ migrate list.now.rules saved }
+        ensures went { result ≡ not (stays_whole list.now.rules (saved_of self.old.parts)) }
+    {
+        self.parts.migrate(list)
     }
 
     /// The row changes of a snapshot, in the order in which they are written.
@@ -92,16 +121,16 @@ impl<'l> Rows<'l> {
         self.parts.snapshot(alloc)
     }
 
-    /// Whether a row change has a spelling under the list's rules: what its own fields decide, and
-    /// nothing of the state.
+    /// Whether a row change has a spelling: what its own fields decide, and nothing of the state or
+    /// of a suffix list.
     ///
     /// It writes the row change and reads it back, in memory of its own. A text of 4 GiB or more is
     /// answered as want of memory.
     pub fn has_spelling(&self, change: &Change) -> Result<bool, NoMemory>
         ensures spelled { IfOk result
-            (λ is. IsTrue is ↔ IsSpelled self.now.rules (plain_change change.now)) }
+            (λ is. IsTrue is ↔ IsSpelled (plain_change change.now)) }
     {
-        has_spelling(self.alloc, self.list, change)
+        has_spelling(self.alloc, change)
     }
 
     /// Makes room for a row change, so that applying it takes no memory, but for a new name of an
@@ -109,17 +138,16 @@ impl<'l> Rows<'l> {
     pub fn reserve(&mut self, change: &Change) -> Result<(), NoMemory>
         ensures ready { OnOk result (IsReady change.now self.new.parts) }
         ensures same { saved_of self.new.parts ≡ saved_of self.old.parts }
-        ensures rules { self.new.rules ≡ self.old.rules }
     {
         self.parts.reserve(self.alloc, change)
     }
 
-    /// Applies a row change that has a spelling under the list's rules, where it is valid in the
-    /// state. A refusal leaves the state.
+    /// Applies a row change that has a spelling, where it is valid in the state. A refusal leaves
+    /// the state.
     ///
     /// Without room for a row change, want of memory may come first.
     pub fn apply(&mut self, change: Change) -> Result<(), RowFault>
-        requires spelled { IsSpelled self.old.rules (plain_change change) }
+        requires spelled { IsSpelled (plain_change change) }
         ensures applied { let state = edited (plain_change change) (saved_of self.old.parts) in
             OnOk result (saved_of self.new.parts ≡ state) }
         ensures valid { let valid = is_valid (plain_change change) (saved_of self.old.parts) in
@@ -131,7 +159,6 @@ impl<'l> Rows<'l> {
         ensures unchanged { OnErr result (saved_of self.new.parts ≡ saved_of self.old.parts) }
         ensures memory { IsReady change self.old.parts → result ≡ Err RowFault.NoMemory
             → PutsNewName (plain_change change) (saved_of self.old.parts) }
-        ensures rules { self.new.rules ≡ self.old.rules }
     {
         lines_keep_durable_states();
         lines_have_spellings();
@@ -145,7 +172,6 @@ impl<'l> Rows<'l> {
     // Stands for the state from which a frame of this kind is read.
     fn begin_frame(&mut self, snapshot: bool)
         ensures saved { saved_of self.new.parts ≡ from snapshot (saved_of self.old.parts) }
-        ensures rules { self.new.rules ≡ self.old.rules }
     {
         if snapshot {
             self.begin();
@@ -153,14 +179,10 @@ impl<'l> Rows<'l> {
     }
 }
 
-impl<'l> Replay for Rows<'l> {
-    ghost use Rattle.std.proofs.Common.{ap, inl, inr, refl, subst, sym, ◌∙◌};
-    ghost use Rattle.std.specs.Prelude.{◌≡◌, ◌⊎◌, ⊤, ℕ, Err, List, MatchResult, Ok, Result};
-    ghost use Rattle.std.specs.Prelude.{unwrap_or};
-    ghost use Rattle.std.specs.Result.{result_err, result_unwrap_or};
-    ghost use Rattle.suffix_list.specs.Suffix.{Rule};
+impl Replay for Rows {
     ghost use Rattle.durable_model.specs.Saved.{Saved, nothing_saved};
-    ghost use Rattle.row_store.specs.Bodies.{Counted, Refuses, Takes, body_means};
+    ghost use Rattle.row_store.specs.Bodies.{Refuses, Takes};
+    ghost use Rattle.row_store.specs.OneMeaning as meant;
     ghost use Rattle.row_store.specs.Stored.{saved_of};
 
     ghost State = { Saved };
@@ -169,33 +191,23 @@ impl<'l> Replay for Rows<'l> {
 
     ghost empty = { nothing_saved };
 
-    ghost Rules = { List Rule };
+    ghost Rules = { Unit {0} };
 
-    ghost rules = { λ r. r.rules };
+    ghost rules = { λ r. tt };
 
-    ghost takes = { Takes };
+    ghost takes = { λ by. Takes };
 
-    ghost refuses = { Refuses };
+    ghost refuses = { λ by. Refuses };
 
-    ghost one_state = { λ by s kind body t u m n one two.
-        ap (λ (r : Result Counted ℕ). (result_unwrap_or r (t, m)).0) (sym one ∙ two) };
+    ghost one_state = { λ by. meant.one_state };
 
-    ghost one_count = { λ by s kind body t u m n one two.
-        ap (λ (r : Result Counted ℕ). (result_unwrap_or r (t, m)).1) (sym one ∙ two) };
+    ghost one_count = { λ by. meant.one_count };
 
-    ghost one_fault = { λ by s kind body o p one two.
-        ap (λ r. unwrap_or (result_err r) o) (sym one ∙ two) };
+    ghost one_fault = { λ by. meant.one_fault };
 
-    ghost apart = { λ by s kind body t n o took refused.
-        subst (λ r. MatchResult r (λ _. ⊤) (λ _. ⊥)) (sym took ∙ refused) tt };
+    ghost apart = { λ by. meant.apart };
 
-    ghost either = { λ by s kind body.
-        (elim (body_means by s kind body) as (λ (r : Result Counted ℕ).
-        body_means by s kind body ≡ r → ((t : Saved) × (n : ℕ) × Takes by s kind body t n)
-        ⊎ ((o : ℕ) × Refuses by s kind body o)) [
-          | Ok read ↦ λ is. inl (read.0, read.1, is)
-          | Err offset ↦ λ is. inr (offset, is)
-        ]) refl };
+    ghost either = { λ by. meant.either };
 
     fn begin(&mut self) {
         self.parts = Parts::new(self.alloc);
@@ -203,7 +215,7 @@ impl<'l> Replay for Rows<'l> {
 
     fn frame(&mut self, snapshot: bool, body: &[u8]) -> Result<u64, ReplayFault> {
         self.begin_frame(snapshot);
-        let read = read_body(&mut self.parts, self.alloc, self.list, snapshot, body);
+        let read = read_body(&mut self.parts, self.alloc, snapshot, body);
         if read.is_err() {
             self.parts = Parts::new(self.alloc);
         }

@@ -1,13 +1,12 @@
 //! The conditions on the state, each just inside and just outside. The row change that is tested is
 //! the last of a body, so that its offset is the length of the body without it.
-use crate::applying::{applied, apply, is_as_taken, taken};
+use crate::applying::{applied, apply, change_by, is_as_taken, taken};
 use crate::bodies::Edit::{Clear, Insert, Mode, Numbered, Put, Remove, Replace, TakeOut, Weigh};
-use crate::bodies::{Edit, front_of, list_of, put, snapshot_of};
+use crate::bodies::{Edit, front_of, put, snapshot_of};
 use journal::ReplayFault;
 use row_store::RowFault;
 use std::alloc::Global;
 use std::test::Fail;
-use suffix_list::SuffixList;
 
 /// Row changes that are done, the last one, and whether it is valid behind them.
 #[derive(Clone, Copy)]
@@ -204,7 +203,7 @@ const CASES: &[Case] = &[
 ];
 
 // Whether the last row change is taken, or is a fault where it begins.
-fn is_answered(alloc: Global, list: &SuffixList, case: &Case) -> Result<bool, Fail> {
+fn is_answered(alloc: Global, case: &Case) -> Result<bool, Fail> {
     let mut body = front_of(alloc, case.done.len() + 1, case.done)?;
     let offset = body.len() as u64;
     put(&mut body, case.last)?;
@@ -213,15 +212,14 @@ fn is_answered(alloc: Global, list: &SuffixList, case: &Case) -> Result<bool, Fa
     } else {
         Err(ReplayFault::Bad(offset))
     };
-    Ok(taken(alloc, list, false, body.as_slice()) == wanted)
+    Ok(taken(alloc, false, body.as_slice()) == wanted)
 }
 
 #[test]
 fn a_row_change_is_valid_by_the_state(rt: HostRuntime) -> Result<(), Fail> {
     let alloc = rt.alloc();
-    let list = list_of(alloc, b"")?;
     for case in CASES {
-        assert!(rt; is_answered(alloc, &list, case)?, "{}", case.name);
+        assert!(rt; is_answered(alloc, case)?, "{}", case.name);
     }
     Ok(())
 }
@@ -236,25 +234,24 @@ fn left_by(alloc: Global, case: &Case) -> Result<Vec<u8>, Fail> {
 }
 
 // Whether the last row change by itself is applied, or is not valid and leaves the state.
-fn is_applied(alloc: Global, list: &SuffixList, case: &Case) -> Result<bool, Fail> {
-    let mut rows = applied(alloc, list, case.done)?;
+fn is_applied(alloc: Global, case: &Case) -> Result<bool, Fail> {
+    let mut rows = applied(alloc, case.done)?;
     let wanted = if case.valid {
         Ok(())
     } else {
         Err(RowFault::Invalid)
     };
-    if apply(alloc, list, &mut rows, case.last)? != wanted {
+    if apply(&mut rows, change_by(alloc, case.last)?)? != wanted {
         return Ok(false);
     }
-    is_as_taken(alloc, list, &rows, &left_by(alloc, case)?)
+    is_as_taken(alloc, &rows, &left_by(alloc, case)?)
 }
 
 #[test]
 fn a_row_change_by_itself_is_valid_by_the_state(rt: HostRuntime) -> Result<(), Fail> {
     let alloc = rt.alloc();
-    let list = list_of(alloc, b"")?;
     for case in CASES {
-        assert!(rt; is_applied(alloc, &list, case)?, "{}", case.name);
+        assert!(rt; is_applied(alloc, case)?, "{}", case.name);
     }
     Ok(())
 }
@@ -269,25 +266,19 @@ fn rows_of_cookies(alloc: Global, partitioned: bool, count: u8) -> Result<Vec<u8
 }
 
 // Whether so many cookies are a snapshot, and one more is a fault where it begins.
-fn is_filled_by(
-    alloc: Global,
-    list: &SuffixList,
-    partitioned: bool,
-    count: u8,
-) -> Result<bool, Fail> {
+fn is_filled_by(alloc: Global, partitioned: bool, count: u8) -> Result<bool, Fail> {
     let mut body = rows_of_cookies(alloc, partitioned, count)?;
     let offset = body.len() as u64;
-    let full = taken(alloc, list, true, body.as_slice());
+    let full = taken(alloc, true, body.as_slice());
     put(&mut body, Numbered(partitioned, count))?;
-    let past = taken(alloc, list, true, body.as_slice());
+    let past = taken(alloc, true, body.as_slice());
     Ok(full == Ok(0) && past == Err(ReplayFault::Bad(offset)))
 }
 
 #[test]
 fn a_cell_holds_180_cookies(rt: HostRuntime) -> Result<(), Fail> {
     let alloc = rt.alloc();
-    let list = list_of(alloc, b"")?;
-    assert!(rt; is_filled_by(alloc, &list, false, 180)?);
-    assert!(rt; is_filled_by(alloc, &list, true, 180)?);
+    assert!(rt; is_filled_by(alloc, false, 180)?);
+    assert!(rt; is_filled_by(alloc, true, 180)?);
     Ok(())
 }

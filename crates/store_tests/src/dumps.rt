@@ -4,7 +4,7 @@ use crate::bodies::{Edit, change_of, list_of};
 use File::{Cut, Empty, Store};
 use Printed::{Lines, Text};
 use agent_base::MemSink;
-use disk_model::MemDisk;
+use disk_model::{Disk, MemDisk};
 use journal::OpenFault;
 use std::alloc::Global;
 use std::test::Fail;
@@ -133,10 +133,11 @@ const CASES: &[Case] = &[
     },
 ];
 
-// A store of one frame of changes, field by field.
-fn store_of(alloc: Global, digest: &[u8; 32], body: &[u8]) -> Result<Vec<u8>, Fail> {
+// A store of a version with one frame of changes, field by field.
+fn store_of(alloc: Global, version: u8, digest: &[u8; 32], body: &[u8]) -> Result<Vec<u8>, Fail> {
     let mut store = Vec::new(alloc);
-    store.extend_from_slice(b"\x01PBSTORE\x01\0\0\0")?;
+    store.extend_from_slice(b"\x01PBSTORE")?;
+    store.extend_from_slice(&[version, 0, 0, 0])?;
     store.extend_from_slice(digest)?;
     store.extend_from_slice(b"\x01\x01\0\0\0\0\0\0\0\x80\0\0\0\0\0\0\0")?;
     store.extend_from_slice(&[0; 67])?;
@@ -147,18 +148,18 @@ fn store_of(alloc: Global, digest: &[u8; 32], body: &[u8]) -> Result<Vec<u8>, Fa
     Ok(store)
 }
 
-fn store_with(alloc: Global, edits: &[Edit]) -> Result<Vec<u8>, Fail> {
+fn store_with(alloc: Global, version: u8, edits: &[Edit]) -> Result<Vec<u8>, Fail> {
     let list = list_of(alloc, b"")?;
     let body = change_of(alloc, edits)?;
-    store_of(alloc, &list.digest(), body.as_slice())
+    store_of(alloc, version, &list.digest(), body.as_slice())
 }
 
 fn bytes_of(alloc: Global, file: File) -> Result<Vec<u8>, Fail> {
     match file {
         Empty => Ok(Vec::new(alloc)),
-        Store(edits) => store_with(alloc, edits),
+        Store(edits) => store_with(alloc, 1, edits),
         Cut(edits) => {
-            let mut bytes = store_with(alloc, edits)?;
+            let mut bytes = store_with(alloc, 1, edits)?;
             bytes.truncate(100);
             Ok(bytes)
         }
@@ -201,7 +202,30 @@ fn dumps_end_and_print(rt: HostRuntime) -> Result<(), Fail> {
 
 #[test]
 fn the_worked_store_has_199_bytes(rt: HostRuntime) -> Result<(), Fail> {
-    let file = store_with(rt.alloc(), &[Put("k", "v")])?;
+    let file = store_with(rt.alloc(), 1, &[Put("k", "v")])?;
     assert_eq!(rt; file.len(), 199);
+    Ok(())
+}
+
+// All bytes of a disk.
+fn held(alloc: Global, disk: &mut MemDisk) -> Result<Vec<u8>, Fail> {
+    let mut bytes = Vec::new(alloc);
+    let Ok(len) = disk.len() else {
+        return Ok(bytes);
+    };
+    bytes.resize(len as usize, 0)?;
+    let _ = disk.read_at(0, &mut bytes);
+    Ok(bytes)
+}
+
+#[test]
+fn a_dump_leaves_the_worked_store_of_version_2(rt: HostRuntime) -> Result<(), Fail> {
+    let alloc = rt.alloc();
+    let list = list_of(alloc, b"")?;
+    let mut disk = disk_of(alloc, Store(&[Put("k", "v")]))?;
+    let mut out = MemSink::new(alloc, 4_096, Vec::new(alloc))?;
+    assert!(rt; dump(alloc, &mut disk, &list, &mut out) == Ok(()));
+    let wanted = store_with(alloc, 2, &[Put("k", "v")])?;
+    assert!(rt; held(alloc, &mut disk)?.as_slice() == wanted.as_slice());
     Ok(())
 }

@@ -1,13 +1,12 @@
 //! Frames one after another: what they lead to, and their first faults.
 use crate::applying::{applied, is_as_taken, taken};
 use crate::bodies::Edit::{Clear, Grant, Insert, Mode, Put, Remove, Replace, TakeOut};
-use crate::bodies::{Edit, change_of, list_of, snapshot_of};
+use crate::bodies::{Edit, change_of, snapshot_of};
 use Body::{Change, Empty, Snapshot, Two, Worked};
 use journal::{Replay, ReplayFault};
 use row_store::Rows;
 use std::alloc::Global;
 use std::test::Fail;
-use suffix_list::SuffixList;
 
 /// The worked body of one pair: 52 bytes.
 const WORKED: &[u8] = b"\x01\x00\x00\x00\
@@ -165,16 +164,12 @@ fn body_of(alloc: Global, body: Body) -> Result<Vec<u8>, Fail> {
 }
 
 // What rows answer to a frame.
-fn answer(
-    alloc: Global,
-    rows: &mut Rows<'_>,
-    body: Body,
-) -> Result<Result<u64, ReplayFault>, Fail> {
+fn answer(alloc: Global, rows: &mut Rows, body: Body) -> Result<Result<u64, ReplayFault>, Fail> {
     let bytes = body_of(alloc, body)?;
     Ok(rows.frame(matches!(body, Snapshot(_)), bytes.as_slice()))
 }
 
-fn is_done(alloc: Global, rows: &mut Rows<'_>, step: Step) -> Result<bool, Fail> {
+fn is_done(alloc: Global, rows: &mut Rows, step: Step) -> Result<bool, Fail> {
     match step {
         Step::Taken(body, changes) => Ok(answer(alloc, rows, body)? == Ok(changes)),
         Step::Refused(body, offset) => {
@@ -187,8 +182,8 @@ fn is_done(alloc: Global, rows: &mut Rows<'_>, step: Step) -> Result<bool, Fail>
     }
 }
 
-fn are_done(alloc: Global, list: &SuffixList, steps: &[Step]) -> Result<bool, Fail> {
-    let mut rows = Rows::new(alloc, list);
+fn are_done(alloc: Global, steps: &[Step]) -> Result<bool, Fail> {
+    let mut rows = Rows::new(alloc);
     for step in steps {
         if !is_done(alloc, &mut rows, *step)? {
             return Ok(false);
@@ -200,37 +195,31 @@ fn are_done(alloc: Global, list: &SuffixList, steps: &[Step]) -> Result<bool, Fa
 #[test]
 fn frames_one_after_another(rt: HostRuntime) -> Result<(), Fail> {
     let alloc = rt.alloc();
-    let list = list_of(alloc, b"")?;
     for course in COURSES {
-        assert!(rt; are_done(alloc, &list, course.steps)?, "{}", course.name);
+        assert!(rt; are_done(alloc, course.steps)?, "{}", course.name);
     }
     Ok(())
 }
 
 // Whether a frame of row changes is taken as one durable change.
-fn is_taken(alloc: Global, list: &SuffixList, edits: &[Edit]) -> Result<bool, Fail> {
+fn is_taken(alloc: Global, edits: &[Edit]) -> Result<bool, Fail> {
     let body = change_of(alloc, edits)?;
-    Ok(taken(alloc, list, false, body.as_slice()) == Ok(1))
+    Ok(taken(alloc, false, body.as_slice()) == Ok(1))
 }
 
 // Whether row changes by themselves lead to what a frame of them leads to.
-fn are_applied(alloc: Global, list: &SuffixList, edits: &[Edit]) -> Result<bool, Fail> {
-    let rows = applied(alloc, list, edits)?;
+fn are_applied(alloc: Global, edits: &[Edit]) -> Result<bool, Fail> {
+    let rows = applied(alloc, edits)?;
     let body = snapshot_of(alloc, edits)?;
-    is_as_taken(alloc, list, &rows, body.as_slice())
+    is_as_taken(alloc, &rows, body.as_slice())
 }
 
 #[test]
 fn each_kind_is_taken_and_applied_by_itself(rt: HostRuntime) -> Result<(), Fail> {
     let alloc = rt.alloc();
-    let list = list_of(alloc, b"")?;
     for case in CASES {
-        assert!(rt; is_taken(alloc, &list, case.edits)?, "{}", case.name);
-        assert!(rt;
-            are_applied(alloc, &list, case.edits)?,
-            "{}, by itself",
-            case.name
-        );
+        assert!(rt; is_taken(alloc, case.edits)?, "{}", case.name);
+        assert!(rt; are_applied(alloc, case.edits)?, "{}, by itself", case.name);
     }
     Ok(())
 }

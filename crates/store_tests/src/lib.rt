@@ -15,4 +15,6 @@ mod dumps;
 #[cfg(test)]
 mod frames;
 #[cfg(test)]
+mod lists;
+#[cfg(test)]
 mod spellings;

@@ -1,7 +1,6 @@
 //! The conditions on the fields of a row change by itself, each just inside and just outside.
 use crate::applying::change_by;
 use crate::bodies::Edit::Insert;
-use crate::bodies::list_of;
 use Fields::{Key, Own, Partition, Permission};
 use Flaw::{Domain, Letters, NoExpiry, NotSecure, Nothing, Path, Used};
 use access_grants::GrantRow;
@@ -13,11 +12,10 @@ use std::alloc::Global;
 use std::rc::Rc;
 use std::test::Fail;
 use storage_key::StorageKey;
-use suffix_list::SuffixList;
 
 /// What is unlike in a Secure cookie of the path `/`.
 #[derive(Clone, Copy, PartialEq, Eq)]
-enum Flaw {
+pub enum Flaw {
     Nothing,
     /// The name is empty, and the value has so many letters.
     Letters(u32),
@@ -60,7 +58,7 @@ const CASES: &[Case] = &[
     Case {
         name: "the bit clear under another site",
         fields: Key("https://a.test/", "https://b.test", false),
-        spelled: false,
+        spelled: true,
     },
     Case {
         name: "the bit set under another site",
@@ -70,7 +68,7 @@ const CASES: &[Case] = &[
     Case {
         name: "a host below its domain as a top-level site",
         fields: Key("https://a.test/", "https://x.b.test", true),
-        spelled: false,
+        spelled: true,
     },
     Case {
         name: "the cell of a domain",
@@ -80,6 +78,16 @@ const CASES: &[Case] = &[
     Case {
         name: "the cell of a host below its domain",
         fields: Own("x.a.test"),
+        spelled: true,
+    },
+    Case {
+        name: "the cell of a text that is no host",
+        fields: Own("A.test"),
+        spelled: false,
+    },
+    Case {
+        name: "the cell of a host with a port",
+        fields: Own("a.test:80"),
         spelled: false,
     },
     Case {
@@ -90,11 +98,16 @@ const CASES: &[Case] = &[
     Case {
         name: "a partition of a host below its domain",
         fields: Partition("https://a.test", "x.w.test"),
-        spelled: false,
+        spelled: true,
     },
     Case {
         name: "a partition under a host below its domain",
         fields: Partition("https://x.a.test", "w.test"),
+        spelled: true,
+    },
+    Case {
+        name: "a partition of a text that is no host",
+        fields: Partition("https://a.test", ""),
         spelled: false,
     },
     Case {
@@ -110,6 +123,11 @@ const CASES: &[Case] = &[
     Case {
         name: "a cookie of another domain",
         fields: Fields::Cookie(false, Domain("b.test")),
+        spelled: true,
+    },
+    Case {
+        name: "a cookie of a text that is no host",
+        fields: Fields::Cookie(false, Domain("A.test")),
         spelled: false,
     },
     Case {
@@ -192,8 +210,8 @@ fn letters(alloc: Global, count: u32) -> Result<String, Fail> {
     Ok(text)
 }
 
-// The cookie with what is unlike.
-fn with_flaw(alloc: Global, cookie: &Cookie, flaw: Flaw) -> Result<Cookie, Fail> {
+/// The cookie with what is unlike.
+pub fn with_flaw(alloc: Global, cookie: &Cookie, flaw: Flaw) -> Result<Cookie, Fail> {
     let count = if let Letters(count) = flaw { count } else { 1 };
     let path = if let Path(path) = flaw { path } else { "/" };
     let domain = match flaw {
@@ -218,13 +236,8 @@ fn with_flaw(alloc: Global, cookie: &Cookie, flaw: Flaw) -> Result<Cookie, Fail>
     })
 }
 
-fn cookie_with(
-    alloc: Global,
-    list: &SuffixList,
-    partitioned: bool,
-    flaw: Flaw,
-) -> Result<Change, Fail> {
-    match change_by(alloc, list, Insert(partitioned, 0, "n", 1))? {
+fn cookie_with(alloc: Global, partitioned: bool, flaw: Flaw) -> Result<Change, Fail> {
+    match change_by(alloc, Insert(partitioned, 0, "n", 1))? {
         Change::CookieInsert {
             cell,
             place,
@@ -250,15 +263,15 @@ fn removal_under(alloc: Global, top: &str, domain: &str) -> Result<Change, Fail>
     }))
 }
 
-fn clear_of(alloc: Global, address: &str, top: &str, bit: bool) -> Result<Change, Fail> {
+/// The key of an address under a top-level site, with a bit.
+pub fn key_of(alloc: Global, address: &str, top: &str, bit: bool) -> Result<StorageKey, Fail> {
     let top = Site::read(alloc, top)?;
     let origin = Address::read(alloc, address)?.origin(alloc)?;
-    Ok(Change::AreaClear {
-        key: StorageKey { top, origin, bit },
-    })
+    Ok(StorageKey { top, origin, bit })
 }
 
-fn grant_of(alloc: Global, top: &str, site: &str) -> Result<Change, Fail> {
+/// A permission under a top-level site for an embedded one.
+pub fn grant_of(alloc: Global, top: &str, site: &str) -> Result<Change, Fail> {
     Ok(Change::Grant {
         row: GrantRow {
             top: Site::read(alloc, top)?,
@@ -269,45 +282,32 @@ fn grant_of(alloc: Global, top: &str, site: &str) -> Result<Change, Fail> {
     })
 }
 
-fn change_with(alloc: Global, list: &SuffixList, fields: Fields) -> Result<Change, Fail> {
+fn change_with(alloc: Global, fields: Fields) -> Result<Change, Fail> {
     match fields {
-        Key(address, top, bit) => clear_of(alloc, address, top, bit),
+        Key(address, top, bit) => Ok(Change::AreaClear {
+            key: key_of(alloc, address, top, bit)?,
+        }),
         Own(domain) => Ok(removal(CellKey::Own {
             domain: String::from_str(alloc, domain)?,
         })),
         Partition(top, domain) => removal_under(alloc, top, domain),
-        Fields::Cookie(partitioned, flaw) => cookie_with(alloc, list, partitioned, flaw),
+        Fields::Cookie(partitioned, flaw) => cookie_with(alloc, partitioned, flaw),
         Permission(top, site) => grant_of(alloc, top, site),
     }
 }
 
 // Whether a row change has a spelling.
-fn is_spelled(alloc: Global, list: &SuffixList, fields: Fields) -> Result<bool, Fail> {
-    let change = change_with(alloc, list, fields)?;
-    Ok(Rows::new(alloc, list).has_spelling(&change)?)
+fn is_spelled(alloc: Global, fields: Fields) -> Result<bool, Fail> {
+    let change = change_with(alloc, fields)?;
+    Ok(Rows::new(alloc).has_spelling(&change)?)
 }
 
 #[test]
 fn a_row_change_has_a_spelling_by_its_own_fields(rt: HostRuntime) -> Result<(), Fail> {
     let alloc = rt.alloc();
-    let list = list_of(alloc, b"")?;
     for case in CASES {
-        let spelled = is_spelled(alloc, &list, case.fields)?;
+        let spelled = is_spelled(alloc, case.fields)?;
         assert!(rt; spelled == case.spelled, "{}", case.name);
     }
-    Ok(())
-}
-
-// Whether the cell of `x.a.test` has a spelling under the list that a text is.
-fn is_cell(alloc: Global, text: &str) -> Result<bool, Fail> {
-    let list = list_of(alloc, text.as_bytes())?;
-    is_spelled(alloc, &list, Own("x.a.test"))
-}
-
-#[test]
-fn a_cell_is_named_by_the_list(rt: HostRuntime) -> Result<(), Fail> {
-    let alloc = rt.alloc();
-    assert!(rt; !is_cell(alloc, "")?);
-    assert!(rt; is_cell(alloc, "a.test")?);
     Ok(())
 }

@@ -13,28 +13,27 @@ use Rattle.row_store.proofs.reading.read_body.Goals as goal
 pub loop-piece-init : goal.loop-piece-init
 loop-piece-init c = record {
   after = ap (after_pieces (saved_of c.args.parts.now) 0) (sym c.new-reader.ensures.pieces);
-  spelled = subst (All (IsSpelledPiece c.args.list.now.rules)) (sym c.new-reader.ensures.pieces)
-      (c.changes_read_back.ensures.spelled c.args.list.now.rules c.args.snapshot c.args.body.now (λ i. omega (arith, c.type_inv.body i)));
+  spelled = subst (All IsSpelledPiece) (sym c.new-reader.ensures.pieces)
+      (c.changes_read_back.ensures.spelled c.args.snapshot c.args.body.now (λ i. omega (arith, c.type_inv.body i)));
   standing = λ s. s;
   few = subst (λ pieces. 0 + length pieces ≤ length c.args.body.now + 1) (sym c.new-reader.ensures.pieces)
-      (let few = few_pieces c.args.list.now.rules c.args.snapshot c.args.body.now in omega (arith, few));
+      (let few = few_pieces c.args.snapshot c.args.body.now in omega (arith, few));
 }
 
 pub loop-piece-preserved : goal.loop-piece-preserved
 loop-piece-preserved c =
     let here = c.loop-piece.invariant in
     let count = c.loop-piece.count in
-    let by = c.args.list.now.rules in
     let rest = drop 1 c.loop-piece.reader in
     let is = first_piece c.loop-piece.reader (ap (option_map plain_piece) (sym c.in-Ok-Some.field-0-is) ∙ c.in-Ok-Some.ensures.piece) in
     let taken = c.in_ok-count-in-Ok-Some.ensures.taken in
-    let spelled = subst (All (IsSpelledPiece by)) is here.spelled in
+    let spelled = subst (All IsSpelledPiece) is here.spelled in
     let left = sym c.in-Ok-Some.ensures.rest in
     record {
       after = here.after ∙ ap (after_pieces (saved_of c.loop-piece.parts) count) is ∙ taken.after count rest
           ∙ ap (after_pieces (saved_of c.take.new.parts) (count + c.in_ok-count-in-Ok-Some.field-0)) left;
-      spelled = subst (All (IsSpelledPiece by)) left (All-tail (IsSpelledPiece by) _ rest spelled);
-      standing = λ s. taken.standing by (All-head (IsSpelledPiece by) _ rest spelled) (here.standing s);
+      spelled = subst (All IsSpelledPiece) left (All-tail IsSpelledPiece _ rest spelled);
+      standing = λ s. taken.standing (All-head IsSpelledPiece _ rest spelled) (here.standing s);
       few = omega (arith, here.few, ap length is, ap length left, taken.one);
     }
 

@@ -9,10 +9,10 @@ use Rattle.row_store.proofs.reading.read_body.Given as goal
 
 abbrev pub invariant-loop-piece : goal.invariant-loop-piece
 invariant-loop-piece l = record {
-  after : after_pieces (saved_of l.fn.parts) 0 (pieces_of l.list.rules l.snapshot l.body)
+  after : after_pieces (saved_of l.fn.parts) 0 (pieces_of l.snapshot l.body)
       ≡ after_pieces (saved_of l.parts) l.count l.reader;
-  spelled : All (IsSpelledPiece l.list.rules) l.reader;
-  standing : IsStanding l.list.rules l.fn.parts → IsStanding l.list.rules l.parts;
+  spelled : All IsSpelledPiece l.reader;
+  standing : IsStanding l.fn.parts → IsStanding l.parts;
   few : l.count + length l.reader ≤ length l.body + 1;
 }
 

@@ -1,0 +1,6 @@
+pub mod Steps
+mod Leaves
+mod Rewrites
+pub mod Openings
+pub mod Calls
+mod Under

@@ -15,7 +15,7 @@ use Rattle.row_changes.specs.Appended.{HasTexts}
 use Rattle.row_changes.specs.Body.{changes_bytes, rows_bytes}
 use Rattle.row_changes.specs.Change.{PlainChange}
 use Rattle.row_changes.specs.Laws.{IsWritable}
-use Rattle.row_changes.specs.Spelled.{IsSpelled}
+use Rattle.row_changes.specs.Spelled.{IsSpelledUnder}
 use Rattle.agent_model.specs.Lines.{AgentWorld, SiteOccurrence, main_event}
 use Rattle.agent_model.specs.TheMachine.{machine}
 use Rattle.durable_model.specs.RowEdits.{AllAreValid, after_all, after_changes}
@@ -93,21 +93,21 @@ unfolding rows_of
 rows_valid d [] valid = tt
 rows_valid d (one ∷ made) valid = (valid.0, rows_valid (after_changes d one.changes) made valid.1)
 
-rows_writable : (rules : List Rule) (made : List AgentChange)
-    → All (λ one. IsWritable rules one.changes) made → All (IsWritable rules) (rows_of made)
+rows_writable : (made : List AgentChange) → All (λ one. IsWritable one.changes) made
+    → All IsWritable (rows_of made)
 unfolding rows_of
-rows_writable rules made writable = All-map (IsWritable rules) (λ one. one.changes) made writable
+rows_writable made writable = All-map IsWritable (λ one. one.changes) made writable
 
 rows_length : (made : List AgentChange) → length (rows_of made) ≡ length made
 unfolding rows_of
 rows_length made = length-map made (λ one. one.changes)
 
-pub body_takes : WrittenBodiesMean → (rules : List Rule) (base : Saved) (made : List AgentChange)
-    → All (λ one. IsWritable rules one.changes) made → AllAreValid base made
-    → Takes rules base false (body_of made) (after_all base made) (length made)
-body_takes law rules base made writable valid =
-    ap (λ body. body_means rules base false body) (sym (body_rows made))
-    ∙ law rules base (rows_of made) (rows_writable rules made writable) (rows_valid base made valid)
+pub body_takes : WrittenBodiesMean → (base : Saved) (made : List AgentChange)
+    → All (λ one. IsWritable one.changes) made → AllAreValid base made
+    → Takes base false (body_of made) (after_all base made) (length made)
+body_takes law base made writable valid =
+    ap (λ body. body_means base false body) (sym (body_rows made))
+    ∙ law base (rows_of made) (rows_writable made writable) (rows_valid base made valid)
     ∙ ap (λ (n : ℕ). Ok (fold after_changes base (rows_of made), n)) (rows_length made)
     ∙ ap (λ (d : Saved). Ok (d, length made)) (rows_after base made)
 
@@ -129,16 +129,16 @@ some_bytes one made =
       four one.changes,
     )
 
-pub body_leads : WrittenBodiesMean → (rules : List Rule) (base : Saved) (made : List AgentChange)
+pub body_leads : WrittenBodiesMean → (base : Saved) (made : List AgentChange)
     (body : List ℕ) (changes : ℕ) → body ≡ body_of made → changes ≡ length made
-    → All (λ one. IsWritable rules one.changes) made → AllAreValid base made
-    → BodyLeads (Takes rules) base body changes (after_all base made)
-body_leads law rules base [] body changes is count writable valid = inl (is, count, refl)
-body_leads law rules base (one ∷ made) body changes is count writable valid =
+    → All (λ one. IsWritable one.changes) made → AllAreValid base made
+    → BodyLeads Takes base body changes (after_all base made)
+body_leads law base [] body changes is count writable valid = inl (is, count, refl)
+body_leads law base (one ∷ made) body changes is count writable valid =
     let all = one ∷ made in
-    let takes = body_takes law rules base all writable valid in
+    let takes = body_takes law base all writable valid in
     let P : List ℕ → ℕ → Type 0 =
-    λ bytes n. (0 < length bytes) × Takes rules base false bytes (after_all base all) n in
+    λ bytes n. (0 < length bytes) × Takes base false bytes (after_all base all) n in
     inr (subst (λ bytes. P bytes changes) (sym is)
     (subst (λ n. P (body_of all) n) (sym count) (some_bytes one made, takes)))
 
@@ -161,12 +161,12 @@ line_count (one ∷ made) before after few written =
       omega (arith, few),
     )
 
--- what a line wrote has a spelling where its texts have one
+-- what a line wrote, of rows under a list, has a spelling
 pub made_writable : (rules : List Rule) (made : List AgentChange) → HaveRows made
-    → All HasRoom made → All (λ one. All (IsSpelled rules) one.changes) made
-    → All (λ one. IsWritable rules one.changes) made
+    → All HasRoom made → All (λ one. All (IsSpelledUnder rules) one.changes) made
+    → All (λ one. IsWritable one.changes) made
 made_writable rules made rows room spelled k d below =
-    (rows k d below, (room k d below).1, spelled k d below)
+    (rows k d below, (room k d below).1, λ i e under. (spelled k d below i e under).0)
 
 pub made_texts : (made : List AgentChange) → All HasRoom made
     → All (λ one. All HasTexts one.changes) made

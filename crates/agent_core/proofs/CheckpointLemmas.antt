@@ -1,5 +1,6 @@
 -- What a checkpoint makes of what an agent stands for that holds nothing.
 use Rattle.std.proofs.Common.{◌≡◌, ℕ, ◌≤◌, true, List, [], ◌∷◌, length, map, Vec, Global, refl, sym, ap, subst, ◌∙◌, arith}
+use Rattle.std.specs.List.{All}
 use Rattle.std.proofs.lemmas.List.Elements.{All-nil}
 use Rattle.unwinding.specs.Course.{AtBase}
 use Rattle.unwinding.specs.CourseSteps.{committed}
@@ -14,21 +15,25 @@ use Rattle.reply_lines.specs.Plain.{reply_of}
 use Rattle.reply_lines.specs.declared.reply.Reply.{Reply}
 use Rattle.row_changes.specs.Body.{rows_bytes}
 use Rattle.row_changes.specs.Laws.{IsWritable}
+use Rattle.row_changes.specs.Spelled.{IsSpelledUnder}
 use Rattle.agent_model.specs.Isolation.{printed}
 use Rattle.agent_model.specs.TheMachine.{machine}
 use Rattle.durable_model.specs.Keeping.{AgentDurable, durable_of, keeping}
+use Rattle.durable_model.specs.Migrate.{IsUnder}
 use Rattle.durable_model.specs.RowEdits.{after_all}
 use Rattle.durable_model.specs.Saved.{IsValid, Saved, nothing_saved}
 use Rattle.durable_model.specs.Sound.{IsSavedOf}
 use Rattle.row_store.specs.Bodies.{Takes}
-use Rattle.row_store.specs.Laws.{IsSpelledState, IsStorable, SnapshotsAreSpelled, SnapshotsMean}
+use Rattle.row_store.specs.Laws.{IsSpelledStateUnder, IsStorable, SnapshotsAreSpelled, SnapshotsMean}
+use Rattle.row_store.specs.MigrateLaws.{SpelledStays, UnderIsSpelled}
+use Rattle.row_opening.specs.Opened.{IsAtBase, LeavesUnder}
 use Rattle.row_store.specs.Listing.{listed}
 use Rattle.agent_memory.specs.AgentState.{AgentState}
 use Rattle.agent_memory.specs.Written.{AgentChange, body_of}
 use Rattle.agent_core.specs.AgentView.{AgentView, may_find, may_of, since_opening}
 use Rattle.agent_core.specs.Batch.{PlainBatch}
 use Rattle.agent_core.specs.Means.{FlushMeans, IsBeforeOrAfter, after_commit}
-use Rattle.agent_core.specs.Seen.{AgentSeen, IsAtBase, IsSeen, IsUp, LeavesStores}
+use Rattle.agent_core.specs.Seen.{AgentSeen, IsSeen, IsUp}
 use Rattle.agent_core.specs.Standing.{Finishes, HasNone, kept_in}
 use Rattle.agent_core.specs.declared.agent.Power.{Power}
 use Rattle.agent_core.specs.declared.agent.Power.TheVariants.{Down, Up}
@@ -78,27 +83,27 @@ module _ (rules : List Rule) (a : AgentSeen) (none : length a.pending ≡ 0) whe
 -- ---- what a checkpoint does to a store
 
 -- what each moment of it leaves, whatever the store stands for, under a list of this digest
-abbrev pub LeavesUnder : JournalView → View → View → (body given : List ℕ) → Type 0
-LeavesUnder j v w body given =
-    (rules : List Rule) (base next : Saved) (counted : ℕ) → IsAtBase rules j v base
-    → Takes rules nothing_saved true body next counted → v.tells ≡ true
+abbrev pub LeavesBy : JournalView → View → View → (body given : List ℕ) → Type 0
+LeavesBy j v w body given =
+    (base next : Saved) (counted : ℕ) → IsAtBase j v base
+    → Takes nothing_saved true body next counted → v.tells ≡ true
     → LeavesOnly v w
-    (IsEither2 (Takes rules) nothing_saved j.digest base j.changes given next j.changes)
+    (IsEither2 Takes nothing_saved j.digest base j.changes given next j.changes)
 
 -- and under the store's own
 abbrev pub LeavesSnapshot : JournalView → View → View → List ℕ → Type 0
-LeavesSnapshot j v w body = LeavesUnder j v w body j.digest
+LeavesSnapshot j v w body = LeavesBy j v w body j.digest
 
 pub leaves_own : (j : JournalView) (v w : View) (body given : List ℕ) → given ≡ j.digest
-    → LeavesUnder j v w body given → LeavesSnapshot j v w body
+    → LeavesBy j v w body given → LeavesSnapshot j v w body
 leaves_own j v w body given same leaves =
-    subst (λ (d : List ℕ). LeavesUnder j v w body d) same leaves
+    subst (λ (d : List ℕ). LeavesBy j v w body d) same leaves
 
 -- what it makes of what the store stands for
 abbrev pub PutsSnapshot : JournalView → JournalView → View → View → List ℕ → Type 0
 PutsSnapshot j j' v w body =
-    (rules : List Rule) (base next : Saved) (counted : ℕ) → IsAtBase rules j v base
-    → Takes rules nothing_saved true body next counted → IsAtBase rules j' w next
+    (base next : Saved) (counted : ℕ) → IsAtBase j v base
+    → Takes nothing_saved true body next counted → IsAtBase j' w next
 
 -- ---- an agent that holds nothing
 
@@ -118,11 +123,11 @@ module _ {D : Type 0} (m : AgentState) (now : ℕ) (b : PlainBatch) (j j' : Jour
 
   -- it goes on with a state that is the same at each site
   module _ (next : Saved) (same : durable_of next ≡ durable_of up.base) where
-    settled_up : IsValid next → IsStorable next → IsSpelledState m.rules next
-        → j'.changes ≡ j.changes → IsAtBase m.rules j' w next
+    settled_up : IsValid next → IsStorable next → IsUnder m.rules next
+        → IsSpelledStateUnder m.rules next → j'.changes ≡ j.changes → IsAtBase j' w next
         → IsUp (from_parts m now b j' opened checkpoint power disk') w (after_commit m.rules a)
     unfolding committed
-    settled_up valid storable spelled count at = record {
+    settled_up valid storable under spelled count at = record {
       world = up.world;
       sound = up.sound;
       read = up.read;
@@ -134,11 +139,13 @@ module _ {D : Type 0} (m : AgentState) (now : ℕ) (b : PlainBatch) (j j' : Jour
       base = next;
       valid = valid;
       storable = storable;
+      under = under;
       spelled = spelled;
       state = state_stays m.rules a none ∙ up.state ∙ sym same;
       batch = record {
         bytes = up.batch.bytes ∙ ap body_of (nothing_pending m.rules a none);
-        writable = All-nil (λ one. IsWritable m.rules one.changes);
+        writable = All-nil (λ one. IsWritable one.changes);
+        under = All-nil (λ one. All (IsSpelledUnder m.rules) one.changes);
         valid = tt;
         saved =
             subst (λ (d : AgentDurable). IsKeptOf (machine m.rules) keeping a.world d)
@@ -147,15 +154,16 @@ module _ {D : Type 0} (m : AgentState) (now : ℕ) (b : PlainBatch) (j j' : Jour
       store = at;
     }
 
-    settled_seen : IsValid next → IsStorable next → IsSpelledState m.rules next
-        → j'.changes ≡ j.changes → IsAtBase m.rules j' w next → power ≡ Up → 1 ≤ b.size
+    settled_seen : IsValid next → IsStorable next → IsUnder m.rules next
+        → IsSpelledStateUnder m.rules next → j'.changes ≡ j.changes → IsAtBase j' w next
+        → power ≡ Up → 1 ≤ b.size
         → a.world.rest.now ≡ now
         → IsSeen (from_parts m now b j' opened checkpoint power disk') w (after_commit m.rules a)
         × AtBase (after_commit m.rules a).base
         (may_of (from_parts m now b j' opened checkpoint power disk') w)
     unfolding committed
-    settled_seen valid storable spelled count at is_up size clock =
-        let here = settled_up valid storable spelled count at in
+    settled_seen valid storable under spelled count at is_up size clock =
+        let here = settled_up valid storable under spelled count at in
         let x = from_parts m now b j' opened checkpoint power disk' in (
           record {
             up = (λ _. is_up, λ _. refl);
@@ -174,7 +182,8 @@ module _ {D : Type 0} (m : AgentState) (now : ℕ) (b : PlainBatch) (j j' : Jour
 
   -- ---- a snapshot of what is in memory
 
-  module _ (means : SnapshotsMean) (spells : SnapshotsAreSpelled) (body : List ℕ)
+  module _ (means : SnapshotsMean) (spells : SnapshotsAreSpelled) (stays : SpelledStays)
+      (reads : UnderIsSpelled) (body : List ℕ)
       (is : body ≡ rows_bytes (listed (kept_in m))) (distinct : HasDistinctPairs m.grants) where
     same : durable_of (kept_in m) ≡ durable_of up.base
     same = kept_durable m m.rules a.world up.base up.world saved_now
@@ -182,11 +191,15 @@ module _ {D : Type 0} (m : AgentState) (now : ℕ) (b : PlainBatch) (j j' : Jour
     storable : IsStorable (kept_in m)
     storable = storable_same up.base (kept_in m) same distinct up.storable
 
-    spelled : IsSpelledState m.rules (kept_in m)
-    spelled = spelled_same up.base (kept_in m) same m.rules up.spelled
+    spelled : IsSpelledStateUnder m.rules (kept_in m)
+    spelled = spelled_same up.base (kept_in m) same (IsSpelledUnder m.rules) up.spelled
 
-    takes : Takes m.rules nothing_saved true body (kept_in m) 0
-    takes = snapshot_takes means spells m.rules (kept_in m) body is storable spelled
+    under : IsUnder m.rules (kept_in m)
+    under = stays m.rules (kept_in m) spelled
+
+    takes : Takes nothing_saved true body (kept_in m) 0
+    takes =
+        snapshot_takes means spells (kept_in m) body is storable (reads m.rules (kept_in m) spelled)
 
     state : durable_of (kept_in m) ≡ (after_commit m.rules a).base.state
     state = same ∙ sym up.state ∙ sym (state_stays m.rules a none)
@@ -199,10 +212,10 @@ module _ {D : Type 0} (m : AgentState) (now : ℕ) (b : PlainBatch) (j j' : Jour
         → Finishes m.rules now a (may_of (from_parts m now b j opened checkpoint power disk) v)
         (from_parts m now b j' opened checkpoint power disk') w
         (may_of (from_parts m now b j' opened checkpoint power disk') w) (outcome.Replies given)
-    put_gave given empty is_up size clock puts stays =
+    put_gave given empty is_up size clock puts still =
         let seen =
         settled_seen (kept_in m) same (valid_same up.base (kept_in m) same up.valid) storable
-        spelled stays (puts m.rules up.base (kept_in m) 0 up.store takes) is_up size clock in
+        under spelled still (puts up.base (kept_in m) 0 up.store takes) is_up size clock in
         (no_replies given empty, seen.0, seen.1)
 
     pub put_failed : LeavesSnapshot j v w body → IsLawful v → IsLawful w → w.tells ≡ v.tells
@@ -212,37 +225,38 @@ module _ {D : Type 0} (m : AgentState) (now : ℕ) (b : PlainBatch) (j j' : Jour
         (may_of (from_parts m now b j' opened checkpoint Down disk') w) outcome.Down
     put_failed leaves before after tells digest =
         let x = from_parts m now b j opened checkpoint power disk in
-        let moments = leaves m.rules up.base (kept_in m) 0 up.store takes in (
+        let moments = leaves up.base (kept_in m) 0 up.store takes in (
           refl,
           refl,
-          subst (λ (d : List ℕ). LeavesStores m.rules d w) (sym digest)
-              (failed_stores x v a up w before after tells (kept_in m) j.changes state count
-              moments),
+          subst (λ (d : List ℕ). LeavesUnder (record { rules = m.rules; digest = d }) w)
+              (sym digest)
+              (failed_stores x v a up w before after tells (kept_in m) j.changes under state
+              count moments),
           λ d n left.
-              failed_may x v a up w before after tells (kept_in m) j.changes state count moments
-              d n (subst (λ (e : List ℕ). may_find m.rules e opened w d n) digest left),
+              failed_may x v a up w before after tells (kept_in m) j.changes under state count
+              moments d n (subst (λ (e : List ℕ). may_find e opened w d n) digest left),
         )
 
     pub put_moments : LeavesSnapshot j v w body → v.tells ≡ true
         → LeavesOnly v w (IsBeforeOrAfter m.rules j.digest a a)
     put_moments leaves tells =
         let x = from_parts m now b j opened checkpoint power disk in
-        moments_after x v a (held_of x v a up) w (kept_in m) j.changes state
-        (leaves m.rules up.base (kept_in m) 0 up.store takes tells)
+        moments_after x v a (held_of x v a up) w (kept_in m) j.changes under state
+        (leaves up.base (kept_in m) 0 up.store takes tells)
 
 -- each moment of a checkpoint that an agent makes of its own memory
 pub put_stands : {D : Type 0} (m : AgentState) (now : ℕ) (b : PlainBatch) (j : JournalView)
     (opened checkpoint : ℕ) (power : Power) (disk : D) (y : AgentView D) (v w : View)
     (a : AgentSeen) → from_parts m now b j opened checkpoint power disk ≡ y → HasNone y
-    → SnapshotsMean → SnapshotsAreSpelled → (body : List ℕ)
+    → SnapshotsMean → SnapshotsAreSpelled → SpelledStays → UnderIsSpelled → (body : List ℕ)
     → body ≡ rows_bytes (listed (kept_in y.memory)) → HasDistinctPairs y.memory.grants
     → IsUp (from_parts m now b j opened checkpoint power disk) v a → LeavesSnapshot j v w body
     → v.tells ≡ true → LeavesOnly v w (IsBeforeOrAfter m.rules j.digest a a)
-put_stands m now b j opened checkpoint power disk y v w a same holds means spells body is distinct up leaves tells =
+put_stands m now b j opened checkpoint power disk y v w a same holds means spells stays reads body is distinct up leaves tells =
     let x = from_parts m now b j opened checkpoint power disk in
     let none = none_is x y same holds in
     put_moments m now b j j opened checkpoint power disk disk v w a none.held none.changes up means
-    spells body (snapshot_is x y body same is) (distinct_is x y same distinct) leaves tells
+    spells stays reads body (snapshot_is x y body same is) (distinct_is x y same distinct) leaves tells
 
 -- with no checkpoint due nothing is done
 pub nothing_flushed : {D : Type 0} (m : AgentState) (now : ℕ) (b : PlainBatch) (j : JournalView)
@@ -257,7 +271,7 @@ nothing_flushed m now b j opened checkpoint power disk v a given held changes si
     let up = seen.standing is_up in
     let done =
     settled_seen m now b j j opened checkpoint power disk disk v v a held changes up up.base refl
-    up.valid up.storable up.spelled refl up.store is_now size seen.clock in
+    up.valid up.storable up.under up.spelled refl up.store is_now size seen.clock in
     let replies =
     no_replies m now b j j opened checkpoint power disk disk v v a held changes up given empty in
     (after_commit m.rules a, done.0, (is_up, (replies, refl, done.1)))

@@ -139,7 +139,8 @@ up_moments x v w a ran laws stays up =
     (λ c left. (
       up.base,
       x.journal.changes,
-      images_stand x.memory.rules x.journal v up.base up.store c left,
+      images_stand x.journal v up.base up.store c left,
+      up.under,
       inl (sym up.state),
     ))
 
@@ -170,11 +171,9 @@ module _ {D : Type 0} (m m' : AgentState) (b b' : PlainBatch) (j j' : JournalVie
   held_same : IsUp (from_parts m now b j opened checkpoint power disk) v a → length a.held ≡ length b.held
   held_same up = sym (length-map a.held printed) ∙ ap length up.held
 
-  back : (d : AgentDurable) (n : ℕ) → may_find m'.rules j'.digest opened w d n
-      → may_find m.rules j.digest opened v d n
-  back d n left =
-      roomier_may j j' v w roomier m.rules opened d n
-      (subst (λ (r : List Rule). may_find r j'.digest opened w d n) run.rules left)
+  back : (d : AgentDurable) (n : ℕ) → may_find j'.digest opened w d n
+      → may_find j.digest opened v d n
+  back = roomier_may j j' v w roomier opened
 
   module _ (keep : LinesKeep) (valid : LinesAreValid) (spelled : LinesAreSpelled)
       (read : IsReadAction line) where
@@ -336,7 +335,7 @@ module _ {D : Type 0} (m : AgentState) (b : PlainBatch) (j j' : JournalView)
       result is_up seen.clock
       (finishes_back m.rules now a (may_of (from_parts m now b j' opened checkpoint power disk') w)
       (may_of (from_parts m now b j opened checkpoint power disk) v) may' new x result
-      (roomier_may j j' v w roomier m.rules opened) (finish (still is_up)))
+      (roomier_may j j' v w roomier opened) (finish (still is_up)))
 
   pub flush_leaves : (x : View) → IsLawful v
       → (IsUp (from_parts m now b j' opened checkpoint power disk') w a

@@ -14,19 +14,21 @@ use Rattle.reply_lines.specs.Reply.{PlainReply}
 use Rattle.reply_lines.specs.declared.reply.Reply.{Reply}
 use Rattle.agent_model.specs.Lines.{AgentWorld}
 use Rattle.durable_model.specs.Keeping.{AgentDurable}
+use Rattle.durable_model.specs.Migrate.{IsUnder}
 use Rattle.durable_model.specs.Saved.{Saved, nothing_saved}
 use Rattle.spelled_model.specs.Worlds.{IsReadWorld}
 use Rattle.row_store.specs.Bodies.{Takes}
-use Rattle.row_store.specs.Laws.{IsSpelledState}
+use Rattle.row_store.specs.Laws.{IsSpelledStateUnder}
+use Rattle.row_opening.specs.Opened.{LeavesUnder}
 use Rattle.one_store.specs.WholeWorld.{whole_world}
 use Rattle.agent_memory.specs.AgentState.{AgentState, world_of}
-use Rattle.agent_core.specs.AgentView.{AgentView, is_due, may_find, may_of, since_opening}
+use Rattle.agent_core.specs.AgentView.{AgentView, is_due, list_of, may_find, may_of, since_opening}
 use Rattle.agent_core.specs.Batch.{HasNotRun, PlainBatch}
 use Rattle.open_store.specs.Commits.{CommitDevice}
 use Rattle.open_store.specs.Standing.{IsRoomier}
 use Rattle.agent_core.specs.Calls.{IsIdle, OutcomeDevice, calls_by, checkpoint_calls}
 use Rattle.agent_core.specs.Means.{AgentMay, FlushMeans, LineMeans, after_commit, after_line}
-use Rattle.agent_core.specs.Seen.{AgentSeen, IsAtBase, IsBatch, IsSeen, IsUp, LeavesStores}
+use Rattle.agent_core.specs.Seen.{AgentSeen, IsBatch, IsSeen, IsUp}
 use Rattle.agent_core.specs.Standing.{Finishes}
 use Rattle.agent_core.specs.declared.agent.Power.{Power}
 use Rattle.agent_core.specs.declared.agent.Power.TheVariants.{Down, Up}
@@ -51,7 +53,7 @@ down_of a =
 
 pub down_seen : {D : Type 0} (new : AgentView D) (w : View) (a : AgentSeen) (now : ℕ)
     → a.world.rest.now ≡ now → new.power ≡ Down → new.now ≡ now
-    → LeavesStores new.memory.rules new.journal.digest w → IsSeen new w (down_of a)
+    → LeavesUnder (list_of new) w → IsSeen new w (down_of a)
 down_seen new w a now clock down same stores = record {
   up = (λ up. absurd (false_true up), λ up. absurd (down_up new.power down up));
   clock = clock ∙ sym same;
@@ -134,45 +136,46 @@ module _ {D : Type 0} (m m' : AgentState) (b b' : PlainBatch) (j j' : JournalVie
     base = up.base;
     valid = up.valid;
     storable = up.storable;
-    spelled = subst (λ (r : List Rule). IsSpelledState r up.base) (sym kept.rules) up.spelled;
+    under = subst (λ (r : List Rule). IsUnder r up.base) (sym kept.rules) up.under;
+    spelled = subst (λ (r : List Rule). IsSpelledStateUnder r up.base) (sym kept.rules) up.spelled;
     state = up.state;
     batch =
         subst (λ (r : List Rule). IsBatch r up.base a.pending b'.body a.world) (sym kept.rules)
         (record {
           bytes = kept.body ∙ up.batch.bytes;
           writable = up.batch.writable;
+          under = up.batch.under;
           valid = up.batch.valid;
           saved = up.batch.saved;
         });
-    store =
-        subst (λ (r : List Rule). IsAtBase r j' w up.base) (sym kept.rules)
-        (roomier_base m.rules j j' v w up.base roomier up.store);
+    store = roomier_base j j' v w up.base roomier up.store;
   }
 
 -- ---- room was made
 
 module _ (j j' : JournalView) (v w : View) (roomier : IsRoomier j j' v w) where
-  pub roomier_may : (rules : List Rule) (opened : ℕ) (d : AgentDurable) (n : ℕ)
-      → may_find rules j'.digest opened w d n → may_find rules j.digest opened v d n
+  pub roomier_may : (opened : ℕ) (d : AgentDurable) (n : ℕ)
+      → may_find j'.digest opened w d n → may_find j.digest opened v d n
   unfolding may_find
-  roomier_may rules opened d n left = (
+  roomier_may opened d n left = (
     left.0,
     roomier.stays.no_more left.0 left.1,
     left.2,
     left.3,
     subst
-        (λ (i : JournalView). StandsForState (Takes rules) nothing_saved i.digest left.0 left.2 left.3)
+        (λ (i : JournalView). StandsForState Takes nothing_saved i.digest left.0 left.2 left.3)
         roomier.journal left.4,
     left.5,
     left.6,
   )
 
-  pub roomier_stores : (rules : List Rule) → LeavesStores rules j.digest v
-      → LeavesStores rules j'.digest w
+  pub roomier_stores : (rules : List Rule)
+      → LeavesUnder (record { rules = rules; digest = j.digest }) v
+      → LeavesUnder (record { rules = rules; digest = j'.digest }) w
   roomier_stores rules stores tells file left =
       subst
       (λ (i : JournalView). IsSecond file × ((base : Saved) × (last : ℕ)
-      × StandsForState (Takes rules) nothing_saved i.digest file base last))
+      × StandsForState Takes nothing_saved i.digest file base last × IsUnder rules base))
       (sym roomier.journal)
       (stores (sym roomier.stays.tells ∙ tells) file (roomier.stays.no_more file left))
 
@@ -185,7 +188,8 @@ not_run m m' b b' j j' now opened checkpoint power disk disk' v w a kept roomier
   up = seen.up;
   clock = seen.clock;
   stores =
-      subst (λ (r : List Rule). LeavesStores r j'.digest w) (sym kept.rules)
+      subst (λ (r : List Rule). LeavesUnder (record { rules = r; digest = j'.digest }) w)
+      (sym kept.rules)
       (roomier_stores j j' v w roomier m.rules seen.stores);
   standing = λ up.
       kept_up m m' b b' j j' now opened checkpoint power disk disk' v w a kept roomier (seen.standing up);
@@ -194,10 +198,9 @@ not_run m m' b b' j j' now opened checkpoint power disk disk' v w a kept roomier
 
 pub not_run_may : (m m' : AgentState) (b b' : PlainBatch) (j j' : JournalView) (opened : ℕ)
     (v w : View) → HasNotRun m m' b b' → IsRoomier j j' v w → (d : AgentDurable) (n : ℕ)
-    → may_find m'.rules j'.digest opened w d n → may_find m.rules j.digest opened v d n
+    → may_find j'.digest opened w d n → may_find j.digest opened v d n
 not_run_may m m' b b' j j' opened v w kept roomier d n left =
-    roomier_may j j' v w roomier m.rules opened d n
-    (subst (λ (r : List Rule). may_find r j'.digest opened w d n) kept.rules left)
+    roomier_may j j' v w roomier opened d n left
 
 -- ---- a line waits
 
@@ -226,6 +229,7 @@ line_waits m' b b' j' opened checkpoint power disk' w rules line a may now same 
       base = here.base;
       valid = here.valid;
       storable = here.storable;
+      under = here.under;
       spelled = here.spelled;
       state = here.state;
       batch = here.batch;

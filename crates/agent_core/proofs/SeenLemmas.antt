@@ -1,5 +1,6 @@
 -- What an agent stands for, from line to commit.
 use Rattle.std.proofs.Common.{◌≡◌, ℕ, true, List, [], ◌∷◌, ◌++◌, length, map, sym, ap, subst, ◌∙◌, arith}
+use Rattle.std.specs.List.{All}
 use Rattle.std.proofs.lemmas.List.{length-append, map-append}
 use Rattle.std.proofs.lemmas.List.Elements.{All-append}
 use Rattle.unwinding.specs.Course.{AtBase, IsAt}
@@ -13,25 +14,28 @@ use Rattle.journal.specs.Journal.{JournalView}
 use Rattle.suffix_list.specs.Suffix.{Rule}
 use Rattle.script_actions.specs.Action.{PlainAction}
 use Rattle.row_changes.specs.Laws.{IsWritable}
+use Rattle.row_changes.specs.Spelled.{IsSpelledUnder}
 use Rattle.agent_model.specs.Isolation.{printed}
 use Rattle.agent_model.specs.Lines.{AgentWorld}
 use Rattle.agent_model.specs.TheMachine.{machine}
 use Rattle.durable_model.specs.Keeping.{AgentDurable, durable_of}
 use Rattle.durable_model.specs.Laws.{LinesAreValid, LinesKeep}
+use Rattle.durable_model.specs.Migrate.{IsUnder}
 use Rattle.durable_model.specs.RowEdits.{after_all}
 use Rattle.durable_model.specs.Saved.{Saved}
 use Rattle.durable_model.specs.Sound.{IsSavedOf}
 use Rattle.spelled_model.specs.Laws.{LinesAreSpelled, LinesStayRead}
 use Rattle.spelled_model.specs.Addresses.{IsReadAction}
 use Rattle.spelled_model.specs.Worlds.{IsReadWorld}
-use Rattle.row_store.specs.Laws.{IsSpelledState}
+use Rattle.row_store.specs.Laws.{IsSpelledStateUnder}
+use Rattle.row_opening.specs.Opened.{LeavesUnder}
 use Rattle.agent_memory.specs.AgentState.{AgentState, world_of}
 use Rattle.agent_memory.specs.Written.{AgentChange, AreWritten, body_of}
-use Rattle.agent_core.specs.AgentView.{AgentView, may_find, may_of, since_opening}
+use Rattle.agent_core.specs.AgentView.{AgentView, list_of, may_find, may_of, since_opening}
 use Rattle.agent_core.specs.Batch.{HasRun, PlainBatch}
 use Rattle.open_store.specs.Standing.{IsRoomier}
 use Rattle.agent_core.specs.Means.{Fits, after_line}
-use Rattle.agent_core.specs.Seen.{AgentSeen, IsAtBase, IsBatch, IsUp, LeavesStores}
+use Rattle.agent_core.specs.Seen.{AgentSeen, IsBatch, IsUp}
 use Rattle.agent_core.specs.Standing.{IsHeld}
 use Rattle.agent_core.specs.declared.agent.Power.{Power}
 use Rattle.agent_core.proofs.BatchLemmas.{after_append, body_append, line_rows, made_texts, made_writable, valid_append}
@@ -115,9 +119,18 @@ module _ {D : Type 0} (m m' : AgentState) (b b' : PlainBatch) (j j' : JournalVie
       ∙ sym (body_append a.pending all)
 
   module _ (keep : LinesKeep) (valid_lines : LinesAreValid) (spelled : LinesAreSpelled) where
+    -- each row change of the line is one under the list
+    ran_spelled : IsReadWorld rules a.world → IsReadAction line
+        → All (λ one. All (IsSpelledUnder rules) one.changes) made
+    unfolding rules made
+    ran_spelled read read_line =
+        let all = line_changes (machine m.rules) a.world line in
+        let written : AreWritten all b.body b'.body = ran_written in
+        spelled m.rules a.world line up.sound read read_line (made_texts all written.room)
+
     ran_batch : IsReadWorld rules a.world → IsReadAction line
         → IsBatch rules up.base (a.pending ++ made) b'.body next
-    unfolding holding rules made next
+    unfolding holding rules made next ran_spelled
     ran_batch read read_line =
         let all = line_changes (machine m.rules) a.world line in
         let behind = after_all up.base a.pending in
@@ -125,10 +138,12 @@ module _ {D : Type 0} (m m' : AgentState) (b b' : PlainBatch) (j j' : JournalVie
         record {
           bytes = ran_bytes;
           writable =
-              All-append (λ one. IsWritable m.rules one.changes) a.pending all up.batch.writable
+              All-append (λ one. IsWritable one.changes) a.pending all up.batch.writable
               (made_writable m.rules all (line_rows m.rules a.world line) written.room
-              (spelled m.rules a.world line up.sound read read_line
-              (made_texts all written.room)));
+              (ran_spelled read read_line));
+          under =
+              All-append (λ one. All (IsSpelledUnder m.rules) one.changes) a.pending all
+              up.batch.under (ran_spelled read read_line);
           valid = valid_append up.base a.pending all up.batch.valid
               (valid_lines m.rules a.world line behind up.sound up.batch.saved);
           saved =
@@ -146,15 +161,17 @@ module _ {D : Type 0} (m m' : AgentState) (b b' : PlainBatch) (j j' : JournalVie
         record {
           changes = ran_changes;
           base = up.base;
+          storable = up.storable;
+          under = subst (λ (r : List Rule). IsUnder r up.base) (sym run.rules) up.under;
+          spelled =
+              subst (λ (r : List Rule). IsSpelledStateUnder r up.base) (sym run.rules) up.spelled;
           state = up.state;
           batch =
               subst
               (λ (r : List Rule). IsBatch r up.base (a.pending ++ all) b'.body
               (world_step (machine m.rules) a.world line))
               (sym run.rules) (ran_batch up.read read_line);
-          store =
-              subst (λ (r : List Rule). IsAtBase r j' w up.base) (sym run.rules)
-              (roomier_base m.rules j j' v w up.base roomier up.store);
+          store = roomier_base j j' v w up.base roomier up.store;
         }
 
     module _ (stays : LinesStayRead) where
@@ -185,8 +202,8 @@ module _ {D : Type 0} (m m' : AgentState) (b b' : PlainBatch) (j j' : JournalVie
             base = up.base;
             valid = up.valid;
             storable = up.storable;
-            spelled =
-                subst (λ (r : List Rule). IsSpelledState r up.base) (sym run.rules) up.spelled;
+            under = (ran_holds read_line).under;
+            spelled = (ran_holds read_line).spelled;
             state = up.state;
             batch = (ran_holds read_line).batch;
             store = (ran_holds read_line).store;
@@ -199,22 +216,22 @@ pub up_at_base : {D : Type 0} (x : AgentView D) (v : View) (a : AgentSeen) → I
     → AtBase a.base (may_of x v)
 unfolding may_find
 up_at_base x v a up d n left =
-    let stands = images_stand x.memory.rules x.journal v up.base up.store left.0 left.1 in
+    let stands = images_stand x.journal v up.base up.store left.0 left.1 in
     let same =
-    stands_one x.memory.rules x.journal.digest left.0 left.2 up.base left.3 x.journal.changes
-    left.4 stands in (
+    stands_one x.journal.digest left.0 left.2 up.base left.3 x.journal.changes left.4 stands in (
       left.5 ∙ ap durable_of same.0 ∙ sym up.state,
       left.6 ∙ ap (λ (i : ℕ). since_opening i x.opened) same.1 ∙ sym up.count,
     )
 
 pub up_stores : {D : Type 0} (x : AgentView D) (v : View) (a : AgentSeen) → IsUp x v a
-    → LeavesStores x.memory.rules x.journal.digest v
+    → LeavesUnder (list_of x) v
 up_stores x v a up tells file left = (
-  images_second x.memory.rules x.journal v up.base up.store file left,
+  images_second x.journal v up.base up.store file left,
   (
     up.base,
     x.journal.changes,
-    images_stand x.memory.rules x.journal v up.base up.store file left,
+    images_stand x.journal v up.base up.store file left,
+    up.under,
   ),
 )
 
@@ -228,7 +245,7 @@ up_may x v a up laws tells d n at =
       laws.contents_may_stay told.0 told.1,
       up.base,
       x.journal.changes,
-      contents_stand x.memory.rules x.journal v up.base up.store told.0 told.1,
+      contents_stand x.journal v up.base up.store told.0 told.1,
       at.0 ∙ up.state,
       at.1 ∙ up.count,
     )

@@ -22,8 +22,7 @@ use Rattle.local_area.specs.Area.{HasDistinctNames, Pair, area_weight, quota}
 use Rattle.access_grants.specs.Grant.{HasDistinctPairs, PlainGrant}
 use Rattle.access_grants.specs.UnderSite.{grants_under}
 use Rattle.row_changes.specs.Body.{rows_bytes}
-use Rattle.row_changes.specs.Change.{AreaPut, CookieInsert, Grant}
-use Rattle.row_changes.specs.Spelled.{IsSpelled}
+use Rattle.row_changes.specs.Change.{AreaPut, CookieInsert, Grant, PlainChange}
 use Rattle.web_storage.specs.Stored as storage
 use Rattle.web_cookies.specs.Stored as cookies
 use Rattle.agent_model.specs.CookieCells.{CookieCells, Cookies, Domain, domain_order}
@@ -41,7 +40,7 @@ use Rattle.durable_model.proofs.ProjectLemmas.{cookies_here, pairs_here}
 use Rattle.one_store.specs.WholeWorld.{whole_world}
 use Rattle.row_store.specs.Bodies.{Takes}
 use Rattle.row_store.specs.Kept.{kept_own_cells, kept_own_entries}
-use Rattle.row_store.specs.Laws.{IsSpelledState, IsStorable, SnapshotsAreSpelled, SnapshotsMean}
+use Rattle.row_store.specs.Laws.{IsMadeBy, IsSpelledState, IsStorable, SnapshotsAreSpelled, SnapshotsMean}
 use Rattle.row_store.specs.Listing.{listed}
 use Rattle.agent_memory.specs.AgentState.{AgentState, world_of}
 use Rattle.agent_core.specs.Standing.{kept_in}
@@ -172,21 +171,21 @@ module _ (base next : Saved) (same : durable_of next ≡ durable_of base) where
     grants = distinct;
   }
 
-  pub spelled_same : (rules : List Rule) → IsSpelledState rules base → IsSpelledState rules next
-  spelled_same rules spelled = record {
+  pub spelled_same : (IsOf : PlainChange → Type 0) → IsMadeBy IsOf base → IsMadeBy IsOf next
+  spelled_same IsOf spelled = record {
     pairs = λ key.
         subst
-        (All (λ (pair : Pair). IsSpelled rules (AreaPut key pair.name pair.value)))
+        (All (λ (pair : Pair). IsOf (AreaPut key pair.name pair.value)))
         (sym (pairs_same key)) (spelled.pairs key);
     modes = λ key is. spelled.modes key (sym (modes_same key) ∙ is);
     cookies = λ cell.
-        subst (All (λ (cookie : PlainCookie). IsSpelled rules (CookieInsert cell 0 cookie)))
+        subst (All (λ (cookie : PlainCookie). IsOf (CookieInsert cell 0 cookie)))
         (sym (cookies_same cell)) (spelled.cookies cell);
     grants =
-        all_granted (λ row. IsSpelled rules (Grant row)) next.under.grants
-        (λ site. subst (λ (rows : SiteRows). All (λ row. IsSpelled rules (Grant row)) rows.grants)
+        all_granted (λ row. IsOf (Grant row)) next.under.grants
+        (λ site. subst (λ (rows : SiteRows). All (λ row. IsOf (Grant row)) rows.grants)
         (sym (rows_same site))
-        (under_each (λ row. IsSpelled rules (Grant row)) site base.under.grants spelled.grants));
+        (under_each (λ row. IsOf (Grant row)) site base.under.grants spelled.grants));
   }
 
 -- ---- what is in memory
@@ -235,9 +234,9 @@ module _ (m : AgentState) where
 -- ---- a snapshot
 
 -- the body of a snapshot of a state that can be written means this state
-pub snapshot_takes : SnapshotsMean → SnapshotsAreSpelled → (rules : List Rule) (d : Saved)
-    (body : List ℕ) → body ≡ rows_bytes (listed d) → IsStorable d → IsSpelledState rules d
-    → Takes rules nothing_saved true body d 0
-snapshot_takes means spells rules d body is storable spelled =
-    subst (λ bytes. Takes rules nothing_saved true bytes d 0) (sym is)
-    (means rules nothing_saved d storable (spells rules d storable spelled))
+pub snapshot_takes : SnapshotsMean → SnapshotsAreSpelled → (d : Saved)
+    (body : List ℕ) → body ≡ rows_bytes (listed d) → IsStorable d → IsSpelledState d
+    → Takes nothing_saved true body d 0
+snapshot_takes means spells d body is storable spelled =
+    subst (λ bytes. Takes nothing_saved true bytes d 0) (sym is)
+    (means nothing_saved d storable (spells d storable spelled))

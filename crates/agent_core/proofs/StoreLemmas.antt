@@ -10,19 +10,19 @@ use Rattle.journal.specs.Region.{Runs, StandsForState}
 use Rattle.journal.specs.Frame.{IsSecond}
 use Rattle.journal.proofs.Moments.{started, stays_on}
 use Rattle.journal.proofs.Refusals.{means_unique}
+use Rattle.journal.proofs.Unique.{store_unique}
 use Rattle.open_store.specs.Standing.{IsRoomier}
 use Rattle.open_store.proofs.StoreLemmas as store
-use Rattle.suffix_list.specs.Suffix.{Rule}
 use Rattle.durable_model.specs.Saved.{Saved, nothing_saved}
 use Rattle.row_store.specs.Bodies.{Counted, Refuses, Takes}
-use Rattle.agent_core.specs.Seen.{IsAtBase}
+use Rattle.row_opening.specs.Opened.{IsAtBase}
 
 -- a file stands for one state
-pub means_one : (rules : List Rule) (digest file : List ℕ) (s t : Saved) (m n : ℕ)
-    → FileMeans (Takes rules) nothing_saved digest file s m
-    → FileMeans (Takes rules) nothing_saved digest file t n → (s ≡ t) × (m ≡ n)
-means_one rules =
-    means_unique (Takes rules) (Refuses rules) nothing_saved
+means_one : (digest other file : List ℕ) (s t : Saved) (m n : ℕ)
+    → FileMeans Takes nothing_saved digest file s m
+    → FileMeans Takes nothing_saved other file t n → (s ≡ t) × (m ≡ n)
+means_one =
+    means_unique Takes Refuses nothing_saved
     (λ s kind body t u m n one two.
     ap (λ (r : Result Counted ℕ). (result_unwrap_or r (t, m)).0) (sym one ∙ two))
     (λ s kind body t u m n one two.
@@ -32,25 +32,33 @@ means_one rules =
     (λ s kind body t n o took refused.
     subst (λ (r : Result Counted ℕ). MatchResult r (λ _. ⊤) (λ _. ⊥)) (sym took ∙ refused) tt)
 
-pub stands_one : (rules : List Rule) (digest file : List ℕ) (s t : Saved) (m n : ℕ)
-    → StandsForState (Takes rules) nothing_saved digest file s m
-    → StandsForState (Takes rules) nothing_saved digest file t n → (s ≡ t) × (m ≡ n)
-stands_one rules digest file s t m n one two =
-    means_one rules digest file s t m n (inl one) (inl two)
+pub stands_one : (digest file : List ℕ) (s t : Saved) (m n : ℕ)
+    → StandsForState Takes nothing_saved digest file s m
+    → StandsForState Takes nothing_saved digest file t n → (s ≡ t) × (m ≡ n)
+stands_one digest file s t m n one two = means_one digest digest file s t m n (inl one) (inl two)
 
-pub contents_stand : (rules : List Rule) (j : JournalView) (v : View) (base : Saved)
-    → IsAtBase rules j v base → (c : List ℕ) → v.contents ≡ Some c
-    → StandsForState (Takes rules) nothing_saved j.digest c base j.changes
-contents_stand rules j v base at = store.contents_stand (Takes rules) nothing_saved j v base at
+-- and under one list
+pub one_store : (digest other file : List ℕ) (s t : Saved) (m n : ℕ)
+    → StandsForState Takes nothing_saved digest file s m
+    → StandsForState Takes nothing_saved other file t n → (digest ≡ other) × (s ≡ t)
+one_store digest other file s t m n one two = (
+  (store_unique digest other file one.0 two.0 one.1 two.1).1,
+  (means_one digest other file s t m n (inl one) (inl two)).0,
+)
 
-pub images_stand : (rules : List Rule) (j : JournalView) (v : View) (base : Saved)
-    → IsAtBase rules j v base → (c : List ℕ) → v.may_leave c
-    → StandsForState (Takes rules) nothing_saved j.digest c base j.changes
-images_stand rules j v base at = store.images_stand (Takes rules) nothing_saved j v base at
+pub contents_stand : (j : JournalView) (v : View) (base : Saved)
+    → IsAtBase j v base → (c : List ℕ) → v.contents ≡ Some c
+    → StandsForState Takes nothing_saved j.digest c base j.changes
+contents_stand j v base at = store.contents_stand Takes nothing_saved j v base at
 
-pub images_second : (rules : List Rule) (j : JournalView) (v : View) (base : Saved)
-    → IsAtBase rules j v base → (c : List ℕ) → v.may_leave c → IsSecond c
-images_second rules j v base at = store.images_second (Takes rules) nothing_saved j v base at
+pub images_stand : (j : JournalView) (v : View) (base : Saved)
+    → IsAtBase j v base → (c : List ℕ) → v.may_leave c
+    → StandsForState Takes nothing_saved j.digest c base j.changes
+images_stand j v base at = store.images_stand Takes nothing_saved j v base at
+
+pub images_second : (j : JournalView) (v : View) (base : Saved)
+    → IsAtBase j v base → (c : List ℕ) → v.may_leave c → IsSecond c
+images_second j v base at = store.images_second Takes nothing_saved j v base at
 
 -- nothing was done but that room was made
 pub nothing_left : (v w : View) (P : List ℕ → Type 0) → IsLawful v → Stays v w
@@ -58,9 +66,9 @@ pub nothing_left : (v w : View) (P : List ℕ → Type 0) → IsLawful v → Sta
 nothing_left v w P laws stays here = stays_on v v w P (started v P laws.only_now here) stays
 
 -- room was made
-pub roomier_base : (rules : List Rule) (j k : JournalView) (v w : View) (base : Saved)
-    → IsRoomier j k v w → IsAtBase rules j v base → IsAtBase rules k w base
-roomier_base rules j k v w base roomier at = record {
+pub roomier_base : (j k : JournalView) (v w : View) (base : Saved)
+    → IsRoomier j k v w → IsAtBase j v base → IsAtBase k w base
+roomier_base j k v w base roomier at = record {
   rests = roomier.rests at.rests;
   usable = ap (λ (i : JournalView). i.shut) roomier.journal ∙ at.usable;
   stands = λ c told.
@@ -68,7 +76,6 @@ roomier_base rules j k v w base roomier at = record {
       let changes = ap (λ (i : JournalView). i.changes) roomier.journal in (
         here.0,
         roomier.stands c here.0 here.1,
-        subst (λ (n : ℕ). Runs (Takes rules) true nothing_saved 0 here.0 base n) (sym changes)
-            here.2,
+        subst (λ (n : ℕ). Runs Takes true nothing_saved 0 here.0 base n) (sym changes) here.2,
       );
 }

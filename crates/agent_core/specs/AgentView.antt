@@ -7,7 +7,7 @@ use Rattle.std.specs.Prelude.{◌&&◌, List, length}
 use Rattle.disk_model.specs.Disk.{View}
 use Rattle.journal.specs.Journal.{JournalView, since_of}
 use Rattle.journal.specs.Region.{StandsForState}
-use Rattle.suffix_list.specs.Suffix.{Rule}
+use Rattle.suffix_list.specs.ListText.{RuleList}
 use Rattle.reply_lines.specs.Reply.{PlainReply}
 use Rattle.durable_model.specs.Keeping.{AgentDurable, durable_of}
 use Rattle.durable_model.specs.Saved.{Saved, nothing_saved}
@@ -37,22 +37,25 @@ pub record AgentView (D : Type 0) : Type 0 where
   pub power : Power
   pub disk : D
 
+-- the list that an agent is under
+abbrev pub list_of : {D : Type 0} → AgentView D → RuleList
+list_of v = record { rules = v.memory.rules; digest = v.journal.digest }
+
 -- how many durable changes were made since an opening, by the numbers of changes of the store
 abbrev pub since_opening : (last opened : ℕ) → ℕ
 since_opening last opened = (last + (2 ^ 64 - opened)) % 2 ^ 64
 
 -- which durable state a restart may find, after how many changes since the last opening: a cut may
 -- leave a store that stands for it
-unfoldable pub may_find : List Rule → (digest : List ℕ) → (opened : ℕ) → View → AgentDurable → ℕ
-    → Type 0
-may_find rules digest opened view d n =
+unfoldable pub may_find : (digest : List ℕ) → (opened : ℕ) → View → AgentDurable → ℕ → Type 0
+may_find digest opened view d n =
     (file : List ℕ) × view.may_leave file × (base : Saved) × (last : ℕ)
-    × StandsForState (Takes rules) nothing_saved digest file base last
+    × StandsForState Takes nothing_saved digest file base last
     × (d ≡ durable_of base) × (n ≡ since_opening last opened)
 
 -- the same of an agent whose disk tells this
 abbrev pub may_of : {D : Type 0} → AgentView D → View → AgentDurable → ℕ → Type 0
-may_of v view = may_find v.memory.rules v.journal.digest v.opened view
+may_of v view = may_find v.journal.digest v.opened view
 
 -- a call of the disk failed since the last good opening
 abbrev pub is_down : Power → Bool

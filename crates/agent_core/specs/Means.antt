@@ -17,6 +17,7 @@ use Rattle.reply_lines.specs.Plain.{reply_of}
 use Rattle.agent_model.specs.Isolation.{printed}
 use Rattle.agent_model.specs.TheMachine.{machine}
 use Rattle.durable_model.specs.Keeping.{AgentDurable, durable_of, keeping}
+use Rattle.durable_model.specs.Migrate.{IsUnder}
 use Rattle.durable_model.specs.Saved.{Saved, nothing_saved}
 use Rattle.row_store.specs.Bodies.{Takes}
 use Rattle.agent_core.specs.AgentView.{AgentView, may_of, since_opening}
@@ -90,20 +91,23 @@ RestartMeans rules a may b may' (Err fault.DeviceFault) =
 RestartMeans rules a may b may' (Err fault.NoMemory) =
     GoesDown (machine rules) keeping a b may may' (λ d n. ⊥)
 RestartMeans rules a may b may' (Err (fault.NotAStore offset)) = ⊥
-RestartMeans rules a may b may' (Err (fault.OtherList kept given)) = ⊥
 RestartMeans rules a may b may' (Err (fault.TooLarge len)) = ⊥
 
 -- ---- moments within a call
 
--- a file stands for what the store stood for when the batch began, or for what follows the batch
+-- a file stands for what the store stood for when the batch began, or for what follows the batch:
+-- for a state under the agent's list
 abbrev pub IsBeforeOrAfter : List Rule → (digest : List ℕ) → (a ran : AgentSeen) → List ℕ → Type 0
 IsBeforeOrAfter rules digest a ran file =
-    (base : Saved) × (last : ℕ) × StandsForState (Takes rules) nothing_saved digest file base last
+    (base : Saved) × (last : ℕ) × StandsForState Takes nothing_saved digest file base last
+    × IsUnder rules base
     × ((durable_of base ≡ a.base.state) ⊎ (durable_of base ≡ (after_commit rules ran).base.state))
 
--- a file that a cut might have left: it stands for a state that a restart might have found
+-- a file that a cut might have left: it stands for a state that a restart might have found, under
+-- the agent's list
 abbrev pub IsOneFound : {D : Type 0} → AgentView D → View → List ℕ → Type 0
 IsOneFound v view file =
     view.may_leave file × (base : Saved) × (last : ℕ)
-    × StandsForState (Takes v.memory.rules) nothing_saved v.journal.digest file base last
+    × StandsForState Takes nothing_saved v.journal.digest file base last
+    × IsUnder v.memory.rules base
     × may_of v view (durable_of base) (since_opening last v.opened)

@@ -5,13 +5,11 @@ use Rattle.std.specs.Prelude.{◌≡◌, ◌↔◌, ℕ, ◌+◌, ◌<◌, ◌^�
 use Rattle.std.specs.List.{All}
 use Rattle.unwinding.specs.Course.{Seen}
 use Rattle.disk_model.specs.Disk.{View}
-use Rattle.journal.specs.Journal.{JournalView}
-use Rattle.open_store.specs.Reopens.{LeavesStores as AllStores}
-use Rattle.open_store.specs.Standing.{StandsAt}
 use Rattle.suffix_list.specs.Suffix.{Rule}
 use Rattle.origin_site.specs.Site.{PlainSite}
 use Rattle.row_changes.specs.Change.{PlainChange}
 use Rattle.row_changes.specs.Laws.{IsWritable}
+use Rattle.row_changes.specs.Spelled.{IsSpelledUnder}
 use Rattle.agent_model.specs.Effects.{SharedCells}
 use Rattle.agent_model.specs.Isolation.{printed}
 use Rattle.agent_model.specs.Lines.{AgentWorld, Rest}
@@ -19,14 +17,15 @@ use Rattle.agent_model.specs.Partition.{Partition}
 use Rattle.agent_model.specs.SiteEvent.{Answer}
 use Rattle.durable_model.specs.Keeping.{AgentDurable, durable_of}
 use Rattle.durable_model.specs.RowEdits.{AllAreValid, after_all}
-use Rattle.durable_model.specs.Saved.{IsValid, Saved, nothing_saved}
+use Rattle.durable_model.specs.Migrate.{IsUnder}
+use Rattle.durable_model.specs.Saved.{IsValid, Saved}
 use Rattle.durable_model.specs.Sound.{IsSavedOf, IsSoundWorld}
 use Rattle.spelled_model.specs.Worlds.{IsReadWorld}
-use Rattle.row_store.specs.Bodies.{Takes}
-use Rattle.row_store.specs.Laws.{IsSpelledState, IsStorable}
+use Rattle.row_store.specs.Laws.{IsSpelledStateUnder, IsStorable}
+use Rattle.row_opening.specs.Opened.{IsAtBase, LeavesUnder}
 use Rattle.agent_memory.specs.AgentState.{world_of}
 use Rattle.agent_memory.specs.Written.{AgentChange, body_of}
-use Rattle.agent_core.specs.AgentView.{AgentView, since_opening}
+use Rattle.agent_core.specs.AgentView.{AgentView, list_of, since_opening}
 use Rattle.agent_core.specs.declared.agent.Power.TheVariants.{Up}
 
 -- what agents stand for, in the words of the general law: the world, what the store stands for,
@@ -35,20 +34,18 @@ abbrev pub AgentSeen : Type 0
 AgentSeen = Seen PlainSite SharedCells Partition Rest Answer PlainChange AgentDurable
 
 -- the open batch: its body is its durable changes, each can be read back, and each row change is
--- valid in the state before it, so that they lead to what is kept of the world
+-- one under the list, and valid in the state before it, so that they lead to what is kept of the
+-- world
 pub record IsBatch (rules : List Rule) (base : Saved) (pending : List AgentChange) (body : List ℕ)
     (world : AgentWorld) : Type 0 where
   pub bytes : body ≡ body_of pending
-  pub writable : All (λ one. IsWritable rules one.changes) pending
+  pub writable : All (λ one. IsWritable one.changes) pending
+  pub under : All (λ one. All (IsSpelledUnder rules) one.changes) pending
   pub valid : AllAreValid base pending
   pub saved : IsSavedOf rules world (after_all base pending)
 
--- the store stands for a state, and nothing is pending on its disk
-abbrev pub IsAtBase : List Rule → JournalView → View → Saved → Type 0
-IsAtBase rules journal view base = StandsAt (Takes rules) nothing_saved journal view base
-
 -- An agent that is up stands for this. The number of changes since the opening does not wrap, and a
--- snapshot can be made of what the store stands for.
+-- snapshot can be made of what the store stands for, which is a state under the agent's list.
 pub record IsUp {D : Type 0} (v : AgentView D) (view : View) (a : AgentSeen) : Type 0 where
   pub world : a.world ≡ world_of v.memory
   pub sound : IsSoundWorld a.world
@@ -60,20 +57,18 @@ pub record IsUp {D : Type 0} (v : AgentView D) (view : View) (a : AgentSeen) : T
   pub base : Saved
   pub valid : IsValid base
   pub storable : IsStorable base
-  pub spelled : IsSpelledState v.memory.rules base
+  pub under : IsUnder v.memory.rules base
+  pub spelled : IsSpelledStateUnder v.memory.rules base
   pub state : a.base.state ≡ durable_of base
   pub batch : IsBatch v.memory.rules base a.pending v.body a.world
-  pub store : IsAtBase v.memory.rules v.journal view base
-
--- whatever a cut leaves of a disk that tells its contents is a store that stands for some state
-abbrev pub LeavesStores : List Rule → (digest : List ℕ) → View → Type 0
-LeavesStores rules digest view = AllStores (Takes rules) nothing_saved digest view
+  pub store : IsAtBase v.journal view base
 
 -- An agent whose disk tells this stands for that. Of one that is not up the clock is told, and that
--- a restart finds a store. Where it is up, less lines are held than a batch has.
+-- a restart finds a store of a state under its list. Where it is up, less lines are held than a
+-- batch has.
 pub record IsSeen {D : Type 0} (v : AgentView D) (view : View) (a : AgentSeen) : Type 0 where
   pub up : (a.up ≡ true) ↔ (v.power ≡ Up)
   pub clock : a.world.rest.now ≡ v.now
-  pub stores : LeavesStores v.memory.rules v.journal.digest view
+  pub stores : LeavesUnder (list_of v) view
   pub standing : a.up ≡ true → IsUp v view a
   pub short : a.up ≡ true → length v.held < v.batch

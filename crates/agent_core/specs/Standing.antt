@@ -12,15 +12,18 @@ use Rattle.suffix_list.specs.Suffix.{Rule}
 use Rattle.reply_lines.specs.Plain.{reply_of}
 use Rattle.agent_model.specs.Isolation.{printed}
 use Rattle.durable_model.specs.Keeping.{AgentDurable, durable_of}
+use Rattle.durable_model.specs.Migrate.{IsUnder}
 use Rattle.durable_model.specs.Saved.{Saved}
 use Rattle.row_store.specs.Kept.{kept_of}
+use Rattle.row_store.specs.Laws.{IsSpelledStateUnder, IsStorable}
 use Rattle.row_store.specs.Stored.{saved_in}
+use Rattle.row_opening.specs.Opened.{IsAtBase, LeavesUnder}
 use Rattle.agent_memory.specs.AgentState.{AgentState}
-use Rattle.agent_core.specs.AgentView.{AgentView, longest_batch}
+use Rattle.agent_core.specs.AgentView.{AgentView, list_of, longest_batch}
 use Rattle.agent_core.specs.Batch.{PlainBatch}
 use Rattle.open_store.specs.Standing.{IsReady}
 use Rattle.agent_core.specs.Means.{AgentMay, after_commit}
-use Rattle.agent_core.specs.Seen.{AgentSeen, IsAtBase, IsBatch, IsSeen, LeavesStores}
+use Rattle.agent_core.specs.Seen.{AgentSeen, IsBatch, IsSeen}
 use Rattle.agent_core.specs.declared.agent.Power.{Power}
 use Rattle.agent_core.specs.declared.agent.Power.TheVariants.{Down, Spoilt, Up}
 use Rattle.agent_core.specs.declared.outcome.Outcome.{Outcome}
@@ -47,13 +50,16 @@ kept_in memory =
     let grants : PlainGrants = record { rows = memory.grants; spare = 0 } in
     kept_of (saved_in memory.entries memory.cookies grants)
 
--- the open batch leads on from what the store stands for
+-- the open batch leads on from what the store stands for, a state under the list
 pub record IsHeld {D : Type 0} (v : AgentView D) (view : View) (a : AgentSeen) : Type 0 where
   pub changes : v.changes ≡ length a.pending
   pub base : Saved
+  pub storable : IsStorable base
+  pub under : IsUnder v.memory.rules base
+  pub spelled : IsSpelledStateUnder v.memory.rules base
   pub state : a.base.state ≡ durable_of base
   pub batch : IsBatch v.memory.rules base a.pending v.body a.world
-  pub store : IsAtBase v.memory.rules v.journal view base
+  pub store : IsAtBase v.journal view base
 
 -- the commit of an open batch, from what the agent stands for when its last line has run, and from
 -- the clock that it told before
@@ -64,7 +70,7 @@ Finishes rules now ran may new after may' (outcome.Replies given) =
     × IsSeen new after (after_commit rules ran) × AtBase (after_commit rules ran).base may'
 Finishes rules now ran may new after may' outcome.Down =
     (new.power ≡ Down) × (new.now ≡ now)
-    × LeavesStores new.memory.rules new.journal.digest after
+    × LeavesUnder (list_of new) after
     × ((d : AgentDurable) (n : ℕ) → may' d n → may d n ⊎ IsAt (after_commit rules ran).base d n)
 Finishes rules now ran may new after may' outcome.Held = ⊥
 Finishes rules now ran may new after may' outcome.NoMemory = ⊥
@@ -73,6 +79,5 @@ Finishes rules now ran may new after may' outcome.NoMemory = ⊥
 abbrev pub power_of : OpenFault → Power
 power_of fault.DeviceFault = Down
 power_of (fault.NotAStore offset) = Spoilt
-power_of (fault.OtherList kept given) = Spoilt
 power_of (fault.TooLarge len) = Spoilt
 power_of fault.NoMemory = Spoilt

@@ -1,23 +1,26 @@
 //! The agent over a disk.
-ghost use Rattle.std.specs.Prelude.{◌≡◌, ◌⊎◌, ◌+◌, ◌≤◌, ℕ, List, [], Some, IfOk, IfErr};
+ghost use Rattle.std.specs.Prelude.{◌≡◌, ◌⊎◌, ◌+◌, ◌≤◌, ℕ, List, [], Some, Ok, Err, IfOk, IfErr};
 ghost use Rattle.std.specs.Prelude.{MatchResult, length, true};
 ghost use Rattle.unwinding.specs.Course.{AtBase};
 ghost use Rattle.unwinding.specs.CourseSteps.{reopened};
 ghost use Rattle.agent_base.specs.Counts.{Rose};
 ghost use Rattle.disk_model.specs.Disk.{HasFailed, IsPowered, IsSettled, LeavesOnly, Makes};
-ghost use Rattle.journal.specs.Opening.{FileMeans, HasNoFault, IsExcused, IsOfFile, IsOpening};
-ghost use Rattle.journal.specs.Opening.{IsLimitRefusal, IsOver, IsRefusal, opening_calls};
+ghost use Rattle.journal.specs.Opening.{HasNoFault, IsExcused, IsLimitRefusal, IsOfFile, IsOver};
+ghost use Rattle.journal.specs.Opening.{IsRefusal};
 ghost use Rattle.journal.specs.declared.open_fault.OpenFault.{OpenFault};
 ghost use Rattle.script_actions.specs.Plain.{action_of};
 ghost use Rattle.agent_model.specs.Lines.{Rest, no_places};
 ghost use Rattle.agent_base.specs.Seconds.{last_moment};
 ghost use Rattle.agent_model.specs.TheMachine.{machine};
 ghost use Rattle.durable_model.specs.Keeping.{durable_of, keeping};
+ghost use Rattle.durable_model.specs.Migrate.{IsUnder, migrate};
 ghost use Rattle.durable_model.specs.Saved.{IsValid, Saved, nothing_saved};
 ghost use Rattle.row_store.specs.Bodies.{Refuses, Takes};
-ghost use Rattle.suffix_list.specs.ListText.{RuleList};
 ghost use Rattle.row_store.specs.Stored.{HasNoSession, saved_of};
-ghost use Rattle.agent_core.specs.AgentView.{is_down, longest_batch, may_of, owes, since_opening};
+ghost use Rattle.row_opening.specs.Opened.{IsOpened};
+ghost use Rattle.row_opening.specs.Under.{IsOpeningUnder, MeansUnder};
+ghost use Rattle.agent_core.specs.AgentView.{is_down, list_of, longest_batch, may_of, owes};
+ghost use Rattle.agent_core.specs.AgentView.{since_opening};
 ghost use Rattle.open_store.specs.Commits.{HasRoomFor};
 ghost use Rattle.open_store.specs.Reopens.{LeavesAnew};
 ghost use Rattle.agent_core.specs.Flushing.{Flushes, KeepsOptions};
@@ -26,12 +29,11 @@ ghost use Rattle.agent_core.specs.Calls.{flush_calls};
 ghost use Rattle.agent_core.specs.Means.{Fits, FlushMeans, IsBeforeOrAfter, IsOneFound, LineMeans};
 ghost use Rattle.agent_core.specs.Means.{RestartMeans, after_line};
 ghost use Rattle.agent_core.specs.Seen.{AgentSeen, IsSeen, IsUp};
-ghost use Rattle.agent_core.specs.Openings.{IsOpened, resumed};
+ghost use Rattle.agent_core.specs.Openings.{OpensByCalls, resumed};
 ghost use Rattle.agent_core.specs.Running.{RunsLine};
 ghost use Rattle.agent_core.specs.Standing.{Finishes, IsHeld, power_of};
 
 use crate::open_batch::OpenBatch;
-use crate::opening::{Opened, open, reopen};
 use crate::outcome::Outcome;
 use crate::running::run_line;
 use agent_base::{NoMemory, Seconds};
@@ -40,7 +42,8 @@ use disk_model::Disk;
 use durable_model::lines_keep_durable_states;
 use journal::{DeviceFault, OpenFault};
 use open_store::Store;
-use row_store::{Parts, Rows, bodies_mean_states};
+use row_opening::{Opened, open_rows, reopen_rows};
+use row_store::{Parts, Rows, bodies_mean_states, states_stay_spelled};
 use script_actions::Action;
 use spelled_model::lines_have_spellings;
 use std::alloc::Global;
@@ -129,10 +132,7 @@ fn power_after(why: &OpenFault) -> Power
 {
     match why {
         OpenFault::DeviceFault => Power::Down,
-        OpenFault::NotAStore(_)
-        | OpenFault::OtherList { .. }
-        | OpenFault::TooLarge(_)
-        | OpenFault::NoMemory => Power::Spoilt,
+        OpenFault::NotAStore(_) | OpenFault::TooLarge(_) | OpenFault::NoMemory => Power::Spoilt,
     }
 }
 
@@ -175,7 +175,10 @@ fn begin<'l, D: Disk + Drop>(
 
 impl<'l, D: Disk + Drop> Agent<'l, D> {
     /// An agent over the store on a disk, or over a new one where the file is no store yet. A store
-    /// over 1,073,741,824 bytes is refused, and one that was made under another suffix list.
+    /// over 1,073,741,824 bytes is refused.
+    ///
+    /// A store may stand under another list. What of it is none under this one goes; what stays is
+    /// as it was, and is written as one snapshot under this list.
     pub fn open(
         alloc: Global,
         disk: D,
@@ -184,31 +187,31 @@ impl<'l, D: Disk + Drop> Agent<'l, D> {
     ) -> Result<Agent<'l, D>, Refused<D>>
         requires batch { (1 ≤ options.batch) × (options.batch ≤ longest_batch) }
 
-        // It stands for the world that a restart opens with what the store stands for.
+        // It stands for the world that a restart opens with what stays of the store's state.
         ensures seen { IfOk result (λ a. (base : Saved) × IsValid base
+            × IsUnder list.now.rules base
             × (let at : Rest = record { now = options.start; places = no_places } in
             let s = reopened (machine list.now.rules) keeping at (durable_of base) in
             IsSeen a (D.view a.disk) s × AtBase s.base (may_of a (D.view a.disk))
-            × ((c : List ℕ) (d : Saved) (n : ℕ) → (D.view disk).contents ≡ Some c
-            → FileMeans (Takes list.now.rules) nothing_saved list.now.digest c d n → base ≡ d)
-            × ((c : List ℕ) → (D.view disk).contents ≡ Some c → (n : ℕ)
-            × FileMeans (Takes list.now.rules) nothing_saved list.now.digest c base n))) }
+            × ((c kept : List ℕ) (d : Saved) (n : ℕ) → (D.view disk).contents ≡ Some c
+            → MeansUnder list.now.digest kept c d n → base ≡ migrate list.now.rules d)
+            × ((c : List ℕ) → (D.view disk).contents ≡ Some c
+            → (kept : List ℕ) × (d : Saved) × (n : ℕ) × MeansUnder list.now.digest kept c d n
+            × (base ≡ migrate list.now.rules d)))) }
         ensures rules { IfOk result (λ a. (a.memory.rules ≡ list.now.rules)
             × (a.journal.digest ≡ list.now.digest) × (a.batch ≡ options.batch)
             × (a.checkpoint ≡ options.checkpoint)) }
-        ensures refused { IfErr result (λ r. (c : List ℕ)
-            → (D.view disk).contents ≡ Some c
-            → IsRefusal (Takes list.now.rules) (Refuses list.now.rules) nothing_saved true
-            list.now.digest c r.why) }
-        ensures exactly { (why : OpenFault) (c : List ℕ)
-            → (D.view disk).contents ≡ Some c → IsOfFile why
-            → IsRefusal (Takes list.now.rules) (Refuses list.now.rules) nothing_saved true
-            list.now.digest c why
+        ensures refused { IfErr result (λ r. (c : List ℕ) → (D.view disk).contents ≡ Some c
+            → IsRefusal Takes Refuses nothing_saved true c r.why) }
+        ensures exactly { (why : OpenFault) (c : List ℕ) → (D.view disk).contents ≡ Some c
+            → IsOfFile why → IsRefusal Takes Refuses nothing_saved true c why
             → MatchResult result (λ _. ⊥) (λ r. (r.why ≡ why) ⊎ IsExcused r.why) }
         ensures limit { (c : List ℕ) → (D.view disk).contents ≡ Some c → IsOver true c
             → MatchResult result (λ _. ⊥) (λ r. IsLimitRefusal c r.why) }
         ensures unchanged { IfErr result (λ r. IsOfFile r.why
             → (D.view r.disk).contents ≡ (D.view disk).contents) }
+        ensures images { IfErr result (λ r. IsOfFile r.why → (file : List ℕ)
+            → (D.view r.disk).may_leave file → (D.view disk).may_leave file) }
         ensures tells { MatchResult result
             (λ a. (D.view a.disk).tells ≡ (D.view disk).tells)
             (λ r. (D.view r.disk).tells ≡ (D.view disk).tells) }
@@ -221,19 +224,19 @@ impl<'l, D: Disk + Drop> Agent<'l, D> {
             → HasNoFault (D.view disk) (D.view r.disk)) }
         ensures calls { (c : List ℕ) → (D.view disk).contents ≡ Some c
             → MatchResult result
-            (λ a. Makes (opening_calls c) result (D.view disk) (D.view a.disk))
-            (λ r. Makes (opening_calls c) result (D.view disk) (D.view r.disk)) }
-
-        // A cut at any moment leaves the file as it was, or of an unborn file an unborn one or a
-        // store without frames.
+            (λ a. OpensByCalls list.now c (Ok tt) (D.view disk) (D.view a.disk))
+            (λ r. OpensByCalls list.now c (Err r.why) (D.view disk) (D.view r.disk)) }
+        // A cut at any moment leaves the file as it was, but for the byte of its version; of an
+        // unborn file an unborn one or a store without frames; or of a store that is written anew a
+        // store of its state still, or of what stays of it, under the list.
         ensures any_moment { IsSettled (D.view disk) → (c : List ℕ)
             → (D.view disk).contents ≡ Some c
             → MatchResult result
-            (λ a. LeavesOnly (D.view disk) (D.view a.disk) (IsOpening list.now.digest c))
-            (λ r. LeavesOnly (D.view disk) (D.view r.disk) (IsOpening list.now.digest c)) }
+            (λ a. LeavesOnly (D.view disk) (D.view a.disk) (IsOpeningUnder list.now c))
+            (λ r. LeavesOnly (D.view disk) (D.view r.disk) (IsOpeningUnder list.now c)) }
     {
         let mut disk = disk;
-        match open(alloc, &mut disk, list) {
+        match open_rows(alloc, &mut disk, list) {
             Ok(opened) => Ok(begin(alloc, disk, list, options, opened)),
             Err(why) => Err(Refused { why, disk }),
         }
@@ -353,7 +356,7 @@ impl<'l, D: Disk + Drop> Agent<'l, D> {
             (λ why. self.new.power ≡ power_of why) }
     {
         self.power = Power::Down;
-        match reopen(self.alloc, &mut self.store.disk, self.list) {
+        match reopen_rows(self.alloc, &mut self.store.disk, self.list) {
             Ok(opened) => Ok(self.go_on(opened)),
             Err(why) => {
                 self.power = power_after(&why);
@@ -364,9 +367,8 @@ impl<'l, D: Disk + Drop> Agent<'l, D> {
 
     // Goes on with the store that a restart opened, and answers how many changes were kept.
     fn go_on(&mut self, opened: Opened) -> u64
-        requires opened { let list : RuleList =
-            record { rules = self.old.memory.rules; digest = self.old.journal.digest } in
-            IsOpened list opened.journal (D.view self.old.disk) opened.parts }
+        requires opened { IsOpened (list_of self.old) opened.journal (D.view self.old.disk)
+            opened.parts }
         ensures seen { let at : Rest = record { now = self.old.now; places = no_places } in
             let d = durable_of (saved_of opened.parts) in
             let s = reopened (machine self.old.memory.rules) keeping at d in
@@ -451,6 +453,7 @@ impl<'l, D: Disk + Drop> Agent<'l, D> {
     {
         lines_keep_durable_states();
         bodies_mean_states();
+        states_stay_spelled();
         let changes = self.batch.changes();
         match self.store.commit::<Rows>(self.batch.bytes(), changes) {
             Err(DeviceFault) => {

@@ -17,7 +17,7 @@ use crate::outcome::Outcome;
 use agent_base::NoMemory;
 use disk_model::Disk;
 use journal::DeviceFault;
-use row_store::{Rows, bodies_mean_states};
+use row_store::{Rows, bodies_mean_states, states_stay_spelled};
 
 impl<'l, D: Disk + Drop> Agent<'l, D> {
     // Makes the checkpoint that is due, if one is due, of an agent that is up and holds nothing.
@@ -110,6 +110,7 @@ impl<'l, D: Disk + Drop> Agent<'l, D> {
         ensures tidy { IsTidy result self.new }
     {
         bodies_mean_states();
+        states_stay_spelled();
         let digest = *self.store.journal.digest();
         match self.store.checkpoint::<Rows>(&digest, body) {
             Err(DeviceFault) => {

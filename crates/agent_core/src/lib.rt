@@ -9,7 +9,6 @@ mod agent;
 mod checkpoint;
 mod looking;
 mod open_batch;
-mod opening;
 mod outcome;
 mod running;
 

@@ -1,4 +1,5 @@
-//! What an agent tells of what it has in memory, which stays as it is. No call of the disk is made.
+//! What an agent tells of what it has in memory, which stays as it is, and of its disk, of which no
+//! call is made.
 //! Where a restart was refused, memory is not what the store stands for, and nothing is told.
 ghost use Rattle.std.specs.Prelude.{◌≡◌, ◌↔◌, ◌+◌, ◌%◌, ◌^◌, true, IfOk, IsErr, length, map};
 ghost use Rattle.row_changes.specs.Plain.{plain_change};
@@ -54,6 +55,13 @@ impl<'l, D: Disk + Drop> Agent<'l, D> {
     {
         self.has_memory()?;
         Ok(&self.memory)
+    }
+
+    /// The disk that the store is on.
+    pub fn disk(&self) -> &D
+        ensures disk { result.now ≡ self.entry.now.disk }
+    {
+        &self.store.disk
     }
 
     // Refuses where a restart was refused: want of memory was its cause, or is told for it.

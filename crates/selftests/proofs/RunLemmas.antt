@@ -22,6 +22,7 @@ use Rattle.store_runs.specs.Runs.{HasNoCuts, LeavesHistory, WritesLines}
 use Rattle.store_runs.specs.Tidy.{LeavesTidy}
 use Rattle.store_runs.specs.declared.ending.Ending.{Ending}
 use Rattle.store_runs.specs.declared.ending.Ending.TheVariants.{Done, Device, Store, Write, Memory}
+use Rattle.row_opening.proofs.Calls.{nothing_under}
 use Rattle.store_runs.proofs.DiskLemmas.{held_nothing, memory_writes}
 use Rattle.store_runs.proofs.StopLemmas.{writes_other}
 use Rattle.selftests.specs.Days.{actions_of, day_start, day_text}
@@ -37,7 +38,6 @@ never_done : (why : OpenFault) → Done ≡ ending_of why → ⊥
 never_done fault.DeviceFault is = cc
 never_done fault.NoMemory is = cc
 never_done (fault.NotAStore offset) is = cc
-never_done (fault.OtherList kept given) is = cc
 never_done (fault.TooLarge len) is = cc
 
 module _ (list : RuleList) (old new : View) (steps : List PlainStep) (before after : Option (List ℕ))
@@ -45,8 +45,10 @@ module _ (list : RuleList) (old new : View) (steps : List PlainStep) (before aft
   done_anew : WritesOn Done list day_start day_batch day_checkpoint old steps before after new
       → RanAnew Done list steps before after new.may_leave
   done_anew (inl (why, is, refused)) = absurd (never_done why is)
-  done_anew (inr (base, valid, means, opens, calls, begins, written)) =
-      let nothing : base ≡ nothing_saved = (means [] empty).alone nothing_saved 0 (inr (inl (omega arith), refl, refl)) in
+  done_anew (inr (base, valid, stays, means, opens, calls, begins, written)) =
+      let nothing : base ≡ nothing_saved =
+      (means [] empty).alone list.digest nothing_saved 0 (inr (inl (omega arith), refl, refl, refl))
+      ∙ nothing_under list.rules in
       let x = opened_at day_start base in
       subst (λ d. WritesLines Done list.rules day_batch day_checkpoint (opened_at day_start d) (Unit {0})
       steps before after (LeavesHistory list day_batch (opened_at day_start d) new.may_leave)) nothing
@@ -113,7 +115,8 @@ module _ (list : RuleList) (is : list ≡ no_rules) (steps : List PlainStep) (im
           state = stands.0;
           last = stands.1;
           stands = stands.2;
-          left = stands.3.left;
+          under = stands.3;
+          left = stands.4.left;
           tidy = subst (λ (l : RuleList). LeavesTidy day_checkpoint l.digest images) is tidy file image;
         },
       )

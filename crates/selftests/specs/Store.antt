@@ -9,6 +9,7 @@ use Rattle.suffix_list.specs.ListText.{RuleList}
 use Rattle.journal.specs.Region.{StandsForState}
 use Rattle.script_actions.specs.Action.{PlainAction, PlainStep}
 use Rattle.durable_model.specs.Keeping.{durable_of}
+use Rattle.durable_model.specs.Migrate.{IsUnder}
 use Rattle.durable_model.specs.Saved.{Saved, nothing_saved}
 use Rattle.row_store.specs.Bodies as bodies
 use Rattle.printed_model.specs.Histories.{EndsUp, IsHistoryOf, begins_at}
@@ -33,14 +34,15 @@ pub record RanAll (steps : List PlainStep) (history : History PlainAction) : Typ
   pub is : IsHistoryOf [] day_batch (begins_at day_start) (Unit {0}) steps history
   pub up : EndsUp history
 
--- a file that such a history leaves: it is a store of the list that has no rules, it stands for a
--- durable state that the history leaves, and no checkpoint is due for it
+-- a file that such a history leaves: it is a store under the list that has no rules, it stands for
+-- a durable state, one under this list, that the history leaves, and no checkpoint is due for it
 pub record IsStoreOf (steps : List PlainStep) (file : List ℕ) : Type 0 where
   pub history : History PlainAction
   pub ran : RanAll steps history
   pub state : Saved
   pub last : ℕ
-  pub stands : StandsForState (bodies.Takes []) nothing_saved (sha256 []) file state last
+  pub stands : StandsForState bodies.Takes nothing_saved (sha256 []) file state last
+  pub under : IsUnder [] state
   pub left : IsLeft [] day_batch (begins_at day_start) history (durable_of state)
   pub tidy : IsTidyFile day_checkpoint (sha256 []) file
 

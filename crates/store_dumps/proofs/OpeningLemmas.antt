@@ -1,5 +1,5 @@
 -- An opening, apart from what it gives.
-use Rattle.std.proofs.Common.{◌≡◌, inl, inr, ⊎_elim, ℕ, List, refl, sym, ap, subst, ◌∙◌, Result, Ok, Err}
+use Rattle.std.proofs.Common.{◌≡◌, inl, inr, ⊎_elim, refl, sym, ap, subst, ◌∙◌, Result, Ok, Err}
 use Rattle.std.specs.Prelude.{MatchResult, unwrap_or, ⊤}
 use Rattle.std.specs.Result.{result_err}
 use Rattle.disk_model.specs.Disk.{View}
@@ -7,7 +7,7 @@ use Rattle.journal.specs.Opening.{Opens}
 use Rattle.journal.specs.declared.open_fault.OpenFault.{OpenFault}
 use Rattle.journal.specs.declared.open_fault.OpenFault.TheVariants.{DeviceFault}
 use Rattle.suffix_list.specs.ListText.{RuleList}
-use Rattle.suffix_list.specs.Suffix.{Rule}
+use Rattle.row_opening.proofs.Calls.{makes_err, makes_ok}
 use Rattle.store_dumps.specs.Opening.{OpensStore, opened}
 
 -- what was given is no refusal
@@ -44,12 +44,12 @@ module _ {T : Type 0} (list : RuleList) (old new : View) where
     refused = λ why is. absurd (given_is tt why is);
     exactly = o.exactly;
     limit = o.limit;
-    excused = λ c d n told within means. tt;
+    excused = λ c kept d n told within means. tt;
     unchanged = λ why is. absurd (given_is tt why is);
-    kept = o.kept;
+    images = λ why is. absurd (given_is tt why is);
     device = opens_as old new (Ok x) o.device;
     settled = o.settled;
-    calls = λ c told. let m = o.calls c told in record { later = m.later; most = m.most; all = m.all };
+    calls = λ c told. makes_ok list c x tt old new (o.calls c told);
     any_moment = o.any_moment;
   }
   opened_as (Err why) o = record {
@@ -58,14 +58,9 @@ module _ {T : Type 0} (list : RuleList) (old new : View) where
     limit = o.limit;
     excused = o.excused;
     unchanged = λ again is. o.unchanged again (refusal_is why again (opened {T = T} (Err why)) (Err why) refl refl is);
-    kept = o.kept;
+    images = λ again is. o.images again (refusal_is why again (opened {T = T} (Err why)) (Err why) refl refl is);
     device = opens_as old new (Err why) o.device;
     settled = o.settled;
-    calls = λ c told. let m = o.calls c told in record { later = m.later; most = m.most; all = m.all };
+    calls = λ c told. makes_err list c why old new (o.calls c told);
     any_moment = o.any_moment;
   }
-
--- a list of the same rules and the same digest
-pub same_list : (list : RuleList) (rules : List Rule) (digest : List ℕ) → rules ≡ list.rules
-    → digest ≡ list.digest → record { rules = rules; digest = digest } ≡ list
-same_list list rules digest one two = λ i. record { rules = one i; digest = two i }

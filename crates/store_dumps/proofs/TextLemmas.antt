@@ -7,8 +7,9 @@ use Rattle.std.proofs.lemmas.List.{map-append, take-append-drop, take_more}
 use Rattle.std.proofs.lemmas.List.Elements.{filter_map-append}
 use Rattle.agent_base.specs.Streams.{Takes, TakesPrefix}
 use Rattle.suffix_list.specs.ListText.{RuleList}
+use Rattle.durable_model.specs.Migrate.{IsUnder}
 use Rattle.durable_model.specs.Saved.{IsValid, Saved}
-use Rattle.spelled_model.specs.Rows.{IsReadSaved}
+use Rattle.spelled_model.specs.Rows.{IsReadSavedUnder}
 use Rattle.row_changes.specs.Change.{PlainChange}
 use Rattle.row_changes.specs.Plain.{plain_change}
 use Rattle.row_changes.specs.declared.change.Change.{Change}
@@ -75,9 +76,9 @@ module _ (a b : Option (List ℕ)) (rows : List Change) (i : ℕ) where
 
 -- a dump whose store was opened wrote the lines of its state
 pub writes_some : (list : RuleList) (told : Option (List ℕ)) (result : Result (Unit {0}) DumpFault)
-    (a b : Option (List ℕ)) (d : Saved) → opening_of result ≡ Ok tt → IsValid d → IsReadSaved list.rules d
-    → StandsAsTold list told d → Writes (dump_text d) result a b → WritesSome list told result a b
-writes_some list told result a b d is valid read stands writes =
-    subst (λ o. MatchResult o (λ _. (d : Saved) × IsValid d × IsReadSaved list.rules d
-    × StandsAsTold list told d × Writes (dump_text d) result a b) (λ _. Takes a b [])) (sym is)
-    (d, valid, read, stands, writes)
+    (a b : Option (List ℕ)) (d : Saved) → opening_of result ≡ Ok tt → IsValid d → IsUnder list.rules d
+    → IsReadSavedUnder list.rules d → StandsAsTold list told d → Writes (dump_text d) result a b → WritesSome list told result a b
+writes_some list told result a b d is valid under read stands writes =
+    subst (λ o. MatchResult o (λ _. (d : Saved) × IsValid d × IsUnder list.rules d
+    × IsReadSavedUnder list.rules d × StandsAsTold list told d × Writes (dump_text d) result a b) (λ _. Takes a b [])) (sym is)
+    (d, valid, under, read, stands, writes)

@@ -6,14 +6,14 @@
 use Rattle.std.specs.Prelude.{◌≡◌, ℕ, List, [], Option, Some, map, filter_map, flat_map, Result, Ok, Err, MatchResult}
 use Rattle.agent_base.specs.Counts.{Rose}
 use Rattle.agent_base.specs.Streams.{Takes, TakesPrefix}
-use Rattle.journal.specs.Opening.{FileMeans}
 use Rattle.suffix_list.specs.ListText.{RuleList}
 use Rattle.row_changes.specs.Change.{PlainChange}
 use Rattle.row_lines.specs.Row.{PlainRow, row_of, row_text}
-use Rattle.durable_model.specs.Saved.{IsValid, Saved, nothing_saved}
-use Rattle.spelled_model.specs.Rows.{IsReadSaved}
-use Rattle.row_store.specs.Bodies as bodies
+use Rattle.durable_model.specs.Migrate.{IsUnder, migrate}
+use Rattle.durable_model.specs.Saved.{IsValid, Saved}
+use Rattle.spelled_model.specs.Rows.{IsReadSavedUnder}
 use Rattle.row_store.specs.Listing.{listed}
+use Rattle.row_opening.specs.Under.{MeansUnder}
 use Rattle.store_dumps.specs.Opening.{opening_of}
 use Rattle.store_dumps.specs.declared.fault.DumpFault.{DumpFault}
 use Rattle.store_dumps.specs.declared.fault.DumpFault.TheVariants.{Open, Write, NoMemory}
@@ -42,21 +42,22 @@ Writes text (Err (Open why)) before after = Takes before after []
 Writes text (Err Write) before after = TakesPrefix before after text
 Writes text (Err NoMemory) before after = TakesPrefix before after text
 
--- what a file that is told stands for, under a list
+-- a state is what stays, under a list, of what a file that is told stands for, under whichever list
 abbrev pub StandsAsTold : RuleList → (told : Option (List ℕ)) → Saved → Type 0
 StandsAsTold list told d =
-    (file : List ℕ) → told ≡ Some file → (n : ℕ)
-    × FileMeans (bodies.Takes list.rules) nothing_saved list.digest file d n
+    (file : List ℕ) → told ≡ Some file
+    → (kept : List ℕ) × (was : Saved) × (n : ℕ) × MeansUnder list.digest kept file was n
+    × (d ≡ migrate list.rules was)
 
 -- What the sink took of a store whose bytes may be told: where it was opened, of the lines of a
--- state that was read under the rules of a list, and is what the bytes stand for where they are
--- told; and else nothing.
+-- state that was read, and is one under the rules of a list, and what stays of what the bytes stand
+-- for where they are told; and else nothing.
 abbrev pub WritesSome : {T : Type 0} → RuleList → (told : Option (List ℕ)) → Result T DumpFault
     → (before after : Option (List ℕ)) → Type 0
 WritesSome list told result before after =
     MatchResult (opening_of result)
-    (λ _. (d : Saved) × IsValid d × IsReadSaved list.rules d × StandsAsTold list told d
-    × Writes (dump_text d) result before after)
+    (λ _. (d : Saved) × IsValid d × IsUnder list.rules d × IsReadSavedUnder list.rules d
+    × StandsAsTold list told d × Writes (dump_text d) result before after)
     (λ _. Takes before after [])
 
 -- the count of faults of the output: writing failed where it rose, and else it stays

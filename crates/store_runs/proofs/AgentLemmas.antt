@@ -464,7 +464,6 @@ module _ {D : Type 0} (tell : D → View) (old new : AgentView D) where
         (λ on. absurd on),
       )
   restart_called (Err (fault.NotAStore offset)) means device makes told some a seen fits = absurd (means told a seen).2
-  restart_called (Err (fault.OtherList kept given)) means device makes told some a seen fits = absurd (means told a seen).2
   restart_called (Err (fault.TooLarge len)) means device makes told some a seen fits = absurd (means told a seen).2
 
   -- a restart that was refused did not run
@@ -478,7 +477,6 @@ module _ {D : Type 0} (tell : D → View) (old new : AgentView D) where
   restart_stops fault.DeviceFault other means device makes = absurd (other refl)
   restart_stops fault.NoMemory other means device makes = restart_called (Err fault.NoMemory) means device makes
   restart_stops (fault.NotAStore offset) other means device makes = (tt, refl, λ told a seen. (means told a seen).2)
-  restart_stops (fault.OtherList kept given) other means device makes = (tt, refl, λ told a seen. (means told a seen).2)
   restart_stops (fault.TooLarge len) other means device makes = (tt, refl, λ told a seen. (means told a seen).2)
 
   -- a line that did not run stops the run

@@ -1,6 +1,6 @@
 -- The store on a disk, when a run opens it.
 use Rattle.std.proofs.Common.{◌≡◌, ◌⊎◌, ⊎_elim, ℕ, zero, suc, ◌+◌, ◌-◌, ◌^◌, ◌<◌, ◌≤◌, min, true, false, not, List, [], ◌∷◌, Option, Some, inl, inr, refl, sym, ap, subst, ◌∙◌, arith, length}
-use Rattle.std.proofs.lemmas.Bool.{and_right, lt-leb}
+use Rattle.std.proofs.lemmas.Bool.{and_right, cases_lt, lt-leb}
 use Rattle.std.specs.Prelude.{Result, Ok, Err, nat_le, ◌==◌, ◌&&◌, if◌then◌else◌}
 use Rattle.unwinding.specs.Admissible.{History}
 use Rattle.unwinding.specs.Course.{AtBase}
@@ -12,7 +12,7 @@ use Rattle.disk_model.specs.History.{Event, Past, held}
 use Rattle.disk_model.specs.MemDisk.{numbers_of}
 use Rattle.disk_model.specs.declared.schedule.Cut.{Cut}
 use Rattle.journal.specs.Journal.{StandsInFile, since_of}
-use Rattle.journal.specs.Opening.{AnswersByCuts, IsExcused, IsOfFile, IsOpening, IsRefusal, IsUpgrade, opening_calls}
+use Rattle.journal.specs.Opening.{AnswersByCuts, IsExcused, IsOfFile, IsOpening, IsRefusal, IsUpgrade, IsWithin, limit, opening_calls}
 use Rattle.journal.specs.Store.{IsStore, IsUnborn}
 use Rattle.journal.specs.declared.open_fault.OpenFault.{OpenFault}
 use Rattle.journal.specs.declared.open_fault.OpenFault.TheVariants as fault
@@ -20,21 +20,25 @@ use Rattle.suffix_list.specs.ListText.{RuleList}
 use Rattle.suffix_list.specs.Suffix.{Rule}
 use Rattle.script_actions.specs.Action.{PlainAction, PlainStep}
 use Rattle.durable_model.specs.Histories.{AgentOpening, opened_at}
+use Rattle.durable_model.specs.Migrate.{IsUnder}
 use Rattle.durable_model.specs.Saved.{IsValid, Saved, nothing_saved}
 use Rattle.row_store.specs.Bodies.{Refuses}
 use Rattle.row_store.specs.Bodies as bodies
-use Rattle.agent_core.specs.AgentView.{AgentView, may_of}
+use Rattle.row_opening.proofs.Calls.{nothing_under, unborn_calls}
+use Rattle.row_opening.specs.Under.{IsMigrating, IsOpeningUnder, MeansUnder, calls_under, checkpoint_calls as anew_calls}
+use Rattle.agent_core.specs.AgentView.{AgentView, list_of, may_of}
 use Rattle.agent_core.specs.Calls.{checkpoint_calls}
+use Rattle.agent_core.specs.Openings.{OpensByCalls}
 use Rattle.agent_core.specs.Seen.{AgentSeen, IsSeen}
 use Rattle.journal.proofs.Cuts.{fails_by_cut, first_ahead}
 use Rattle.journal.proofs.Refusals.{store_is_born, store_of}
 use Rattle.journal.proofs.Unique.{store_unique}
 use Rattle.journal.proofs.Upgrades.{upgrade_unborn}
 use Rattle.store_runs.specs.CutBounds.{MeetsCuts, fault_places}
-use Rattle.store_runs.specs.Disks.{BeginsWithin, CutsOpening, IsMeantBy, IsRefusedOn, IsUnopened, LeavesDisk, OpensByCuts, WritesInMemory, WritesOn}
+use Rattle.store_runs.specs.Disks.{AnswersUnder, BeginsWithin, CutsOpening, IsMeantBy, IsRefusedOn, IsUnopened, LeavesDisk, OpensByCuts, WritesInMemory, WritesOn}
 use Rattle.store_runs.specs.Endings.{ending_of}
 use Rattle.store_runs.specs.Fronts.{LeavesCount, WritesFirst, WritesFromOpening}
-use Rattle.store_runs.specs.Openings.{IsJustOpened, calls_before, just_opened, list_of}
+use Rattle.store_runs.specs.Openings.{IsJustOpened, calls_before, just_opened}
 use Rattle.store_runs.specs.Faults.{RoseBy, faults_of}
 use Rattle.store_runs.specs.Runs.{HasNoCuts, WritesLines}
 use Rattle.store_runs.specs.Tidy.{LeavesTidy}
@@ -73,26 +77,73 @@ err_is why other is = cc
 opened : (why : OpenFault) → ◌≡◌ {A = Result (Unit {0}) OpenFault} (Ok tt) (Err why) → ⊥
 opened why is = cc
 
-module _ (old new : View) (calls : ℕ) (before : IsLawful old) (after : IsLawful new) where
-  -- at `Ok` the first of them lies past it
-  pub opens_past : IsPowered old new → min (old.changing + calls) (2 ^ 64 - 1) ≤ new.changing
+-- a file that is not too large
+pub is_within : (c : List ℕ) → (limit < length c → ⊥) → IsWithin true c
+is_within c never =
+    ⊎_elim (λ (over : limit < length c). absurd (never over)) (λ le limited. le)
+    (cases_lt limit (length c))
+
+module _ (old new : View) (before : IsLawful old) (after : IsLawful new) where
+  -- at `Ok` the first of them lies past so many calls
+  lies_past : (calls : ℕ) → IsPowered old new → min (old.changing + calls) (2 ^ 64 - 1) ≤ new.changing
       → (cuts : List ℕ) → old.cuts ≡ Some cuts → AnswersByCuts {T = Unit {0}} (Ok tt) old.changing calls cuts
-  opens_past powered all [] told = λ never. opened fault.DeviceFault never
-  opens_past powered all (cut ∷ cuts) told = (
+  lies_past calls powered all [] told = λ never. opened fault.DeviceFault never
+  lies_past calls powered all (cut ∷ cuts) told = (
     omega (arith, all, first_ahead new cut cuts after (powered.cuts ∙ told)),
     λ never. absurd (opened fault.DeviceFault never),
   )
 
   -- and a device fault is the first of them
-  pub fails_within : (why : OpenFault) → (why ≡ fault.DeviceFault → HasFailed old new)
+  lies_within : (calls : ℕ) (why : OpenFault) → (why ≡ fault.DeviceFault → HasFailed old new)
       → new.changing ≤ old.changing + calls → old.off ≡ false → (cuts : List ℕ) → old.cuts ≡ Some cuts
       → AnswersByCuts {T = Unit {0}} (Err why) old.changing calls cuts
-  fails_within why failed most on [] told = λ is. fails_by_cut old new [] (failed (err_is why fault.DeviceFault is)) on told
-  fails_within why failed most on (cut ∷ cuts) told = (
+  lies_within calls why failed most on [] told = λ is. fails_by_cut old new [] (failed (err_is why fault.DeviceFault is)) on told
+  lies_within calls why failed most on (cut ∷ cuts) told = (
     tt,
     λ is. let call = (fails_by_cut old new (cut ∷ cuts) (failed (err_is why fault.DeviceFault is))
         on told).1 in (first_ahead old cut cuts before told, omega (arith, call, most)),
   )
+
+  -- so the opening of a file answers
+  module _ (list : RuleList) (file cuts : List ℕ) (told : old.cuts ≡ Some cuts) where
+    pub opens_past : IsPowered old new → OpensByCalls list file (Ok tt) old new
+        → AnswersUnder list file (Ok tt) old.changing cuts
+    opens_past powered makes = record {
+      exactly = λ kept d n within means.
+          lies_past (calls_under list kept d file) powered (makes.exactly kept d n within means).all
+          cuts told;
+      others = ⊎_elim
+          (λ few. inl (lies_past (opening_calls file) powered few.all cuts told))
+          (λ more. inr (
+            more.0,
+            more.1,
+            more.2,
+            more.3,
+            more.4,
+            lies_past (opening_calls file + anew_calls) powered more.5.all cuts told,
+          ))
+          makes.others;
+    }
+
+    pub fails_within : (why : OpenFault) → (why ≡ fault.DeviceFault → HasFailed old new)
+        → old.off ≡ false → OpensByCalls list file (Err why) old new
+        → AnswersUnder list file (Err why) old.changing cuts
+    fails_within why failed on makes = record {
+      exactly = λ kept d n within means.
+          lies_within (calls_under list kept d file) why failed
+          (makes.exactly kept d n within means).most on cuts told;
+      others = ⊎_elim
+          (λ few. inl (lies_within (opening_calls file) why failed few.most on cuts told))
+          (λ more. inr (
+            more.0,
+            more.1,
+            more.2,
+            more.3,
+            more.4,
+            lies_within (opening_calls file + anew_calls) why failed more.5.most on cuts told,
+          ))
+          makes.others;
+    }
 
 -- ---- a checkpoint that is due before the first line
 
@@ -108,15 +159,19 @@ none_due_yet agent file stands =
     ap (λ due. if due then 7 else 0) (none_yet agent.checkpoint (since_of agent.journal) (since_is agent.journal file [] stands))
 
 -- none is for a store that was just made
-made_none_due : {D : Type 0} (agent : AgentView D) (old view : View) (a : AgentSeen) (digest file : List ℕ)
-    → IsSeen agent view a → a.up ≡ true → IsLawful view → view.tells ≡ true → agent.journal.digest ≡ digest
-    → IsUnborn file → LeavesOnly old view (IsOpening digest file) → checkpoint_calls agent ≡ 0
-made_none_due agent old view a digest file seen up laws told is unborn only =
+made_none_due : {D : Type 0} (agent : AgentView D) (old view : View) (a : AgentSeen) (list : RuleList) (file : List ℕ)
+    → IsSeen agent view a → a.up ≡ true → IsLawful view → view.tells ≡ true → agent.journal.digest ≡ list.digest
+    → IsUnborn file → LeavesOnly old view (IsOpeningUnder list file) → checkpoint_calls agent ≡ 0
+made_none_due agent old view a list file seen up laws told is unborn only =
     let has = laws.told told in
+    let digest = list.digest in
     let now = has.0 in
     let found = (seen.standing up).store.rests.stands now has.1 in
     let store : IsStore digest now found.0 =
     subst (λ d. IsStore d now found.0) is (store_of agent.journal now found.0 found.1) in
+    let opens : IsOpening digest file now = ⊎_elim (λ opens. opens)
+    (λ (anew : IsMigrating list file now). absurd (store_is_born anew.0 file anew.3.0 anew.3.1 unborn))
+    (only.each now (laws.counts_now old.moment now only.later (laws.contents_may_stay now has.1))) in
     ⊎_elim
     (λ same. absurd (store_is_born digest now found.0 store (subst IsUnborn (sym same) unborn)))
     (⊎_elim
@@ -126,20 +181,20 @@ made_none_due agent old view a digest file seen up laws told is unborn only =
     (λ fresh. none_due_yet agent now
     (subst (StandsInFile agent.journal now) (store_unique digest digest now found.0 [] store fresh).0 found.1))
     made.1))
-    (only.each now (laws.counts_now old.moment now only.later (laws.contents_may_stay now has.1)))
+    opens
 
 -- ---- a run over a disk
 
 -- the first opening was refused
 pub refused_writes : (ending : Ending) (list : RuleList) (start batch checkpoint : ℕ) (why : OpenFault)
     (old new : View) (steps : List PlainStep) (taken : Option (List ℕ)) → ending ≡ ending_of why
-    → ((c : List ℕ) → old.contents ≡ Some c → IsRefusal (bodies.Takes list.rules) (Refuses list.rules)
-    nothing_saved true list.digest c why) → (why ≡ fault.DeviceFault
-    → Rose old.faults new.faults × HasFailed old new) → OpensByCuts (Err why) old
+    → ((c : List ℕ) → old.contents ≡ Some c → IsRefusal bodies.Takes Refuses nothing_saved true c why) → (why ≡ fault.DeviceFault
+    → Rose old.faults new.faults × HasFailed old new) → OpensByCuts list (Err why) old
     → (IsOfFile why → new.contents ≡ old.contents)
-    → (IsSettled old → (c : List ℕ) → old.contents ≡ Some c → LeavesOnly old new (IsOpening list.digest c)) → IsLawful new
+    → (IsOfFile why → (file : List ℕ) → new.may_leave file → old.may_leave file)
+    → (IsSettled old → (c : List ℕ) → old.contents ≡ Some c → LeavesOnly old new (IsOpeningUnder list c)) → IsLawful new
     → WritesOn ending list start batch checkpoint old steps taken taken new
-refused_writes ending list start batch checkpoint why old new steps taken is cause device cuts unchanged moments lawful = inl (
+refused_writes ending list start batch checkpoint why old new steps taken is cause device cuts unchanged alone moments lawful = inl (
   why,
   is,
   record {
@@ -151,6 +206,7 @@ refused_writes ending list start batch checkpoint why old new steps taken is cau
     images = λ settled c contents file leaves.
         let only = moments settled c contents in
         only.each file (lawful.counts_now old.moment file only.later leaves);
+    alone = alone;
   },
 )
 
@@ -177,27 +233,29 @@ module _ {D : Type 0} (list : RuleList) (start batch checkpoint : ℕ) (old view
   -- with so many calls made, or due
   pub begins_within : view.tells ≡ true → IsSeen agent view (just_opened list.rules (opened_at start base))
       → IsLawful view
-      → ((c : List ℕ) → old.contents ≡ Some c → view.changing ≤ old.changing + opening_calls c)
-      → (IsSettled old → (c : List ℕ) → old.contents ≡ Some c → LeavesOnly old view (IsOpening list.digest c))
-      → BeginsWithin (calls_before agent view) old
+      → ((c kept : List ℕ) (d : Saved) (n : ℕ) → old.contents ≡ Some c → MeansUnder list.digest kept c d n
+      → view.changing ≤ old.changing + calls_under list kept d c)
+      → (IsSettled old → (c : List ℕ) → old.contents ≡ Some c → LeavesOnly old view (IsOpeningUnder list c))
+      → BeginsWithin list (calls_before agent view) old
   begins_within told seen laws calls moments = record {
-    found = λ c contents. omega (arith, calls c contents, due_few agent);
+    found = λ c kept d n contents means. omega (arith, calls c kept d n contents means, due_few agent);
     made = λ settled c contents unborn. omega (
       arith,
-      calls c contents,
-      made_none_due agent old view (just_opened list.rules (opened_at start base)) list.digest c seen
+      calls c list.digest nothing_saved 0 contents (inr (unborn, refl, refl, refl)),
+      unborn_calls list c,
+      made_none_due agent old view (just_opened list.rules (opened_at start base)) list c seen
           (opens_up list.rules (opened_at start base)) laws told is_digest unborn (moments settled c contents),
     );
   }
 
   -- and the lines ran
-  pub opened_writes : IsValid base → (ending : Ending) (new : View) (steps : List PlainStep)
+  pub opened_writes : IsValid base → IsUnder list.rules base → (ending : Ending) (new : View) (steps : List PlainStep)
       (before after : Option (List ℕ)) → IsPowered old view → view.faults ≡ old.faults
-      → IsMeantBy list old base → OpensByCuts (Ok tt) old → BeginsWithin (calls_before agent view) old
+      → IsMeantBy list old base → OpensByCuts list (Ok tt) old → BeginsWithin list (calls_before agent view) old
       → WritesLines ending agent.memory.rules agent.batch agent.checkpoint (opened_at start base)
       (HasNoCuts view) steps before after (LeavesDisk ending (list_of agent) agent.batch
       (opened_at start base) (calls_before agent view) view new) → WritesOn ending list start batch checkpoint old steps before after new
-  opened_writes valid ending new steps before after powered faults means cuts begins written =
+  opened_writes valid stays ending new steps before after powered faults means cuts begins written =
       let calls = calls_before agent view in
       let x : AgentOpening = opened_at start base in
       let left : List PlainStep → History PlainAction → Type 0 = LeavesDisk ending list batch x calls view new in
@@ -214,6 +272,7 @@ module _ {D : Type 0} (list : RuleList) (start batch checkpoint : ℕ) (old view
       inr (
         base,
         valid,
+        stays,
         means,
         cuts,
         calls,
@@ -267,26 +326,35 @@ module _ (cuts : List Cut) (old : View) (empty : old.contents ≡ Some []) (on :
   no_cuts : cuts ≡ [] → HasNoCuts old
   no_cuts none = (on, told ∙ ap (λ cs. Some (numbers_of cs)) none)
 
+  -- the empty disk stands for nothing, under each list
+  no_bytes : IsWithin true []
+  no_bytes limited = omega arith
+
+  unborn_means : (list : RuleList) → MeansUnder list.digest list.digest [] nothing_saved 0
+  unborn_means list = inr (inl (omega arith), refl, refl, refl)
+
   -- a device fault of the opening is the first cut
-  fails_in_opening : (cs : List Cut) → old.cuts ≡ Some (numbers_of cs) → OpensByCuts (Err fault.DeviceFault) old → CutsOpening cs
-  fails_in_opening [] none opens = absurd (opens [] [] empty on none refl)
-  fails_in_opening (cut ∷ cs) some opens = omega (arith, first, ((opens [] (numbers_of (cut ∷ cs)) empty on some).1 refl).1)
+  fails_in_opening : (list : RuleList) (cs : List Cut) → old.cuts ≡ Some (numbers_of cs)
+      → OpensByCuts list (Err fault.DeviceFault) old → CutsOpening cs
+  fails_in_opening list [] none opens = absurd ((opens [] [] empty on none).exactly list.digest nothing_saved 0 no_bytes (unborn_means list) refl)
+  fails_in_opening list (cut ∷ cs) some opens =
+      let by = (opens [] (numbers_of (cut ∷ cs)) empty on some).exactly list.digest nothing_saved 0 no_bytes (unborn_means list) in
+      omega (arith, first, (by.1 refl).1, unborn_calls list [])
 
   -- a store was not opened where the first cut falls into the opening
-  opens_beyond : (cs : List Cut) → old.cuts ≡ Some (numbers_of cs) → OpensByCuts (Ok tt) old → CutsOpening cs → ⊥
-  opens_beyond [] none opens within = within
-  opens_beyond (cut ∷ cs) some opens within = omega (arith, first, within, (opens [] (numbers_of (cut ∷ cs)) empty on some).0)
+  opens_beyond : (list : RuleList) (cs : List Cut) → old.cuts ≡ Some (numbers_of cs) → OpensByCuts list (Ok tt) old
+      → CutsOpening cs → ⊥
+  opens_beyond list [] none opens within = within
+  opens_beyond list (cut ∷ cs) some opens within =
+      let by = (opens [] (numbers_of (cut ∷ cs)) empty on some).exactly list.digest nothing_saved 0 no_bytes (unborn_means list) in
+      omega (arith, first, within, by.0, unborn_calls list [])
 
   -- why the store on an empty disk was not opened
   unopened : (why : OpenFault) (list : RuleList) (new : View) (before after : Option (List ℕ))
       → IsRefusedOn list why old new before after → IsUnopened (ending_of why) cuts
-  unopened fault.DeviceFault list new before after refused = fails_in_opening cuts told refused.cuts
+  unopened fault.DeviceFault list new before after refused = fails_in_opening list cuts told refused.cuts
   unopened fault.NoMemory list new before after refused = tt
   unopened (fault.NotAStore offset) list new before after refused = absurd (few (refused.cause [] empty).2)
-    where
-      few : 1 < length {A = ℕ} [] → ⊥
-      few less = omega (arith, less)
-  unopened (fault.OtherList kept given) list new before after refused = absurd (few (refused.cause [] empty).2)
     where
       few : 1 < length {A = ℕ} [] → ⊥
       few less = omega (arith, less)
@@ -308,8 +376,8 @@ module _ (cuts : List Cut) (old : View) (empty : old.contents ≡ Some []) (on :
       → WritesInMemory ending list.rules start batch checkpoint cuts steps before after
   memory_writes ending list start batch checkpoint new steps before after (inl (why, is, refused)) =
       inl (subst (λ e. IsUnopened e cuts) (sym is) (unopened why list new before after refused), refused.text)
-  memory_writes ending list start batch checkpoint new steps before after (inr (base, valid, means, opens, calls, begins, written)) =
-      let nothing : base ≡ nothing_saved = (means [] empty).alone nothing_saved 0 (inr (inl (omega arith), refl, refl)) in
+  memory_writes ending list start batch checkpoint new steps before after (inr (base, valid, stays, means, opens, calls, begins, written)) =
+      let nothing : base ≡ nothing_saved = (means [] empty).alone list.digest nothing_saved 0 (unborn_means list) ∙ nothing_under list.rules in
       let few : calls ≤ opening_calls [] = omega (arith, first, begins.made settled [] empty (inl (omega arith))) in
       let told_lines : WritesLines ending list.rules batch checkpoint (opened_at start base) (cuts ≡ [])
       steps before after (MeetsNumbers ending list.rules batch (opened_at start base)) =
@@ -320,7 +388,7 @@ module _ (cuts : List Cut) (old : View) (empty : old.contents ≡ Some []) (on :
       (fault_places list.rules batch ending (opened_at start base) history) (l.2 (numbers_of cuts) told on))
       before after ending steps written in
       inr (
-        opens_beyond cuts told opens,
+        opens_beyond list cuts told opens,
         subst (λ d. WritesLines ending list.rules batch checkpoint
             (opened_at start d) (cuts ≡ []) steps before after (MeetsNumbers ending list.rules batch (opened_at start d)))
             nothing told_lines,

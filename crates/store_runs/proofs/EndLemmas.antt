@@ -217,14 +217,12 @@ pub refused_stays : (why : OpenFault) (count : ℕ) → WriteCounts (ending_of w
 refused_stays fault.DeviceFault count = refl
 refused_stays fault.NoMemory count = refl
 refused_stays (fault.NotAStore offset) count = refl
-refused_stays (fault.OtherList kept given) count = refl
 refused_stays (fault.TooLarge len) count = refl
 
 pub refused_store : (why : OpenFault) → IsStoreEnding (ending_of why)
 refused_store fault.DeviceFault = tt
 refused_store fault.NoMemory = tt
 refused_store (fault.NotAStore offset) = tt
-refused_store (fault.OtherList kept given) = tt
 refused_store (fault.TooLarge len) = tt
 
 -- it never ends as `Done`
@@ -235,7 +233,6 @@ refused_done P why is = absurd (never why is)
     never fault.DeviceFault is = cc
     never fault.NoMemory is = cc
     never (fault.NotAStore offset) is = cc
-    never (fault.OtherList kept given) is = cc
     never (fault.TooLarge len) is = cc
 
 -- it ends as `Device` for a device fault alone
@@ -249,10 +246,6 @@ refused_device (fault.NotAStore offset) is = absurd (store_device is)
   where
     store_device : Store (fault.NotAStore offset) ≡ Device → ⊥
     store_device e = cc
-refused_device (fault.OtherList kept given) is = absurd (store_device is)
-  where
-    store_device : Store (fault.OtherList kept given) ≡ Device → ⊥
-    store_device e = cc
 refused_device (fault.TooLarge len) is = absurd (store_device is)
   where
     store_device : Store (fault.TooLarge len) ≡ Device → ⊥
@@ -263,14 +256,12 @@ file_ending : (why : OpenFault) → IsOfFile why → ending_of why ≡ Store why
 file_ending fault.DeviceFault of = absurd of
 file_ending fault.NoMemory of = absurd of
 file_ending (fault.NotAStore offset) of = refl
-file_ending (fault.OtherList kept given) of = refl
 file_ending (fault.TooLarge len) of = refl
 
 excused_ending : (why : OpenFault) → IsExcused why → (ending_of why ≡ Device) ⊎ (ending_of why ≡ Memory)
 excused_ending fault.DeviceFault excused = inl refl
 excused_ending fault.NoMemory excused = inr refl
 excused_ending (fault.NotAStore offset) excused = absurd excused
-excused_ending (fault.OtherList kept given) excused = absurd excused
 excused_ending (fault.TooLarge len) excused = absurd excused
 
 -- where a file has a refusal, the run ends by it, or it is excused

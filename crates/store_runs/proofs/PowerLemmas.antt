@@ -91,5 +91,4 @@ module _ {D : Type 0} (tell : D → View) (old new : AgentView D) where
   restart_counts_on (Err fault.DeviceFault) device power = rises (device.counted refl)
   restart_counts_on (Err fault.NoMemory) device power = spoilt_counts fault.NoMemory device power
   restart_counts_on (Err (fault.NotAStore offset)) device power = spoilt_counts (fault.NotAStore offset) device power
-  restart_counts_on (Err (fault.OtherList kept given)) device power = spoilt_counts (fault.OtherList kept given) device power
   restart_counts_on (Err (fault.TooLarge len)) device power = spoilt_counts (fault.TooLarge len) device power

@@ -11,9 +11,10 @@ use Rattle.script_actions.specs.Plain.{step_of}
 use Rattle.script_actions.specs.declared.step.Line.{Line}
 use Rattle.durable_model.specs.Histories.{AgentOpening}
 use Rattle.durable_model.specs.Keeping.{durable_of}
+use Rattle.durable_model.specs.Migrate.{IsUnder}
 use Rattle.durable_model.specs.Saved.{nothing_saved}
 use Rattle.row_store.specs.Bodies as bodies
-use Rattle.agent_core.specs.AgentView.{AgentView, may_find, may_of, since_opening}
+use Rattle.agent_core.specs.AgentView.{AgentView, list_of, may_find, may_of, since_opening}
 use Rattle.agent_core.specs.Calls.{checkpoint_calls}
 use Rattle.agent_core.specs.Means.{AgentMay}
 use Rattle.agent_core.specs.Seen.{AgentSeen, IsSeen}
@@ -27,7 +28,7 @@ use Rattle.store_runs.specs.CutCourses.{moment_of}
 use Rattle.store_runs.specs.Disks.{LeavesDisk}
 use Rattle.store_runs.specs.Faults.{RoseBy, faults_of}
 use Rattle.store_runs.specs.Fronts.{LeavesCount}
-use Rattle.store_runs.specs.Openings.{GoesOn, IsJustOpened, calls_before, list_of}
+use Rattle.store_runs.specs.Openings.{GoesOn, IsJustOpened, calls_before}
 use Rattle.store_runs.specs.Runs.{HasNoCuts, LeavesHistory, Ran, Stopped, WritesLines}
 use Rattle.store_runs.specs.Steps.{steps_of}
 use Rattle.store_runs.specs.Waiting.{Ended}
@@ -92,8 +93,8 @@ left_files v view b list batch x rest history told seen is_rules is_digest leave
     let store = (seen.stores told file image).1 in (
       store.0,
       store.1,
-      subst (λ digest. StandsForState (bodies.Takes list.rules) nothing_saved digest file store.0 store.1) is_digest
-          (subst (λ rules. StandsForState (bodies.Takes rules) nothing_saved v.journal.digest file store.0 store.1) is_rules store.2),
+      subst (λ digest. StandsForState bodies.Takes nothing_saved digest file store.0 store.1) is_digest store.2,
+      subst (λ rules. IsUnder rules store.0) is_rules store.3,
       leaves (durable_of store.0) (since_opening store.1 v.opened) (file, image, store.0, store.1, store.2, refl, refl),
     )
 

@@ -16,7 +16,6 @@ abbrev pub ending_of : OpenFault → Ending
 ending_of fault.DeviceFault = Device
 ending_of fault.NoMemory = Memory
 ending_of (fault.NotAStore offset) = Store (fault.NotAStore offset)
-ending_of (fault.OtherList kept given) = Store (fault.OtherList kept given)
 ending_of (fault.TooLarge len) = Store (fault.TooLarge len)
 
 -- how a run ends over a file that is over the limit of size: by its length, or by a call of the

@@ -4,7 +4,6 @@ use Rattle.std.specs.Prelude.{◌≡◌, ℕ, ◌+◌, ◌<◌, List, true}
 use Rattle.unwinding.specs.Course.{AtBase}
 use Rattle.unwinding.specs.CourseSteps.{reopened}
 use Rattle.disk_model.specs.Disk.{View}
-use Rattle.suffix_list.specs.ListText.{RuleList}
 use Rattle.suffix_list.specs.Suffix.{Rule}
 use Rattle.agent_model.specs.TheMachine.{machine}
 use Rattle.durable_model.specs.Histories.{AgentOpening}
@@ -33,10 +32,6 @@ pub record IsOpenedAt {D : Type 0} (agent : AgentView D) (view : View) (opening 
 -- how many changing calls were made, or are due, when an agent was just opened
 abbrev pub calls_before : {D : Type 0} → AgentView D → View → ℕ
 calls_before agent view = view.changing + checkpoint_calls agent
-
--- the list that an agent is under
-abbrev pub list_of : {D : Type 0} → AgentView D → RuleList
-list_of agent = record { rules = agent.memory.rules; digest = agent.journal.digest }
 
 -- a run changes neither the list nor the length of a batch, nor when a checkpoint is due, and the
 -- disk goes on telling

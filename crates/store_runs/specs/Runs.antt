@@ -12,6 +12,7 @@ use Rattle.script_actions.specs.Action.{PlainAction, PlainStep}
 use Rattle.agent_model.specs.TheMachine.{machine}
 use Rattle.durable_model.specs.Histories.{AgentOpening}
 use Rattle.durable_model.specs.Keeping.{AgentDurable, durable_of}
+use Rattle.durable_model.specs.Migrate.{IsUnder}
 use Rattle.durable_model.specs.Saved.{Saved, nothing_saved}
 use Rattle.row_store.specs.Bodies as bodies
 use Rattle.printed_model.specs.Histories.{EndsDown, EndsUp, IsHistoryOf, history_text}
@@ -39,14 +40,15 @@ pub record IsLeftWith (rules : List Rule) (batch : ℕ) (opening : AgentOpening)
       ⊎ KeepsTried (machine rules) batch (end_world rules opening history)
       (end_epoch history left.kept)
 
--- each of these images is a store of the list, and stands for a durable state that the history
--- leaves, whose run had this rest of its lines
+-- each of these images is a store under the list, and stands for a durable state, one under the
+-- list, that the history leaves, whose run had this rest of its lines
 abbrev pub LeavesHistory : RuleList → ℕ → AgentOpening → (images : List ℕ → Type 0)
     → (rest : List PlainStep) → History PlainAction → Type 0
 LeavesHistory list batch opening images rest history =
     (file : List ℕ) → images file
     → (d : Saved) × (last : ℕ)
-    × StandsForState (bodies.Takes list.rules) nothing_saved list.digest file d last
+    × StandsForState bodies.Takes nothing_saved list.digest file d last
+    × IsUnder list.rules d
     × IsLeftWith list.rules batch opening rest history (durable_of d)
 
 -- all lines ran: there is a history of exactly these lines, the sink took its text, and it leaves

@@ -34,6 +34,9 @@ pub struct Finished<D: Disk + Drop> {
 
 /// Opens the store on a disk, or a new one where the file is no store yet, runs the lines over it,
 /// writes the replies to `out`, and hands the disk back.
+///
+/// A store under another suffix list is opened too: the lines run over what stays of it under this
+/// one.
 pub fn run_on<D: Disk + Drop, O: Sink>(
     alloc: Global,
     disk: D,
@@ -52,11 +55,10 @@ pub fn run_on<D: Disk + Drop, O: Sink>(
     ensures first { WritesFromOpening result.ending list.now options.start options.batch
         options.checkpoint (D.view disk) (steps_of lines.now) (O.taken out.old) (O.taken out.new)
         (D.view result.disk) }
-    // A file that is no store of this list is refused, whatever the lines are.
+    // A file that is no store is refused, whatever the lines are.
     ensures refused { (why : OpenFault) (c : List ℕ) → (D.view disk).contents ≡ Some c
         → IsOfFile why
-        → IsRefusal (bodies.Takes list.now.rules) (Refuses list.now.rules) nothing_saved true
-        list.now.digest c why
+        → IsRefusal bodies.Takes Refuses nothing_saved true c why
         → Takes (O.taken out.old) (O.taken out.new) []
         × ((result.ending ≡ Ending.Store why)
         ⊎ ((result.ending ≡ Ending.Device) ⊎ (result.ending ≡ Ending.Memory))) }

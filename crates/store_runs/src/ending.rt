@@ -13,7 +13,7 @@ pub enum Ending {
     /// Every line ran and every reply was written, and the agent is down. Of a run over a disk
     /// also: a call of the disk failed in the first opening.
     Device,
-    /// What was found at an opening is no store of this list. The fault is one of the file.
+    /// What was found at an opening is no store. The fault is one of the file.
     Store(OpenFault),
     /// Writing a reply failed.
     Write,
@@ -39,8 +39,6 @@ pub fn refused(why: OpenFault) -> Ending
     match why {
         OpenFault::DeviceFault => Ending::Device,
         OpenFault::NoMemory => Ending::Memory,
-        OpenFault::NotAStore(_) | OpenFault::OtherList { .. } | OpenFault::TooLarge(_) => {
-            Ending::Store(why)
-        }
+        OpenFault::NotAStore(_) | OpenFault::TooLarge(_) => Ending::Store(why),
     }
 }

@@ -1,78 +1,55 @@
-use Rattle.std.proofs.Common.{◌≡◌, Ok, Err, sym, ap, subst, ◌∙◌, rules}
-use Rattle.suffix_list.specs.ListText.{RuleList}
-use Rattle.journal.specs.Opening.{FileMeans}
-use Rattle.durable_model.specs.Saved.{IsValid, nothing_saved}
-use Rattle.row_store.specs.Bodies.{Takes}
-use Rattle.row_store.specs.Stored.{saved_of}
-use Rattle.row_store.specs.declared.parts.Parts.{Parts}
+use Rattle.std.proofs.Common.{◌≡◌, Ok, Err, sym, subst, rules}
 use Rattle.store_dumps.specs.Opening.{OpensStore, opened}
-use Rattle.store_dumps.proofs.OpeningLemmas.{opened_as, same_list}
+use Rattle.store_dumps.proofs.OpeningLemmas.{opened_as}
 use Rattle.store_dumps.proofs.opening.open.Goals as goal
 
 pub returns-clause-opening : goal.returns-clause-opening
 returns-clause-opening g c =
-    let facts = c.in_ok-open.ensures in
+    let facts = c.in_ok-opened.ensures in
     let old = g.D.Disk.view c.args.disk.now in
-    let new = g.D.Disk.view c.open.new.disk in
-    let given : RuleList = record { rules = c.new-rows.result.rules; digest = c.digest.result } in
-    let same = same_list c.args.list.now given.rules given.digest c.new-rows.ensures.rules c.digest.ensures.value in
-    let here : OpensStore given old new (Ok c.in_ok-open.field-0) = record {
+    let new = g.D.Disk.view c.open_rows.new.disk in
+    let given = c.in_ok-opened.opened in
+    let here : OpensStore c.args.list.now old new (Ok given) = record {
       refused = facts.refused;
       exactly = facts.exactly;
       limit = facts.limit;
-      excused = λ file d n told within means. tt;
+      excused = λ file kept d n told within means. tt;
       unchanged = facts.unchanged;
-      kept = facts.kept;
+      images = facts.images;
       device = facts.device;
-      settled = facts.settled;
+      settled = facts.opened.at.rests.settled;
       calls = facts.calls;
       any_moment = facts.any_moment;
     } in
-    subst (λ l. OpensStore l old new (Ok tt)) same (opened_as given old new (Ok c.in_ok-open.field-0) here)
+    opened_as c.args.list.now old new (Ok given) here
 
 pub returns-clause-means : goal.returns-clause-means
-returns-clause-means g c file d n told within means =
-    let given : RuleList = record { rules = c.new-rows.result.rules; digest = c.digest.result } in
-    let same = same_list c.args.list.now given.rules given.digest c.new-rows.ensures.rules c.digest.ensures.value in
-    let under = subst (λ l. FileMeans (Takes l.rules) nothing_saved l.digest file d n) (sym same) means in
-    ap saved_of c.into_parts.ensures.parts ∙ (c.in_ok-open.ensures.means file d n told within under).0
+returns-clause-means g c file kept d n told within means =
+    (c.in_ok-opened.ensures.means file kept d n told within means).0
 
 pub returns-clause-stands : goal.returns-clause-stands
 returns-clause-stands g c file told =
-    let given : RuleList = record { rules = c.new-rows.result.rules; digest = c.digest.result } in
-    let same = same_list c.args.list.now given.rules given.digest c.new-rows.ensures.rules c.digest.ensures.value in
-    let changes = c.in_ok-open.field-0.changes in (
-      changes,
-      subst (λ (p : Parts). FileMeans (Takes c.args.list.now.rules) nothing_saved c.args.list.now.digest file (saved_of p) changes)
-          (sym c.into_parts.ensures.parts)
-          (subst (λ l. FileMeans (Takes l.rules) nothing_saved l.digest file (saved_of c.open.new.into.parts) changes) same
-          (c.in_ok-open.ensures.stood file told)),
-    )
+    let stood = c.in_ok-opened.ensures.stood file told in
+    (stood.0, stood.1, c.in_ok-opened.opened.journal.changes, stood.2, stood.3)
 
-pub returns-clause-valid : goal.returns-clause-valid
-returns-clause-valid g c =
-    subst (λ (p : Parts). IsValid (saved_of p)) (sym c.into_parts.ensures.parts) c.into_parts.ensures.valid
-
-pub returns-in_err-open-clause-opening : goal.returns-in_err-open-clause-opening
-returns-in_err-open-clause-opening g c =
-    let facts = c.in_err-open.ensures in
+pub returns-in_err-opened-clause-opening : goal.returns-in_err-opened-clause-opening
+returns-in_err-opened-clause-opening g c =
+    let facts = c.in_err-opened.ensures in
     let old = g.D.Disk.view c.args.disk.now in
-    let new = g.D.Disk.view c.open.new.disk in
-    let given : RuleList = record { rules = c.new-rows.result.rules; digest = c.digest.result } in
-    let same = same_list c.args.list.now given.rules given.digest c.new-rows.ensures.rules c.digest.ensures.value in
-    let here : OpensStore given old new (Err c.in_err-open.field-0.0) = record {
+    let new = g.D.Disk.view c.open_rows.new.disk in
+    let why = c.in_err-opened.field-0.0 in
+    let here : OpensStore c.args.list.now old new (Err why) = record {
       refused = facts.refused;
       exactly = facts.exactly;
       limit = facts.limit;
       excused = facts.means;
       unchanged = facts.unchanged;
-      kept = facts.kept;
+      images = facts.images;
       device = facts.device;
-      settled = facts.settled;
+      settled = tt;
       calls = facts.calls;
       any_moment = facts.any_moment;
     } in
-    let is : c.from_residual.result ≡ Err c.in_err-open.field-0.0 = search rules in
+    let is : c.from_residual.result ≡ Err why = search rules in
     subst (λ r. OpensStore c.args.list.now old new (opened r)) (sym is)
-    (subst (λ l. OpensStore l old new (Err c.in_err-open.field-0.0)) same
-    (opened_as given old new (Err c.in_err-open.field-0.0) here))
+    (opened_as c.args.list.now old new (Err why) here)

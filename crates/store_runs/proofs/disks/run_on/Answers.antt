@@ -1,16 +1,16 @@
-use Rattle.std.proofs.Common.{◌≡◌, true, inl, sym, ap, subst, ◌∙◌}
+use Rattle.std.proofs.Common.{◌≡◌, ℕ, List, Some, true, inl, refl, sym, ap, subst, ◌∙◌}
 use Rattle.agent_base.specs.Counts.{Rose}
 use Rattle.agent_base.proofs.Pieces.{takes_none}
 use Rattle.durable_model.specs.Histories.{opened_at}
 use Rattle.std.specs.Prelude.{Ok}
-use Rattle.journal.specs.Opening.{opening_calls}
+use Rattle.journal.specs.Opening.{IsWithin}
 use Rattle.store_runs.specs.Disks.{OpensByCuts, WritesOn}
 use Rattle.store_runs.specs.Endings.{IsStoreEnding, WriteCounts}
 use Rattle.store_runs.specs.Fronts.{WritesFromOpening}
 use Rattle.store_runs.specs.Openings.{IsJustOpened, IsOpenedAt}
 use Rattle.store_runs.specs.Steps.{steps_of}
 use Rattle.store_runs.specs.Tidy.{LeavesTidy}
-use Rattle.store_runs.proofs.DiskLemmas.{begins_within, fails_within, just_here, opened_first, opened_writes, opens_past, refused_ends, refused_writes, tidy_under}
+use Rattle.store_runs.proofs.DiskLemmas.{begins_within, fails_within, is_within, just_here, opened_first, opened_writes, opens_past, refused_ends, refused_writes, tidy_under}
 use Rattle.store_runs.proofs.LoopLemmas.{opens_up}
 use Rattle.store_runs.proofs.EndLemmas.{limit_ends, refused_device, refused_done, refused_stays, refused_store}
 use Rattle.store_runs.proofs.disks.run_on.Goals as goal
@@ -24,7 +24,7 @@ is_just g c =
     let is = c.in-Ok.ensures in
     just_here c.args.list.now options.start options.batch options.checkpoint (g.D.Disk.view c.args.disk)
     (g.D.Disk.view c.in-Ok.agent.disk) c.in-Ok.agent is.seen.0 is.rules.0 is.rules.1 is.rules.2 is.rules.3
-    c.requires.batch.0 is.seen.2.0 is.seen.2.1
+    c.requires.batch.0 is.seen.3.0 is.seen.3.1
 
 is_opened : (g : _) (c : In-Ok g) → (g.D.Disk.view c.args.disk).tells ≡ true
     → IsOpenedAt c.in-Ok.agent (g.D.Disk.view c.in-Ok.agent.disk) (opened_at c.args.options.start c.in-Ok.ensures.seen.0)
@@ -46,18 +46,22 @@ returns-in-Ok-clause-written g c = λ told.
     let base = seen.0 in
     let under = c.in-Ok.ensures.rules in
     let opened = is_opened g (goal.at.returns-in-Ok-clause-written g c).In-Ok told in
-    let cuts : OpensByCuts (Ok tt) old = λ bytes numbers contents on cut.
-    opens_past old view (opening_calls bytes) (g.met.D.Disk.lawful c.args.disk)
-    (g.met.D.Disk.lawful agent.disk) c.in-Ok.ensures.powered (c.in-Ok.ensures.calls bytes contents).all numbers cut in
+    let cuts : OpensByCuts list (Ok tt) old = λ bytes numbers contents on cut.
+    opens_past old view (g.met.D.Disk.lawful c.args.disk) (g.met.D.Disk.lawful agent.disk) list bytes numbers cut
+    c.in-Ok.ensures.powered (c.in-Ok.ensures.calls bytes contents) in
+    let within : (bytes : List ℕ) → old.contents ≡ Some bytes → IsWithin true bytes =
+    λ bytes contents. is_within bytes (λ over. c.in-Ok.ensures.limit bytes contents (refl, over)) in
     subst (λ disk. WritesOn c.run_lines-ending.result list start batch checkpoint old steps before after
     (g.D.Disk.view disk)) (sym c.into_disk.ensures)
-    (opened_writes list start batch checkpoint old view agent base under.0 under.1 under.2 under.3 seen.1
+    (opened_writes list start batch checkpoint old view agent base under.0 under.1 under.2 under.3 seen.1 seen.2
     c.run_lines-ending.result (g.D.Disk.view c.run_lines-ending.new.agent.disk)
     steps before after c.in-Ok.ensures.powered c.in-Ok.ensures.others.faults
-    (λ file is. record { stands = seen.2.3 file is; alone = λ d n means. seen.2.2 file d n is means }) cuts
+    (λ file is. record { stands = seen.3.3 file is; alone = λ kept d n means. seen.3.2 file kept d n is means }) cuts
     (begins_within list start batch checkpoint old view agent base under.0 under.1 under.2 under.3
-    (c.in-Ok.ensures.tells ∙ told) seen.2.0 (g.met.D.Disk.lawful agent.disk)
-    (λ bytes contents. (c.in-Ok.ensures.calls bytes contents).most) c.in-Ok.ensures.any_moment)
+    (c.in-Ok.ensures.tells ∙ told) seen.3.0 (g.met.D.Disk.lawful agent.disk)
+    (λ bytes kept d n contents means.
+    ((c.in-Ok.ensures.calls bytes contents).exactly kept d n (within bytes contents) means).most)
+    c.in-Ok.ensures.any_moment)
     (c.run_lines-ending.ensures.written (opened_at start base) opened))
 
 pub returns-in-Ok-clause-refused : goal.returns-in-Ok-clause-refused
@@ -89,7 +93,7 @@ returns-in-Ok-clause-first g c =
 pub returns-in-Ok-clause-device : goal.returns-in-Ok-clause-device
 returns-in-Ok-clause-device g c = λ device.
     let old = g.D.Disk.view c.args.disk in
-    let up = c.in-Ok.ensures.seen.2.0.up.0
+    let up = c.in-Ok.ensures.seen.3.0.up.0
     (opens_up c.args.list.now.rules (opened_at c.args.options.start c.in-Ok.ensures.seen.0)) in
     subst (λ disk. Rose old.faults (g.D.Disk.view disk).faults) (sym c.into_disk.ensures)
     (subst (λ n. Rose n (g.D.Disk.view c.run_lines-ending.new.agent.disk).faults)
@@ -120,10 +124,10 @@ returns-in-Err-clause-written g c = λ told.
     (g.D.Disk.view c.in-Err.refusal.disk) (steps_of c.args.lines.now) (g.O.Sink.taken c.args.out.now) c.refused.ensures
     c.in-Err.ensures.refused c.in-Err.ensures.device
     (λ bytes numbers contents on cut. fails_within (g.D.Disk.view c.args.disk)
-    (g.D.Disk.view c.in-Err.refusal.disk) (opening_calls bytes) (g.met.D.Disk.lawful c.args.disk)
-    (g.met.D.Disk.lawful c.in-Err.refusal.disk) c.in-Err.refusal.why
-    (λ is. (c.in-Err.ensures.device is).1) (c.in-Err.ensures.calls bytes contents).most on numbers cut)
-    c.in-Err.ensures.unchanged c.in-Err.ensures.any_moment (g.met.D.Disk.lawful c.in-Err.refusal.disk)
+    (g.D.Disk.view c.in-Err.refusal.disk) (g.met.D.Disk.lawful c.args.disk)
+    (g.met.D.Disk.lawful c.in-Err.refusal.disk) c.args.list.now bytes numbers cut c.in-Err.refusal.why
+    (λ is. (c.in-Err.ensures.device is).1) on (c.in-Err.ensures.calls bytes contents))
+    c.in-Err.ensures.unchanged c.in-Err.ensures.images c.in-Err.ensures.any_moment (g.met.D.Disk.lawful c.in-Err.refusal.disk)
 
 pub returns-in-Err-clause-first : goal.returns-in-Err-clause-first
 returns-in-Err-clause-first g c =

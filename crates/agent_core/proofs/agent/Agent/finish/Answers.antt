@@ -28,20 +28,23 @@ returns-in-Err-clause-finishes g c = rw (← c.self.view_is) (λ ran up.
     c.self.inside.store.journal c.commit.new.self.journal c.self.inside.opened c.self.inside.checkpoint
     c.self.inside.power c.self.inside.store.disk c.commit.new.self.disk
     (g.D.Disk.view c.self.inside.store.disk) (g.D.Disk.view c.commit.new.self.disk) ran
-    c.bodies_mean_states.ensures.bodies up
+    c.bodies_mean_states.ensures.bodies c.bodies_mean_states.ensures.storable
+    c.bodies_mean_states.ensures.spelled_under c.states_stay_spelled.ensures.stays up
     (leaves_same c.self.inside.store.journal (g.D.Disk.view c.self.inside.store.disk)
     (g.D.Disk.view c.commit.new.self.disk) c.self.inside.batch.body c.bytes.result.now
     c.self.inside.batch.changes c.changes-changes.result c.bytes.ensures.bytes
-    c.changes-changes.ensures.changes c.in-Err.ensures.any_moment)
+    c.changes-changes.ensures.changes (c.in-Err.ensures.any_moment tt))
     (g.met.D.Disk.lawful c.self.inside.store.disk)
     (g.met.D.Disk.lawful c.commit.new.self.disk)
     c.in-Err.ensures.device.tells c.in-Err.ensures.digest)
 
 pub returns-in-Err-clause-any_moment : goal.returns-in-Err-clause-any_moment
 returns-in-Err-clause-any_moment g c = rw (← c.self.view_is) (λ ran held tells.
-    finish_moments _ _ _ ran c.bodies_mean_states.ensures.bodies held
+    finish_moments _ _ _ ran c.bodies_mean_states.ensures.bodies
+    c.bodies_mean_states.ensures.storable c.bodies_mean_states.ensures.spelled_under
+    c.states_stay_spelled.ensures.stays held
     (leaves_same _ _ _ _ _ _ _ c.bytes.ensures.bytes c.changes-changes.ensures.changes
-    c.in-Err.ensures.any_moment) tells)
+    (c.in-Err.ensures.any_moment tt)) tells)
 
 pub returns-in-Err-clause-rules : goal.returns-in-Err-clause-rules
 returns-in-Err-clause-rules g c = rw (← c.self.view_is) (refl, c.in-Err.ensures.digest, refl, refl)
@@ -65,8 +68,9 @@ returns-in-Ok-clause-finishes g c = rw (← c.self.view_is, c.new-self-inside.en
     c.self.inside.store.journal c.commit.new.self.journal c.self.inside.opened c.self.inside.checkpoint
     c.self.inside.power c.self.inside.store.disk c.commit.new.self.disk
     (g.D.Disk.view c.self.inside.store.disk) (g.D.Disk.view c.commit.new.self.disk) ran
-    c.bodies_mean_states.ensures.bodies up c.give.new.self c.give.result c.lines_keep_durable_states.ensures.valid
-    c.bodies_mean_states.ensures.storable c.bodies_mean_states.ensures.spelled
+    c.bodies_mean_states.ensures.bodies c.bodies_mean_states.ensures.storable
+    c.bodies_mean_states.ensures.spelled_under c.states_stay_spelled.ensures.stays up
+    c.give.new.self c.give.result c.lines_keep_durable_states.ensures.valid
     (power_is _ _ c.self.view_is c.requires.up)
     c.give.ensures.body c.give.ensures.changes c.give.ensures.held
     (omega (arith, c.give.ensures.size, c.self.invariant.least))
@@ -74,14 +78,16 @@ returns-in-Ok-clause-finishes g c = rw (← c.self.view_is, c.new-self-inside.en
     (g.D.Disk.view c.self.inside.store.disk) (g.D.Disk.view c.commit.new.self.disk)
     c.self.inside.batch.body c.bytes.result.now c.self.inside.batch.changes
     c.changes-changes.result c.bytes.ensures.bytes c.changes-changes.ensures.changes
-    c.in-Ok.ensures.done)
+    (c.in-Ok.ensures.done tt))
     c.give.ensures.replies)
 
 pub returns-in-Ok-clause-any_moment : goal.returns-in-Ok-clause-any_moment
 returns-in-Ok-clause-any_moment g c = rw (← c.self.view_is) (λ ran held tells.
-    finish_moments _ _ _ ran c.bodies_mean_states.ensures.bodies held
+    finish_moments _ _ _ ran c.bodies_mean_states.ensures.bodies
+    c.bodies_mean_states.ensures.storable c.bodies_mean_states.ensures.spelled_under
+    c.states_stay_spelled.ensures.stays held
     (leaves_same _ _ _ _ _ _ _ c.bytes.ensures.bytes c.changes-changes.ensures.changes
-    c.in-Ok.ensures.any_moment) tells)
+    (c.in-Ok.ensures.any_moment tt)) tells)
 
 pub returns-in-Ok-clause-rules : goal.returns-in-Ok-clause-rules
 returns-in-Ok-clause-rules g c = rw (← c.self.view_is)

@@ -3,9 +3,11 @@ use Rattle.std.proofs.Common.{sym, subst}
 use Rattle.std.specs.Prelude.{Err, Ok}
 use Rattle.disk_model.specs.Disk.{Makes}
 use Rattle.journal.specs.declared.open_fault.OpenFault.{OpenFault}
-use Rattle.open_store.specs.Reopens.{IsReopening, LeavesAnew}
+use Rattle.open_store.specs.Reopens.{LeavesAnew}
+use Rattle.row_opening.specs.Opened.{IsReopeningUnder}
 use Rattle.open_store.proofs.ReopenLemmas.{same_err, same_ok}
-use Rattle.agent_core.proofs.OpeningLemmas.{made_err, made_ok}
+use Rattle.row_opening.proofs.Calls.{made_ok}
+use Rattle.row_opening.proofs.Steps.{makes_refused}
 use Rattle.agent_core.proofs.RestartLemmas.{fewer_after, restart_calls, restart_moments}
 use Rattle.agent_core.proofs.RestartLemmas.{restart_opened, restart_refused}
 use Rattle.agent_core.proofs.agent.Agent.restart.Goals as goal
@@ -26,25 +28,25 @@ returns-in-Ok-clause-any_moment g c =
     (g.met.D.Disk.lawful c.self.inside.store.disk)
     (subst
     (λ d. LeavesAnew (Ok c.in-Ok.opened) v (g.D.Disk.view d)
-    (IsReopening c.self.inside.list.now.digest v))
+    (IsReopeningUnder c.self.inside.list.now v))
     (sym c.go_on.ensures.disk) c.in-Ok.ensures.any_moment)
 
 pub returns-in-Err-clause-means : goal.returns-in-Err-clause-means
 returns-in-Err-clause-means g c =
     restart_refused g.D.Disk.view _ c.args.self.now c.self.inside.list.now c.self.view_is
     c.self.invariant.rules c.self.invariant.digest c.power_after-self-inside.result
-    c.reopen.new.disk c.in-Err.why c.power_after-self-inside.ensures c.in-Err.ensures.excused
+    c.reopen_rows.new.disk c.in-Err.why c.power_after-self-inside.ensures c.in-Err.ensures.excused
     (λ tells stores.
     fewer_after (Err c.in-Err.why) c.self.inside.list.now
-    (g.D.Disk.view c.self.inside.store.disk) (g.D.Disk.view c.reopen.new.disk)
-    (g.met.D.Disk.lawful c.self.inside.store.disk) (g.met.D.Disk.lawful c.reopen.new.disk)
+    (g.D.Disk.view c.self.inside.store.disk) (g.D.Disk.view c.reopen_rows.new.disk)
+    (g.met.D.Disk.lawful c.self.inside.store.disk) (g.met.D.Disk.lawful c.reopen_rows.new.disk)
     c.in-Err.ensures.any_moment stores)
 
 pub returns-in-Err-clause-any_moment : goal.returns-in-Err-clause-any_moment
 returns-in-Err-clause-any_moment g c =
     restart_moments g.D.Disk.view _ c.args.self.now c.self.inside.list.now c.self.view_is
     c.self.invariant.rules c.self.invariant.digest (Err c.in-Err.why) (Err c.in-Err.why)
-    (g.D.Disk.view c.reopen.new.disk) (same_err c.in-Err.why)
+    (g.D.Disk.view c.reopen_rows.new.disk) (same_err c.in-Err.why)
     (g.met.D.Disk.lawful c.self.inside.store.disk) c.in-Err.ensures.any_moment
 
 pub returns-in-Ok-clause-calls : goal.returns-in-Ok-clause-calls
@@ -62,5 +64,5 @@ returns-in-Err-clause-calls g c =
     let v = g.D.Disk.view c.self.inside.store.disk in
     restart_calls g.D.Disk.view _ c.args.self.now c.self.inside.list.now c.self.view_is
     c.self.invariant.rules c.self.invariant.digest (Err c.in-Err.why)
-    (g.D.Disk.view c.reopen.new.disk)
-    (λ tells stores. made_err 1 c.in-Err.why v _ (c.in-Err.ensures.calls tells stores))
+    (g.D.Disk.view c.reopen_rows.new.disk)
+    (λ tells stores. makes_refused c.in-Err.why 1 v _ (c.in-Err.ensures.calls tells stores))

@@ -8,6 +8,8 @@ use Rattle.agent_base.specs.Counts.{Rose}
 use Rattle.agent_base.specs.declared.refusals.Fault.{Fault}
 use Rattle.agent_base.specs.declared.refusals.Fault.TheVariants.{Failed, NoMemory}
 use Rattle.disk_model.specs.Disk.{View}
+use Rattle.hosts.specs.declared.store_fault.StoreFault.{StoreFault}
+use Rattle.hosts.specs.declared.store_fault.StoreFault.TheVariants as store
 
 -- ---- counts
 
@@ -15,11 +17,18 @@ use Rattle.disk_model.specs.Disk.{View}
 abbrev pub raised : (faults before : ℕ) → ℕ
 raised faults before = before + min faults (2 ^ 64 - 1 - before)
 
--- a count of faults rose where opening failed, and stays else
+-- a count of faults rose where opening a list failed, and stays else
 abbrev pub HasOpenCause : {T : Type 0} → (before now : ℕ) → Result T Fault → Type 0
 HasOpenCause before now (Ok opened) = now ≡ before
 HasOpenCause before now (Err Failed) = Rose before now
 HasOpenCause before now (Err NoMemory) = now ≡ before
+
+-- and where opening a store failed, one that is open elsewhere too
+abbrev pub HasStoreCause : {T : Type 0} → (before now : ℕ) → Result T StoreFault → Type 0
+HasStoreCause before now (Ok opened) = now ≡ before
+HasStoreCause before now (Err store.InUse) = Rose before now
+HasStoreCause before now (Err store.Failed) = Rose before now
+HasStoreCause before now (Err store.NoMemory) = now ≡ before
 
 -- ---- lists
 

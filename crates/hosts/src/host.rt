@@ -2,9 +2,10 @@
 ghost use Rattle.std.specs.Prelude.{◌≡◌, ◌<◌, ◌+◌, ℕ, List, Option, Some, None, Bool, true};
 ghost use Rattle.std.specs.Prelude.{false, IfOk, IsErr, IsErrOf, MatchResult};
 ghost use Rattle.disk_model.specs.Disk.{IsSettled};
-ghost use Rattle.hosts.specs.Hosts.{HasLeft, HasOpenCause, HoldsOneOf, LeavesOthers};
-ghost use Rattle.hosts.specs.Hosts.{LeavesOtherStores, LeavesStores, SameImages, raised};
+ghost use Rattle.hosts.specs.Hosts.{HasLeft, HasOpenCause, HasStoreCause, HoldsOneOf};
+ghost use Rattle.hosts.specs.Hosts.{LeavesOtherStores, LeavesOthers, LeavesStores, SameImages, raised};
 
+use crate::StoreFault;
 use agent_base::{Fault, Source};
 use disk_model::Disk;
 
@@ -69,15 +70,15 @@ pub trait Host {
         ensures tells { tells_stores self.new ≡ tells_stores self.old };
 
     /// Opens the store of a path, which is out until it is closed. Where there is none, an empty
-    /// one is made.
-    fn open_store(&mut self, path: &str) -> Result<Self::Store, Fault>
+    /// one is made. One that is open already, here or in another process, may be refused so.
+    fn open_store(&mut self, path: &str) -> Result<Self::Store, StoreFault>
         requires { store_out self.old ≡ None }
         ensures fresh { IfOk result (λ store. (Self.Store.view store).faults ≡ 0) }
         ensures settled { IfOk result (λ store. IsSettled (Self.Store.view store)) }
         ensures on { IfOk result (λ store. (Self.Store.view store).off ≡ false) }
         ensures told { tells_stores self.old ≡ true → IfOk result
             (λ store. HoldsOneOf (stores self.old path.now) (Self.Store.view store)) }
-        ensures cause { HasOpenCause (faults self.old) (faults self.new) result }
+        ensures cause { HasStoreCause (faults self.old) (faults self.new) result }
         ensures unread { reads self.new ≡ reads self.old }
         ensures store_faults { store_faults self.new ≡ store_faults self.old }
         ensures lists { lists self.new ≡ lists self.old }

@@ -8,9 +8,11 @@ mod entries;
 mod host;
 mod memory_host;
 mod real_host;
+mod store_fault;
 mod streams;
 
 pub use host::Host;
 pub use memory_host::MemHost;
 pub use real_host::RealHost;
+pub use store_fault::StoreFault;
 pub use streams::{HeldStreams, hold_streams};

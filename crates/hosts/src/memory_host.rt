@@ -11,9 +11,9 @@ ghost use Rattle.hosts.specs.Hosts.{HasLeft, HasOpenCause, HoldsOneOf, LeavesOth
 ghost use Rattle.hosts.specs.Hosts.{LeavesOtherStores, SameImages, raised};
 ghost use Rattle.hosts.specs.MemoryStores.{IsReopened, disk_at, images_at};
 
-use crate::Host;
 use crate::entries::place_of;
 use crate::host::count_up;
+use crate::{Host, StoreFault};
 use agent_base::{Fault, MemSource};
 use disk_model::MemDisk;
 use std::alloc::{AllocError, Global};
@@ -193,7 +193,7 @@ impl Host for MemHost {
 
     // The trait's clauses, and after them exactly what this host opens, and which stores it keeps.
     // It never fails, and wants memory only for a store that is not there.
-    fn open_store(&mut self, path: &str) -> Result<MemDisk, Fault>
+    fn open_store(&mut self, path: &str) -> Result<MemDisk, StoreFault>
         requires { option_map string_bytes self.old.store_out ≡ None }
         ensures fresh { IfOk result (λ store. store.faults ≡ 0) }
         ensures settled { IfOk result (λ store. IsSettled (view_of store)) }
@@ -209,7 +209,7 @@ impl Host for MemHost {
             (λ _. self.new.store_out ≡ None) }
         ensures others { LeavesOtherStores path.now (images_at self.old.stores.items)
             (images_at self.new.stores.items) }
-        ensures answer { result ≡ Err Fault.Failed → ⊥ }
+        ensures answer { (result ≡ Err StoreFault.Failed) ⊎ (result ≡ Err StoreFault.InUse) → ⊥ }
         ensures missing { IsErr result → found_at self.old.stores.items path.now ≡ None }
         ensures reopened { IfOk result
             (λ store. IsReopened (disk_at self.old.stores.items path.now) store) }

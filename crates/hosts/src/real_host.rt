@@ -2,14 +2,15 @@
 ghost use Rattle.std.specs.Prelude.{◌≡◌, ◌+◌, Err, IfOk, IfSome, MatchResult, None, OnErr, Some};
 ghost use Rattle.std.specs.Prelude.{false, option_map};
 ghost use Rattle.agent_base.specs.Counts.{next_count};
-ghost use Rattle.hosts.specs.Hosts.{HasOpenCause};
+ghost use Rattle.hosts.specs.Hosts.{HasOpenCause, HasStoreCause};
 
 use crate::Host;
 use crate::host::count_up;
+use crate::store_fault::StoreFault;
 use agent_base::{Fault, ReadSource};
 use arrayvec::ArrayString;
 use disk_model::{FileDisk, SystemFile};
-use std::fs::{File, Files, OpenOptions};
+use std::fs::{File, Files, OpenOptions, TryLockError};
 use std::io;
 use std::path::{AsPath, Path};
 
@@ -43,13 +44,11 @@ impl<R: Files<File = File> + Drop> RealHost<R> {
         }
     }
 
-    // A call that failed.
-    fn fault(&mut self) -> Fault
-        ensures failed { result ≡ Fault.Failed }
+    // Counts an opening that failed.
+    fn count_fault(&mut self)
         ensures counted { self.new ≡ record self.old { faults = next_count self.old.faults } }
     {
         self.faults = self.faults.saturating_add(1);
-        Fault::Failed
     }
 }
 
@@ -72,17 +71,22 @@ fn folder_of(path: &str) -> Path<'_> {
     }
 }
 
-// Opens the file of a store for this process alone, and makes it where there is none. Where it has
-// no bytes its folder is synced, so that a cut does not take the name of what is written to it.
-fn open_alone<R: Files<File = File>>(files: &R, path: &str) -> io::Result<File> {
+// Opens the file of a store for this process alone, and makes it where there is none. Nothing is
+// opened where another opening has it. Where it has no bytes its folder is synced, so that a cut
+// does not take the name of what is written to it.
+fn open_alone<R: Files<File = File>>(files: &R, path: &str) -> io::Result<Option<File>> {
     let mut how = OpenOptions::new();
     how.read(true).write(true).create(true);
     let file = how.open(files, path)?;
-    file.try_lock()?;
+    match file.try_lock() {
+        Ok(()) => {}
+        Err(TryLockError::WouldBlock) => return Ok(None),
+        Err(TryLockError::Error(why)) => return Err(why),
+    }
     if file.metadata()?.len() == 0 {
         File::open(files, folder_of(path))?.sync_all()?;
     }
-    Ok(file)
+    Ok(Some(file))
 }
 
 impl<R: Files<File = File> + Drop> Host for RealHost<R> {
@@ -126,7 +130,8 @@ impl<R: Files<File = File> + Drop> Host for RealHost<R> {
             self.lists_out += 1;
             return Ok(ReadSource::new(file));
         }
-        Err(self.fault())
+        self.count_fault();
+        Err(Fault::Failed)
     }
 
     fn close_list(&mut self, list: ReadSource<File>) {
@@ -138,28 +143,36 @@ impl<R: Files<File = File> + Drop> Host for RealHost<R> {
     // The trait's clauses on counts, for it tells no stores, and after them that a file which is
     // not opened is a failure, never want of memory. A file that is there is not cut short. One
     // that another process has open is not opened, and nothing is touched.
-    fn open_store(&mut self, path: &str) -> Result<FileDisk<SystemFile>, Fault>
+    fn open_store(&mut self, path: &str) -> Result<FileDisk<SystemFile>, StoreFault>
         requires { option_map (λ name. name.bytes) self.old.store_out ≡ None }
         ensures fresh { IfOk result (λ store. (store.file.faults ≡ 0) × (store.calls ≡ 0)) }
-        ensures cause { HasOpenCause self.old.faults self.new.faults result }
+        ensures cause { HasStoreCause self.old.faults self.new.faults result }
         ensures counts { (self.new.reads ≡ self.old.reads)
             × (self.new.store_faults ≡ self.old.store_faults) }
         ensures lists_out { self.new.lists_out ≡ self.old.lists_out }
         ensures out { MatchResult result
             (λ _. option_map (λ name. name.bytes) self.new.store_out ≡ Some path.now)
             (λ _. self.new.store_out ≡ None) }
-        ensures no_memory { result ≡ Err Fault.NoMemory → ⊥ }
+        ensures no_memory { result ≡ Err StoreFault.NoMemory → ⊥ }
         ensures count { OnErr result (self.new.faults ≡ next_count self.old.faults) }
     {
         let Some(name) = name_of(path) else {
-            return Err(self.fault());
+            self.count_fault();
+            return Err(StoreFault::Failed);
         };
         match open_alone(&self.files, path) {
-            Ok(file) => {
+            Ok(Some(file)) => {
                 self.store_out = Some(name);
                 Ok(FileDisk::new(SystemFile::new(file)))
             }
-            Err(_) => Err(self.fault()),
+            Ok(None) => {
+                self.count_fault();
+                Err(StoreFault::InUse)
+            }
+            Err(_) => {
+                self.count_fault();
+                Err(StoreFault::Failed)
+            }
         }
     }
 

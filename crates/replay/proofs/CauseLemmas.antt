@@ -15,7 +15,7 @@ use Rattle.replay.specs.Runs.{ListRead, ReadAndRan, ScriptRead, WritesScript, Wr
 use Rattle.replay.specs.Openings.{Images}
 use Rattle.replay.specs.Stores.{LeftAlone, RanOverStore, RanStored}
 use Rattle.replay.specs.declared.status.Status.{Status}
-use Rattle.replay.specs.declared.status.Status.TheVariants.{Done, Usage, Script, List as ListStatus, Store, Read, Write, Device, Memory}
+use Rattle.replay.specs.declared.status.Status.TheVariants.{Done, Usage, Script, List as ListStatus, Store, Read, InUse, Write, Device, Memory}
 use Rattle.replay.proofs.StatusLemmas.{written_weaker}
 
 -- ---- the list was read
@@ -44,6 +44,7 @@ later_list (Script why) told later fine = fine
 later_list (ListStatus why) told later fine = absurd later
 later_list (Store why) told later fine = fine
 later_list Read told later fine = tt
+later_list InUse told later fine = fine
 later_list Write told later fine = fine
 later_list Device told later fine = fine
 later_list Memory told later fine = tt
@@ -55,16 +56,17 @@ rose_by_none host stores h s = (0, h ∙ none host.before, s ∙ none stores.bef
     none : (n : ℕ) → n ≡ raised 0 n
     none n = omega arith
 
-pub script_read_counts : (status : Status) (host stores script : BeforeAfter ℕ) → host.after ≡ host.before → stores.after ≡ stores.before → ScriptCounts status script → ReadCounts status host stores script
-script_read_counts Done host stores script h s counts = (rose_by_none host stores h s, counts)
-script_read_counts Usage host stores script h s counts = (rose_by_none host stores h s, counts)
-script_read_counts (Script why) host stores script h s counts = (rose_by_none host stores h s, counts)
-script_read_counts (ListStatus why) host stores script h s counts = (rose_by_none host stores h s, counts)
-script_read_counts (Store why) host stores script h s counts = (rose_by_none host stores h s, counts)
-script_read_counts Read host stores script h s counts = (s, inr counts)
-script_read_counts Write host stores script h s counts = (rose_by_none host stores h s, counts)
-script_read_counts Device host stores script h s counts = (rose_by_none host stores h s, counts)
-script_read_counts Memory host stores script h s counts = (rose_by_none host stores h s, counts)
+pub script_read_counts : (status : Status) (host stores script : BeforeAfter ℕ) → host.after ≡ host.before → stores.after ≡ stores.before → ScriptCounts status script → (status ≡ InUse → ⊥) → ReadCounts status host stores script
+script_read_counts Done host stores script h s counts not_used = (rose_by_none host stores h s, counts)
+script_read_counts Usage host stores script h s counts not_used = (rose_by_none host stores h s, counts)
+script_read_counts (Script why) host stores script h s counts not_used = (rose_by_none host stores h s, counts)
+script_read_counts (ListStatus why) host stores script h s counts not_used = (rose_by_none host stores h s, counts)
+script_read_counts (Store why) host stores script h s counts not_used = (rose_by_none host stores h s, counts)
+script_read_counts Read host stores script h s counts not_used = (s, inr counts)
+script_read_counts InUse host stores script h s counts not_used = absurd (not_used refl)
+script_read_counts Write host stores script h s counts not_used = (rose_by_none host stores h s, counts)
+script_read_counts Device host stores script h s counts not_used = (rose_by_none host stores h s, counts)
+script_read_counts Memory host stores script h s counts not_used = (rose_by_none host stores h s, counts)
 
 -- where the list is told, it has no fault and this holds
 if_told : (A B : Type 0) (told : Option (List ℕ)) → IfSome told (λ bytes. IsOk (list_of bytes)) → A → IfSome told (λ bytes. B ⊎ (IsOk (list_of bytes) × A))
@@ -79,6 +81,7 @@ read_cause command list script host reads scripts Usage fine cause = tt
 read_cause command list script host reads scripts (Script why) fine cause = tt
 read_cause command list script host reads scripts (ListStatus why) fine cause = tt
 read_cause command list script host reads scripts (Store why) fine cause = tt
+read_cause command list script host reads scripts InUse fine cause = tt
 read_cause command list script host reads scripts Read fine cause = if_told _ (Rose reads.before reads.after) list fine (cause refl)
 read_cause command list script host reads scripts Write fine cause = tt
 read_cause command list script host reads scripts Device fine cause = tt
@@ -98,6 +101,7 @@ replay_device list store batch checkpoint start stores (Script why) rose = tt
 replay_device list store batch checkpoint start stores (ListStatus why) rose = tt
 replay_device list store batch checkpoint start stores (Store why) rose = tt
 replay_device list store batch checkpoint start stores Read rose = tt
+replay_device list store batch checkpoint start stores InUse rose = tt
 replay_device list store batch checkpoint start stores Write rose = tt
 replay_device list store batch checkpoint start stores Device rose = rose
 replay_device list store batch checkpoint start stores Memory rose = tt

@@ -18,7 +18,7 @@ use Rattle.replay.specs.Runs.{WritesSelftest}
 use Rattle.replay.specs.Stores.{LeavesAllBut}
 use Rattle.replay.specs.Words.{IsNoCommand, NamesSite, list_named, store_named}
 use Rattle.replay.specs.declared.status.Status.{Status}
-use Rattle.replay.specs.declared.status.Status.TheVariants.{Done, Usage, Script, List as ListStatus, Store, Read, Write, Device, Memory}
+use Rattle.replay.specs.declared.status.Status.TheVariants.{Done, Usage, Script, List as ListStatus, Store, Read, InUse, Write, Device, Memory}
 use Rattle.replay.proofs.CauseLemmas.{rose_by_none}
 
 -- a status other than `Usage`
@@ -103,4 +103,5 @@ module _ {Hosts Lists Stores Scripts Outs : Type 0} (H : HostTells Hosts Lists S
   obeys_selftest seed (ListStatus why) out text ends write = absurd ends
   obeys_selftest seed (Store why) out text ends write = absurd ends
   obeys_selftest seed Read out text ends write = absurd ends
+  obeys_selftest seed InUse out text ends write = absurd ends
   obeys_selftest seed Device out text ends write = absurd ends

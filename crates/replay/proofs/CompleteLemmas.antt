@@ -6,7 +6,7 @@ use Rattle.std.specs.Result.{result_err, result_unwrap_or}
 use Rattle.agent_base.specs.Counts.{Rose}
 use Rattle.agent_base.specs.declared.sink.Sink.{Ghosts as SinkTells}
 use Rattle.agent_base.specs.declared.source.Source.{Ghosts as SourceTells}
-use Rattle.journal.specs.Opening.{FileMeans, IsExcused, IsWithin}
+use Rattle.journal.specs.Opening.{IsExcused, IsWithin}
 use Rattle.journal.specs.declared.open_fault.OpenFault.{OpenFault}
 use Rattle.journal.proofs.Refusals.{store_right, unborn_right}
 use Rattle.suffix_list.specs.ListText.{RuleList, list_of}
@@ -18,6 +18,7 @@ use Rattle.script_lines.specs.TwoScripts.{two_of_bytes}
 use Rattle.script_lines.specs.Plain.{fault_of}
 use Rattle.script_lines.specs.declared.script.ScriptFault.{ScriptFault}
 use Rattle.durable_model.specs.Saved.{Saved, nothing_saved}
+use Rattle.row_opening.specs.Under.{MeansUnder}
 use Rattle.row_store.specs.Bodies.{Counted, Refuses, Takes}
 use Rattle.hosts.specs.declared.host.Host.{Ghosts as HostTells}
 use Rattle.command_line.specs.Words.{PlainCommand, Help, Replay, Twin, Dump, Selftest}
@@ -37,29 +38,29 @@ use Rattle.replay.specs.Runs.{ListRead, ScriptRead}
 use Rattle.replay.specs.Stores.{RanOverStore, Replays}
 use Rattle.replay.specs.Words.{IsNoSite, IsSite, list_named}
 use Rattle.replay.specs.declared.status.Status.{Status}
-use Rattle.replay.specs.declared.status.Status.TheVariants.{Done, Usage, Script, List as ListStatus, Store, Read, Write, Device, Memory}
+use Rattle.replay.specs.declared.status.Status.TheVariants.{Done, Usage, Script, List as ListStatus, Store, Read, InUse, Write, Device, Memory}
 use Rattle.replay.proofs.DumpLemmas.{excused_ending}
 use Rattle.replay.proofs.ScriptLemmas.{list_is}
 use Rattle.replay.proofs.TextLemmas.{of_dump, of_replay}
 
 -- ---- a file that stands for a state is not refused
 
-means_right : (list : RuleList) (file : List ℕ) (d : Saved) (n : ℕ) (why : OpenFault) → IsWithin true file
-    → FileMeans (Takes list.rules) nothing_saved list.digest file d n → IsRefused list file why → IsExcused why
-means_right list file d n why within (inl (frames, store, runs)) refused =
-    store_right (Takes list.rules) (Refuses list.rules) nothing_saved
+means_right : (list : RuleList) (file kept : List ℕ) (d : Saved) (n : ℕ) (why : OpenFault) → IsWithin true file
+    → MeansUnder list.digest kept file d n → IsRefused file why → IsExcused why
+means_right list file kept d n why within (inl (frames, store, runs)) refused =
+    store_right Takes Refuses nothing_saved
     (λ s kind body t u m n one two. ap (λ (r : Result Counted ℕ). (result_unwrap_or r (t, m)).0) (sym one ∙ two))
     (λ s kind body t u m n one two. ap (λ (r : Result Counted ℕ). (result_unwrap_or r (t, m)).1) (sym one ∙ two))
     (λ s kind body o p one two. ap (λ (r : Result Counted ℕ). unwrap_or (result_err r) o) (sym one ∙ two))
     (λ s kind body t n o took wrong. subst (λ (r : Result Counted ℕ). MatchResult r (λ _. ⊤) (λ _. ⊥)) (sym took ∙ wrong) tt)
-    true list.digest file frames d n why within store runs refused
-means_right list file d n why within (inr (unborn, same, count)) refused =
-    unborn_right (Takes list.rules) (Refuses list.rules) nothing_saved
+    true kept file frames d n why within store runs refused
+means_right list file kept d n why within (inr (unborn, own, same, count)) refused =
+    unborn_right Takes Refuses nothing_saved
     (λ s kind body t u m n one two. ap (λ (r : Result Counted ℕ). (result_unwrap_or r (t, m)).0) (sym one ∙ two))
     (λ s kind body t u m n one two. ap (λ (r : Result Counted ℕ). (result_unwrap_or r (t, m)).1) (sym one ∙ two))
     (λ s kind body o p one two. ap (λ (r : Result Counted ℕ). unwrap_or (result_err r) o) (sym one ∙ two))
     (λ s kind body t n o took wrong. subst (λ (r : Result Counted ℕ). MatchResult r (λ _. ⊤) (λ _. ⊥)) (sym took ∙ wrong) tt)
-    true list.digest file why within unborn refused
+    true file why within unborn refused
 
 not_excused : (why : OpenFault) → IsExcusedEnding (ending.Store why) → ⊥
 not_excused why (inl wrong) = cc
@@ -71,7 +72,7 @@ sound_opens : (list : RuleList) (file : List ℕ) (images after : Images) (taken
 sound_opens list file images after taken why sound found unopened =
     let is = sound file found in
     not_excused why (subst IsExcusedEnding (sym unopened.ends)
-    (excused_ending unopened.why (means_right list file is.1.0 is.1.1 unopened.why is.0 is.1.2 unopened.cause)))
+    (excused_ending unopened.why (means_right list file is.1.0 is.1.1 is.1.2 unopened.why is.0 is.1.3 unopened.cause)))
 
 -- ---- what was read is what was told
 
@@ -126,16 +127,17 @@ no_device rules start batch checkpoint cuts steps before after none (inr ran) = 
 
 by_status : (status : Status) → (status ≡ Usage → ⊥) → ((why : ScriptFault) → status ≡ Script why → ⊥)
     → ((why : ListFault) → status ≡ ListStatus why → ⊥) → ((why : OpenFault) → status ≡ Store why → ⊥) → (status ≡ Read → ⊥)
-    → (status ≡ Write → ⊥) → (status ≡ Device → ⊥) → (status ≡ Done) ⊎ (status ≡ Memory)
-by_status Done usage script list store read write device = inl refl
-by_status Usage usage script list store read write device = absurd (usage refl)
-by_status (Script why) usage script list store read write device = absurd (script why refl)
-by_status (ListStatus why) usage script list store read write device = absurd (list why refl)
-by_status (Store why) usage script list store read write device = absurd (store why refl)
-by_status Read usage script list store read write device = absurd (read refl)
-by_status Write usage script list store read write device = absurd (write refl)
-by_status Device usage script list store read write device = absurd (device refl)
-by_status Memory usage script list store read write device = inr refl
+    → (status ≡ InUse → ⊥) → (status ≡ Write → ⊥) → (status ≡ Device → ⊥) → (status ≡ Done) ⊎ (status ≡ Memory)
+by_status Done usage script list store read used write device = inl refl
+by_status Usage usage script list store read used write device = absurd (usage refl)
+by_status (Script why) usage script list store read used write device = absurd (script why refl)
+by_status (ListStatus why) usage script list store read used write device = absurd (list why refl)
+by_status (Store why) usage script list store read used write device = absurd (store why refl)
+by_status Read usage script list store read used write device = absurd (read refl)
+by_status InUse usage script list store read used write device = absurd (used refl)
+by_status Write usage script list store read used write device = absurd (write refl)
+by_status Device usage script list store read used write device = absurd (device refl)
+by_status Memory usage script list store read used write device = inr refl
 
 -- ---- a command
 
@@ -148,6 +150,10 @@ module _ {Hosts Lists Stores Scripts Outs : Type 0} (H : HostTells Hosts Lists S
 
     no_read : status ≡ Read → ⊥
     no_read is = ⊎_elim none.by_host none.by_script
+        (subst (λ s. ReadCounts s (told_of H.faults host) (told_of H.store_faults host) (told_of I.faults script)) is obeys.read).1
+
+    no_use : status ≡ InUse → ⊥
+    no_use is = none.by_host
         (subst (λ s. ReadCounts s (told_of H.faults host) (told_of H.store_faults host) (told_of I.faults script)) is obeys.read).1
 
     no_list : (Holds : RuleList → Type 0) (why : ListFault) → ListIs (option_and_then (H.lists host.before) (list_named command)) Holds
@@ -165,11 +171,11 @@ module _ {Hosts Lists Stores Scripts Outs : Type 0} (H : HostTells Hosts Lists S
   completes (Some Help) obeys suitable = by_status status
       (λ is. ended (Some Help) obeys Usage is) (λ why is. ended (Some Help) obeys (Script why) is)
       (λ why is. ended (Some Help) obeys (ListStatus why) is) (λ why is. ended (Some Help) obeys (Store why) is)
-      (no_read (Some Help) obeys) (no_write (Some Help) obeys) (λ is. ended (Some Help) obeys Device is)
+      (no_read (Some Help) obeys) (no_use (Some Help) obeys) (no_write (Some Help) obeys) (λ is. ended (Some Help) obeys Device is)
   completes (Some (Selftest seed)) obeys suitable = by_status status
       (λ is. ended (Some (Selftest seed)) obeys Usage is) (λ why is. ended (Some (Selftest seed)) obeys (Script why) is)
       (λ why is. ended (Some (Selftest seed)) obeys (ListStatus why) is) (λ why is. ended (Some (Selftest seed)) obeys (Store why) is)
-      (no_read (Some (Selftest seed)) obeys) (no_write (Some (Selftest seed)) obeys) (λ is. ended (Some (Selftest seed)) obeys Device is)
+      (no_read (Some (Selftest seed)) obeys) (no_use (Some (Selftest seed)) obeys) (no_write (Some (Selftest seed)) obeys) (λ is. ended (Some (Selftest seed)) obeys Device is)
   completes (Some (Twin site list batch checkpoint start)) obeys suitable =
       let command = Some (Twin site list batch checkpoint start) in
       by_status status
@@ -178,7 +184,7 @@ module _ {Hosts Lists Stores Scripts Outs : Type 0} (H : HostTells Hosts Lists S
       (subst (λ s. ScriptCauseOf two_of_bytes s (I.left script.before)) is obeys.refused))
       (λ why is. no_list command obeys _ why suitable.1 is)
       (λ why is. ended command obeys (Store why) is)
-      (no_read command obeys) (no_write command obeys) (λ is. ended command obeys Device is)
+      (no_read command obeys) (no_use command obeys) (no_write command obeys) (λ is. ended command obeys Device is)
     where
       site_or_none : (site : List ℕ) → IsSite site → IsNoSite site → ⊥
       site_or_none site ok err = false≢true (subst IsOk err ok)
@@ -190,7 +196,7 @@ module _ {Hosts Lists Stores Scripts Outs : Type 0} (H : HostTells Hosts Lists S
       (subst (λ s. ScriptCauseOf (script_of_bytes true) s (I.left script.before)) is obeys.refused))
       (λ why is. no_list command obeys _ why suitable.0 is)
       (λ why is. ended command obeys (Store why) is)
-      (no_read command obeys) (no_write command obeys)
+      (no_read command obeys) (no_use command obeys) (no_write command obeys)
       (λ is.
       let ran = subst (λ s. Replays command s (H.lists host.before) (H.tells_stores host.before) (H.stores host.before)
       (H.stores host.after) (told_of H.store_faults host) (told_of I.left script) (told_of O.taken out)) is obeys.text in
@@ -212,7 +218,7 @@ module _ {Hosts Lists Stores Scripts Outs : Type 0} (H : HostTells Hosts Lists S
       (λ unopened. sound_opens ran.0.list over.file (H.stores host.before store) (H.stores host.after store) (told_of O.taken out) why
       sound over.found unopened)
       (λ wrote. wrote.2) over.wrote)
-      (no_read command obeys) (no_write command obeys)
+      (no_read command obeys) (no_use command obeys) (no_write command obeys)
       (λ is. none.by_store (subst (λ s. DeviceCounts command s (told_of H.store_faults host)) is obeys.device))
   completes (Some (Dump list store)) obeys suitable =
       let command = Some (Dump list store) in
@@ -224,6 +230,6 @@ module _ {Hosts Lists Stores Scripts Outs : Type 0} (H : HostTells Hosts Lists S
       (H.stores host.after) (told_of O.taken out)) is obeys.text in
       let dumped = ran.1.0 suitable.0 in
       let sound = list_under (H.lists host.before list) (AreStores (H.stores host.before store)) suitable.1 ran.0 dumped.file dumped.found in
-      ⊎_elim (λ wrong. wrong) (not_excused why) (dumped.rows sound.1.0 sound.1.1 sound.0 sound.1.2))
-      (no_read command obeys) (no_write command obeys)
+      ⊎_elim (λ wrong. wrong) (not_excused why) (dumped.rows sound.1.0 sound.1.1 sound.1.2 sound.0 sound.1.3))
+      (no_read command obeys) (no_use command obeys) (no_write command obeys)
       (λ is. none.by_store (subst (λ s. DeviceCounts command s (told_of H.store_faults host)) is obeys.device))

@@ -15,7 +15,7 @@ use Rattle.replay.specs.Readings.{IsListOf, ScriptCounts, StoreReadCause}
 use Rattle.replay.specs.Runs.{RanInMemory, ScriptRead, TakesNone, Written}
 use Rattle.replay.specs.Stores.{LeftAlone, RanStored}
 use Rattle.replay.specs.declared.status.Status.{Status}
-use Rattle.replay.specs.declared.status.Status.TheVariants.{Done, Usage, Script, List as ListStatus, Store, Read, Write, Device, Memory}
+use Rattle.replay.specs.declared.status.Status.TheVariants.{Done, Usage, Script, List as ListStatus, Store, Read, InUse, Write, Device, Memory}
 use Rattle.replay.proofs.CauseLemmas.{alone_before, later_list, list_fine, lists_before, never_failed, others_before, read_cause, replay_device, script_read_cause, script_read_counts, stored_before, writes_under}
 use Rattle.replay.proofs.CommandLemmas.{IsNotUsage, no_usage}
 use Rattle.replay.proofs.StatusLemmas.{written_weaker}
@@ -28,6 +28,7 @@ later_usage (Script why) later = tt
 later_usage (ListStatus why) later = tt
 later_usage (Store why) later = tt
 later_usage Read later = tt
+later_usage InUse later = tt
 later_usage Write later = tt
 later_usage Device later = tt
 later_usage Memory later = tt
@@ -40,6 +41,7 @@ later_script list store batch checkpoint start (Script why) later is = is
 later_script list store batch checkpoint start (ListStatus why) later is = later
 later_script list store batch checkpoint start (Store why) later is = is
 later_script list store batch checkpoint start Read later is = is
+later_script list store batch checkpoint start InUse later is = is
 later_script list store batch checkpoint start Write later is = is
 later_script list store batch checkpoint start Device later is = is
 later_script list store batch checkpoint start Memory later is = is
@@ -63,7 +65,7 @@ module _ {Hosts Lists Stores Scripts Outs : Type 0} (H : HostTells Hosts Lists S
         ends = ends;
         refused = cause;
         list = later_list status told later fine;
-        read = script_read_counts status (told_of H.faults (from_to old mid)) (told_of H.store_faults (from_to old mid)) (told_of I.faults script) still none script_counts;
+        read = script_read_counts status (told_of H.faults (from_to old mid)) (told_of H.store_faults (from_to old mid)) (told_of I.faults script) still none script_counts (λ is. subst (ScriptCanEnd None) is ends);
         read_told = script_read_cause (Some (Replay path None batch checkpoint start)) told (I.left script.before) (told_of H.faults (from_to old mid)) (told_of H.reads (from_to old mid)) (told_of I.faults script) status fine script_counts;
         device = tt;
         write = write;

@@ -48,6 +48,10 @@ list_is (Some own) (Some all) (Some more) bytes has given ended =
 
 -- ---- a store of a path
 
+-- it holds one file
+pub one_file : (told : Option (List ℕ)) (now file : List ℕ) → told ≡ Some now → told ≡ Some file → now ≡ file
+one_file told now file one two = cc
+
 -- a count of the host's that rose by those of a disk
 count_rises : (n faults before after : ℕ) → RoseBy n 0 faults → after ≡ raised faults before → RoseBy n before after
 count_rises n faults before after rose is = omega (arith, rose, is)
@@ -63,17 +67,18 @@ store_writes e list start batch checkpoint file old new steps taken counts after
       cause = unopened.2.cause file held;
       text = unopened.2.text;
       left = λ now is. unopened.2.images settled file held now (same.no_more now is);
+      alone = λ of now is. one_file old.contents now file (settled now (unopened.2.alone of now (same.no_more now is))) held;
     }))
     (λ ran.
     let x : AgentOpening = opened_at start ran.0 in
     inr (
       ran.0,
-      record { valid = ran.1; meant = ran.2 file held },
-      writes_other list.rules batch checkpoint x ⊥ (HasNoCuts old) (LeavesDisk e list batch x ran.4 old new) (LeavesStore e list batch x counts after) (λ never. absurd never)
+      record { valid = ran.1; under = ran.2; meant = ran.3 file held },
+      writes_other list.rules batch checkpoint x ⊥ (HasNoCuts old) (LeavesDisk e list batch x ran.5 old new) (LeavesStore e list batch x counts after) (λ never. absurd never)
           (λ rest history left. (
             (λ image is. left.0 image (same.no_more image is)),
             count_rises (faults_of e history) new.faults counts.before counts.after (subst (λ n. RoseBy (faults_of e history) n new.faults) fresh left.1) count,
-          )) taken.before taken.after e steps ran.6,
+          )) taken.before taken.after e steps ran.7,
     ))
     wrote
 

@@ -5,7 +5,7 @@ use Rattle.store_runs.specs.declared.ending.Ending.TheVariants as ending
 use Rattle.replay.specs.Runs.{Written}
 use Rattle.replay.specs.Commands.{status_of}
 use Rattle.replay.specs.declared.status.Status.{Status}
-use Rattle.replay.specs.declared.status.Status.TheVariants.{Done, Usage, Script, List as ListStatus, Store, Read, Write, Device, Memory}
+use Rattle.replay.specs.declared.status.Status.TheVariants.{Done, Usage, Script, List as ListStatus, Store, Read, InUse, Write, Device, Memory}
 
 -- what is said of work that ended so is said of its status
 pub written_of : (e : Ending) (Nothing : Type 0) (P : Ending → Type 0) → P e → Written (status_of e) Nothing P
@@ -26,3 +26,4 @@ written_weaker Usage M N P Q still how ran = still ran
 written_weaker (Script why) M N P Q still how ran = still ran
 written_weaker (ListStatus why) M N P Q still how ran = still ran
 written_weaker Read M N P Q still how ran = still ran
+written_weaker InUse M N P Q still how ran = still ran

@@ -28,7 +28,7 @@ use Rattle.replay.specs.Runs.{WritesLine, steps_in}
 use Rattle.replay.specs.Twins.{IsAnswered, ScriptsRead, setting_of, twin_line}
 use Rattle.replay.specs.Words.{IsNoSite, IsSite}
 use Rattle.replay.specs.declared.status.Status.{Status}
-use Rattle.replay.specs.declared.status.Status.TheVariants.{Done, Usage, List as ListStatus, Store, Read, Write, Device, Memory}
+use Rattle.replay.specs.declared.status.Status.TheVariants.{Done, Usage, List as ListStatus, Store, Read, InUse, Write, Device, Memory}
 use Rattle.replay.specs.declared.status.Status.TheVariants as status
 use Rattle.replay.proofs.CauseLemmas.{later_list, list_fine, list_read, never_failed, script_read_cause, script_read_counts}
 use Rattle.replay.proofs.CommandLemmas.{IsNotUsage, no_usage}
@@ -98,6 +98,7 @@ line_weaker (status.Script why) taken P Q how takes = takes
 line_weaker (ListStatus why) taken P Q how takes = takes
 line_weaker (Store why) taken P Q how takes = takes
 line_weaker Read taken P Q how takes = takes
+line_weaker InUse taken P Q how takes = takes
 line_weaker Device taken P Q how takes = takes
 line_weaker Memory taken P Q how takes = takes
 
@@ -113,6 +114,7 @@ by_scripts IsOf P done read write memory script (status.Script why) has = script
 by_scripts IsOf P done read write memory script Usage has = absurd has
 by_scripts IsOf P done read write memory script (ListStatus why) has = absurd has
 by_scripts IsOf P done read write memory script (Store why) has = absurd has
+by_scripts IsOf P done read write memory script InUse has = absurd has
 by_scripts IsOf P done read write memory script Device has = absurd has
 
 -- ---- the site
@@ -146,7 +148,7 @@ module _ {Hosts Lists Stores Scripts Outs : Type 0} (H : HostTells Hosts Lists S
         ends = by_scripts IsOfTwoScripts (TwinCanEnd word) (is_site word site named) (is_site word site named) (is_site word site named) tt (λ why of. (is_site word site named, of)) status compared;
         refused = cause;
         list = later_list status told (by_scripts IsOfTwoScripts IsAfterList tt tt tt tt (λ why of. tt) status compared) fine;
-        read = script_read_counts status (told_of H.faults (from_to old mid)) (told_of H.store_faults (from_to old mid)) (told_of I.faults script) still none script_counts;
+        read = script_read_counts status (told_of H.faults (from_to old mid)) (told_of H.store_faults (from_to old mid)) (told_of I.faults script) still none script_counts (λ is. subst HasCompared is compared);
         read_told = script_read_cause (Some (words.Twin word path batch checkpoint start)) told (I.left script.before) (told_of H.faults (from_to old mid)) (told_of H.reads (from_to old mid)) (told_of I.faults script) status fine script_counts;
         device = tt;
         write = write;

@@ -4,7 +4,6 @@
 use Rattle.std.specs.Prelude.{◌≡◌, ◌⊎◌, ◌<◌, ℕ, Bool, true, false, List, Option, Some, None, IfSome, Err}
 use Rattle.std.specs.Prelude.{IsOk, Result}
 use Rattle.agent_base.specs.Counts.{Rose}
-use Rattle.agent_base.specs.Streams.{Takes, TakesPrefix}
 use Rattle.suffix_list.specs.ListText.{list_of}
 use Rattle.script_lines.specs.Script.{PlainFault}
 use Rattle.script_lines.specs.Grammar.{script_of_bytes}
@@ -13,10 +12,10 @@ use Rattle.script_lines.specs.Plain.{fault_of}
 use Rattle.hosts.specs.Hosts.{LeavesOthers, raised}
 use Rattle.command_line.specs.Words.{PlainCommand, Replay, Twin, Dump}
 use Rattle.replay.specs.BeforeAfter.{BeforeAfter}
-use Rattle.replay.specs.FaultLines.{fault_line}
 use Rattle.replay.specs.Words.{IsNoSite}
 use Rattle.replay.specs.declared.status.Status.{Status}
-use Rattle.replay.specs.declared.status.Status.TheVariants.{Done, Script, List as ListStatus, Store, Read, Write, Device}
+use Rattle.replay.specs.declared.status.Status.TheVariants.{Done, Script, List as ListStatus, Store, Read}
+use Rattle.replay.specs.declared.status.Status.TheVariants.{InUse, Write, Device}
 
 -- a script may have a line with cuts where it runs over a store in memory
 abbrev pub allows_cuts : (store : Option (List ℕ)) → Bool
@@ -44,6 +43,7 @@ ScriptCauseOf grammar Done told = ScriptFine grammar told
 ScriptCauseOf grammar Write told = ScriptFine grammar told
 ScriptCauseOf grammar Device told = ScriptFine grammar told
 ScriptCauseOf grammar (Store why) told = ScriptFine grammar told
+ScriptCauseOf grammar InUse told = ScriptFine grammar told
 ScriptCauseOf grammar status told = Unit {0}
 
 -- the same of a command; others than runs and comparisons of scripts read none
@@ -60,6 +60,7 @@ ListCause (ListStatus why) told = IfSome told (λ bytes. list_of bytes ≡ Err w
 ListCause Done told = IfSome told (λ bytes. IsOk (list_of bytes))
 ListCause (Script why) told = IfSome told (λ bytes. IsOk (list_of bytes))
 ListCause (Store why) told = IfSome told (λ bytes. IsOk (list_of bytes))
+ListCause InUse told = IfSome told (λ bytes. IsOk (list_of bytes))
 ListCause Write told = IfSome told (λ bytes. IsOk (list_of bytes))
 ListCause Device told = IfSome told (λ bytes. IsOk (list_of bytes))
 ListCause status told = Unit {0}
@@ -71,10 +72,13 @@ RoseByStore host stores =
     × (stores.after ≡ raised faults stores.before)
 
 -- the counts of faults of host and script: where reading failed, the host's rose and no store's
--- faults are in it, or the script's rose; else they stay, but for what a store's disk counted
+-- faults are in it, or the script's rose; where the store is in use, the host's did; else they
+-- stay, but for what a store's disk counted
 abbrev pub ReadCounts : Status → (host stores script : BeforeAfter ℕ) → Type 0
 ReadCounts Read host stores script =
     (stores.after ≡ stores.before) × (Rose host.before host.after ⊎ Rose script.before script.after)
+ReadCounts InUse host stores script =
+    (stores.after ≡ stores.before) × Rose host.before host.after × (script.after ≡ script.before)
 ReadCounts status host stores script =
     RoseByStore host stores × (script.after ≡ script.before)
 
@@ -139,12 +143,3 @@ LeavesListsBut (Some path) before after = LeavesOthers path before after
 -- a call failed at a list that was opened
 abbrev pub ListFailed : (reads : BeforeAfter ℕ) → Type 0
 ListFailed reads = reads.before < reads.after
-
--- ---- standard error
-
--- standard error took the line of the status, or a prefix of it where its count of faults rose
-abbrev pub TellsFault : Status → (taken : BeforeAfter (Option (List ℕ))) → (faults : BeforeAfter ℕ)
-    → Type 0
-TellsFault status taken faults =
-    (Takes taken.before taken.after (fault_line status) × (faults.after ≡ faults.before))
-    ⊎ (TakesPrefix taken.before taken.after (fault_line status) × Rose faults.before faults.after)

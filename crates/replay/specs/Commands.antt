@@ -31,7 +31,8 @@ use Rattle.replay.specs.Causes.{RoseByStore, WriteCounts}
 use Rattle.replay.specs.Readings.{HasScripts}
 use Rattle.replay.specs.declared.status.Status.{Status}
 use Rattle.replay.specs.declared.status.Status.TheVariants.{Done, Usage, Script, List as ListStatus}
-use Rattle.replay.specs.declared.status.Status.TheVariants.{Store, Read, Write, Device, Memory}
+use Rattle.replay.specs.declared.status.Status.TheVariants.{Store, Read, InUse, Write, Device}
+use Rattle.replay.specs.declared.status.Status.TheVariants.{Memory}
 
 -- ---- the list
 
@@ -55,6 +56,7 @@ HasRun status = Unit {0}
 -- store's faults and by nothing else
 abbrev pub HostCounts : Status → (host stores : BeforeAfter ℕ) → Type 0
 HostCounts Read host stores = (stores.after ≡ stores.before) × Rose host.before host.after
+HostCounts InUse host stores = (stores.after ≡ stores.before) × Rose host.before host.after
 HostCounts _ host stores = RoseByStore host stores
 
 -- the count of faults of the stores that were closed rose where the device failed

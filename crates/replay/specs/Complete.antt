@@ -2,12 +2,12 @@
 -- Source: none; these are the words of the promise.
 use Rattle.std.specs.Prelude.{◌≡◌, ℕ, Bool, true, false, List, [], Option, Some, None, Result, Ok}
 use Rattle.agent_base.specs.Counts.{Rose}
-use Rattle.journal.specs.Opening.{FileMeans, IsWithin}
+use Rattle.journal.specs.Opening.{IsWithin}
 use Rattle.suffix_list.specs.ListText.{RuleList, list_of}
 use Rattle.script_lines.specs.Grammar.{script_of_bytes}
 use Rattle.script_lines.specs.TwoScripts.{two_of_bytes}
-use Rattle.durable_model.specs.Saved.{Saved, nothing_saved}
-use Rattle.row_store.specs.Bodies as bodies
+use Rattle.durable_model.specs.Saved.{Saved}
+use Rattle.row_opening.specs.Under.{MeansUnder}
 use Rattle.command_line.specs.Words.{PlainCommand, Help, Replay, Twin, Dump, Selftest}
 use Rattle.replay.specs.BeforeAfter.{BeforeAfter}
 use Rattle.replay.specs.Causes.{GrammarOf}
@@ -26,12 +26,12 @@ ScriptIs grammar None Holds = ⊥
 ScriptIs {Scripts} grammar (Some bytes) Holds =
     (script : Scripts) × (grammar bytes ≡ Ok script) × Holds script
 
--- each of these images is within the limit of size, and stands for a durable state under a list
+-- each of these images is within the limit of size, and stands for a durable state, under whichever
+-- list; an unborn one under this
 abbrev pub AreStores : (images : Images) → RuleList → Type 0
 AreStores images list =
     (file : List ℕ) → images file → IsWithin true file
-    × ((d : Saved) × (n : ℕ)
-    × FileMeans (bodies.Takes list.rules) nothing_saved list.digest file d n)
+    × ((kept : List ℕ) × (d : Saved) × (n : ℕ) × MeansUnder list.digest kept file d n)
 
 -- What the words name is told, and has no fault: a site, a list, the script or the scripts that a
 -- source has left, and what the store of a path may hold. No cut of the power is to come.

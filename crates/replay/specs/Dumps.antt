@@ -3,11 +3,12 @@
 -- Source: none; these are the words of the promise.
 use Rattle.std.specs.Prelude.{◌≡◌, ◌⊎◌, ℕ, Bool, true, List, Option, Some}
 use Rattle.agent_base.specs.Streams.{Takes, TakesPrefix}
-use Rattle.journal.specs.Opening.{FileMeans, IsOfFile, IsOver, IsWithin}
+use Rattle.journal.specs.Opening.{IsOfFile, IsOver, IsWithin}
 use Rattle.journal.specs.declared.open_fault.OpenFault.{OpenFault}
 use Rattle.suffix_list.specs.ListText.{RuleList}
-use Rattle.durable_model.specs.Saved.{IsValid, Saved, nothing_saved}
-use Rattle.row_store.specs.Bodies as bodies
+use Rattle.durable_model.specs.Migrate.{migrate}
+use Rattle.durable_model.specs.Saved.{IsValid, Saved}
+use Rattle.row_opening.specs.Under.{MeansUnder}
 use Rattle.store_dumps.specs.Dump.{dump_text}
 use Rattle.store_runs.specs.Endings.{IsLimitEnding, ending_of}
 use Rattle.store_runs.specs.declared.ending.Ending.{Ending}
@@ -29,8 +30,8 @@ WritesRows (ending.Store why) text taken = ⊥
 
 -- The rows of the store of a path were to be written. It held this file, which is one of the images
 -- that the host told of it before, and what the host tells afterwards is what an opening leaves.
--- The store was not opened; or the sink took the lines of a state, which is the one that the file
--- stands for. A file that is no store of the list is refused, but for want of memory and a failed
+-- The store was not opened; or the sink took the lines of what stays, under the list, of the state
+-- that the file stands for. A file that is no store is refused, but for want of memory and a failed
 -- call of the disk, and one over the limit of size is never told as want of memory.
 pub record DumpedStore (taken : BeforeAfter (Option (List ℕ))) (before after : Images)
     (ended : Ending) (list : RuleList) : Type 0 where
@@ -38,13 +39,14 @@ pub record DumpedStore (taken : BeforeAfter (Option (List ℕ))) (before after :
   pub found : before file
   pub wrote :
       Unopened list file ended taken after
-      ⊎ ((d : Saved) × (n : ℕ) × IsValid d
-      × FileMeans (bodies.Takes list.rules) nothing_saved list.digest file d n
-      × WritesRows ended (dump_text d) taken × LeavesOpening list file after)
-  pub rows : (d : Saved) (n : ℕ) → IsWithin true file
-      → FileMeans (bodies.Takes list.rules) nothing_saved list.digest file d n
-      → WritesRows ended (dump_text d) taken ⊎ IsExcusedEnding ended
-  pub refused : (why : OpenFault) → IsOfFile why → IsRefused list file why
+      ⊎ ((kept : List ℕ) × (d : Saved) × (n : ℕ) × MeansUnder list.digest kept file d n
+      × IsValid (migrate list.rules d)
+      × WritesRows ended (dump_text (migrate list.rules d)) taken
+      × LeavesOpening list file after)
+  pub rows : (kept : List ℕ) (d : Saved) (n : ℕ) → IsWithin true file
+      → MeansUnder list.digest kept file d n
+      → WritesRows ended (dump_text (migrate list.rules d)) taken ⊎ IsExcusedEnding ended
+  pub refused : (why : OpenFault) → IsOfFile why → IsRefused file why
       → (ended ≡ ending.Store why) ⊎ IsExcusedEnding ended
   pub limit : IsOver true file → IsLimitEnding file ended
 

@@ -11,7 +11,8 @@ use Rattle.command_line.specs.Words.{PlainCommand, Help, Replay, Twin, Dump, Sel
 use Rattle.replay.specs.Words.{IsNoSite, IsSite}
 use Rattle.replay.specs.declared.status.Status.{Status}
 use Rattle.replay.specs.declared.status.Status.TheVariants.{Done, Usage, Script, List as ListStatus}
-use Rattle.replay.specs.declared.status.Status.TheVariants.{Store, Write, Device, Memory}
+use Rattle.replay.specs.declared.status.Status.TheVariants.{Store, InUse, Write, Device}
+use Rattle.replay.specs.declared.status.Status.TheVariants.{Memory}
 
 -- a fault of a list's bytes
 abbrev pub IsOfList : ListFault → Type 0
@@ -32,12 +33,14 @@ IsOfTwoScripts ReadFault = ⊥
 IsOfTwoScripts NoMemory = ⊥
 IsOfTwoScripts why = Unit {0}
 
--- the statuses with which a run of a script can end; over a store in memory no file is refused
+-- the statuses with which a run of a script can end; over a store in memory no file is refused,
+-- and none is in use
 abbrev pub ScriptCanEnd : (store : Option (List ℕ)) → Status → Type 0
 ScriptCanEnd store Usage = ⊥
 ScriptCanEnd store (Script why) = IsOfScript (fault_of why)
 ScriptCanEnd store (ListStatus why) = IsOfList why
 ScriptCanEnd None (Store why) = ⊥
+ScriptCanEnd None InUse = ⊥
 ScriptCanEnd (Some path) (Store why) = IsOfFile why
 ScriptCanEnd store status = Unit {0}
 
@@ -48,6 +51,7 @@ TwinCanEnd site Usage = IsNoSite site
 TwinCanEnd site (Script why) = IsSite site × IsOfTwoScripts (fault_of why)
 TwinCanEnd site (ListStatus why) = IsSite site × IsOfList why
 TwinCanEnd site (Store why) = ⊥
+TwinCanEnd site InUse = ⊥
 TwinCanEnd site Device = ⊥
 TwinCanEnd site Memory = Unit {0}
 TwinCanEnd site status = IsSite site

@@ -9,6 +9,7 @@ use Rattle.unwinding.specs.Admissible.{History}
 use Rattle.script_actions.specs.Action.{PlainAction, PlainStep}
 use Rattle.script_lines.specs.Script.{PlainScript}
 use Rattle.durable_model.specs.Histories.{AgentOpening, opened_at}
+use Rattle.durable_model.specs.Migrate.{IsUnder}
 use Rattle.durable_model.specs.Saved.{IsValid, Saved}
 use Rattle.store_runs.specs.Disks.{IsStateOf}
 use Rattle.store_runs.specs.Endings.{IsLimitEnding, ending_of}
@@ -27,9 +28,10 @@ use Rattle.replay.specs.declared.status.Status.{Status}
 
 -- ---- a run
 
--- a durable state is valid, and is what the bytes of a file stand for
+-- a durable state is valid, and is what stays, under a list, of what the bytes of a file stand for
 pub record IsMeantBy (list : RuleList) (file : List ℕ) (base : Saved) : Type 0 where
   pub valid : IsValid base
+  pub under : IsUnder list.rules base
   pub meant : IsStateOf list file base
 
 -- what a history leaves of the store of a path, whose run ended so: what the host tells of it
@@ -42,11 +44,11 @@ LeavesStore ended list batch opening counts after rest history =
     × RoseBy (faults_of ended history) counts.before counts.after
 
 -- Lines ran over the store of a path. It held this file, which is one of the images that the host
--- told of it before. The store was not opened; or a history of the lines went on from the state
--- that the file stands for, and left this of the store. Where the file is no store of the list,
--- that is what ends the run, but for want of memory and a failed call of the disk. A file over the
--- limit of size is told with its length, and never as want of memory. A run that is done leaves a
--- store for which no checkpoint is due.
+-- told of it before. The store was not opened; or a history of the lines went on from what stays,
+-- under the list, of the state that the file stands for, and left this of the store. Where the file
+-- is no store, that is what ends the run, but for want of memory and a failed call of the disk. A
+-- file over the limit of size is told with its length, and never as want of memory. A run that is
+-- done leaves a store for which no checkpoint is due.
 pub record RanOverStore (start batch checkpoint : ℕ) (taken : BeforeAfter (Option (List ℕ)))
     (counts : BeforeAfter ℕ) (before after : Images) (ended : Ending) (list : RuleList)
     (steps : List PlainStep) : Type 0 where
@@ -57,7 +59,7 @@ pub record RanOverStore (start batch checkpoint : ℕ) (taken : BeforeAfter (Opt
       ⊎ ((base : Saved) × IsMeantBy list file base
       × WritesLines ended list.rules batch checkpoint (opened_at start base) ⊥ steps taken.before
       taken.after (LeavesStore ended list batch (opened_at start base) counts after))
-  pub refused : (why : OpenFault) → IsOfFile why → IsRefused list file why
+  pub refused : (why : OpenFault) → IsOfFile why → IsRefused file why
       → TakesNone taken × ((ended ≡ ending.Store why) ⊎ IsExcusedEnding ended)
   pub limit : IsOver true file → IsLimitEnding file ended
   pub tidy : ended ≡ ending.Done → LeavesTidy checkpoint list.digest after

@@ -11,8 +11,8 @@ ghost use Rattle.replay.specs.Stores.{LeftAlone};
 
 use crate::Status;
 use crate::lists::read_list;
-use agent_base::{Fault, Sink, Source};
-use hosts::Host;
+use agent_base::{Sink, Source};
+use hosts::{Host, StoreFault};
 use journal::OpenFault;
 use std::alloc::Global;
 use store_dumps::{DumpFault, dump};
@@ -64,8 +64,9 @@ fn dump_over<H: Host, O: Sink>(
             host.close_store(path, disk);
             status(dumped)
         }
-        Err(Fault::Failed) => Status::Read,
-        Err(Fault::NoMemory) => Status::Memory,
+        Err(StoreFault::InUse) => Status::InUse,
+        Err(StoreFault::Failed) => Status::Read,
+        Err(StoreFault::NoMemory) => Status::Memory,
     }
 }
 

@@ -18,9 +18,9 @@ ghost use Rattle.store_runs.specs.Steps.{steps_of};
 
 use crate::Status;
 use crate::lists::read_list;
-use agent_base::{Fault, Sink, Source};
+use agent_base::{Sink, Source};
 use agent_core::Options;
-use hosts::Host;
+use hosts::{Host, StoreFault};
 use script_actions::Line;
 use script_lines::{Script, ScriptFault};
 use std::alloc::Global;
@@ -155,8 +155,9 @@ fn run_over<H: Host, O: Sink>(
             host.close_store(path, finished.disk);
             status(finished.ending)
         }
-        Err(Fault::Failed) => Status::Read,
-        Err(Fault::NoMemory) => Status::Memory,
+        Err(StoreFault::InUse) => Status::InUse,
+        Err(StoreFault::Failed) => Status::Read,
+        Err(StoreFault::NoMemory) => Status::Memory,
     }
 }
 

@@ -23,6 +23,8 @@ pub enum Status {
     Store(OpenFault),
     /// Opening or reading the list, reading the script, or opening the store's file failed.
     Read,
+    /// The store's file is open already, here or in another process.
+    InUse,
     /// Writing a line failed.
     Write,
     /// A call of the store's disk failed in the first opening, or the agent is down at the end.
@@ -42,7 +44,7 @@ impl Status {
             Status::Script(_) => 3,
             Status::List(_) => 4,
             Status::Store(_) => 5,
-            Status::Read => 6,
+            Status::Read | Status::InUse => 6,
             Status::Write => 7,
             Status::Device => 8,
             Status::Memory => 9,
@@ -60,6 +62,7 @@ impl Status {
             Status::List(why) => Ok(Status::List(*why)),
             Status::Store(why) => Ok(Status::Store(*why)),
             Status::Read => Ok(Status::Read),
+            Status::InUse => Ok(Status::InUse),
             Status::Write => Ok(Status::Write),
             Status::Device => Ok(Status::Device),
             Status::Memory => Ok(Status::Memory),

@@ -1,17 +1,15 @@
 //! The line of a status, and how it is written.
 ghost use Rattle.std.specs.Prelude.{◌≡◌, ◌++◌, ◌∷◌, [], OnOk, OnErr, codes, decimal, flat_map};
-ghost use Rattle.hex.specs.Hex.{encode_lower};
 ghost use Rattle.agent_base.specs.Counts.{HasCause};
 ghost use Rattle.agent_base.specs.Streams.{Takes, TakesPrefix};
 ghost use Rattle.script_lines.specs.Plain.{fault_of};
 ghost use Rattle.replay.specs.FaultLines as spec;
 ghost use Rattle.replay.specs.LineParts.{line_text, piece_text};
 ghost use Rattle.replay.specs.BeforeAfter.{from_to};
-ghost use Rattle.replay.specs.Causes.{TellsFault};
+ghost use Rattle.replay.specs.FaultLines.{TellsFault};
 
 use crate::Status;
 use agent_base::{Failed, Sink, write_all};
-use hex::encode_to_slice;
 use itoa::Buffer;
 use journal::OpenFault;
 use script_lines::ScriptFault;
@@ -22,8 +20,6 @@ use suffix_list::ListFault;
 enum Piece<'a> {
     Text(&'a str),
     Number(u64),
-    // Bytes, as two hexadecimal digits each.
-    Digest(&'a [u8; 32]),
 }
 
 // A line: its pieces, of which the last ones may be empty.
@@ -69,6 +65,7 @@ fn fault_line(status: &Status) -> FaultLine<'_>
         Status::List(why) => list_line(*why),
         Status::Store(why) => store_line(why),
         Status::Read => plain("read fault\n"),
+        Status::InUse => plain("store: in use\n"),
         Status::Write => plain("write fault\n"),
         Status::Device => plain("device fault\n"),
         Status::Memory => plain("no memory\n"),
@@ -117,15 +114,6 @@ fn store_line(why: &OpenFault) -> FaultLine<'_>
 {
     match why {
         OpenFault::NotAStore(offset) => numbered("store: not a store at ", *offset, "\n"),
-        OpenFault::OtherList { kept, given } => FaultLine {
-            pieces: [
-                Piece::Text("store: list "),
-                Piece::Digest(kept),
-                Piece::Text(", given "),
-                Piece::Digest(given),
-                Piece::Text("\n"),
-            ],
-        },
         OpenFault::TooLarge(len) => numbered("store: too large: ", *len, "\n"),
         OpenFault::DeviceFault => plain("device fault\n"),
         OpenFault::NoMemory => plain("no memory\n"),
@@ -197,14 +185,5 @@ fn write_piece<E: Sink>(err: &mut E, piece: &Piece<'_>) -> Result<(), Failed>
             let mut digits = Buffer::new();
             write_all(err, digits.format(*n).as_bytes())
         }
-        Piece::Digest(bytes) => write_all(err, &digits_of(bytes)),
     }
-}
-
-fn digits_of(bytes: &[u8; 32]) -> [u8; 64]
-    ensures { result ≡ encode_lower bytes.now }
-{
-    let mut digits = [0; 64];
-    let _ = encode_to_slice(bytes, &mut digits);
-    digits
 }

@@ -109,7 +109,7 @@ fn run_of(
 
 // Whether a run ends and prints as it has to, and leaves a store of this length.
 fn is_as_long(alloc: Global, run: OnDisk, length: u64) -> Result<bool, Fail> {
-    let disk = disk_of(alloc, "", None)?;
+    let disk = disk_of(alloc, &[], None)?;
     match left_by(alloc, disk, &[run])? {
         Some(mut left) => Ok(left.len() == Ok(length)),
         None => Ok(false),
@@ -130,7 +130,7 @@ fn a_due_checkpoint_is_made(rt: HostRuntime) -> Result<(), Fail> {
 }
 
 fn is_kept(alloc: Global, call: u64, pick: u8) -> Result<bool, Fail> {
-    let disk = disk_of(alloc, "", Some(Cut { call, pick }))?;
+    let disk = disk_of(alloc, &[], Some(Cut { call, pick }))?;
     let run = run_of(STORED, 1, 1, Ending::Done, CUT);
     are_told(alloc, disk, &[run])
 }
@@ -147,7 +147,7 @@ fn a_cut_within_a_checkpoint_loses_nothing(rt: HostRuntime) -> Result<(), Fail> 
 }
 
 fn is_found_again(alloc: Global, batch: u16, call: u64) -> Result<bool, Fail> {
-    let disk = disk_of(alloc, "", Some(Cut { call, pick: 0 }))?;
+    let disk = disk_of(alloc, &[], Some(Cut { call, pick: 0 }))?;
     let run = run_of(BOTH, batch, 1, Ending::Device, SET);
     let again = run_of(READ, 1, 0, Ending::Done, FOUND);
     match left_by(alloc, disk, &[run])? {
@@ -171,7 +171,7 @@ fn a_last_checkpoint_that_is_cut_ends_as_a_device_fault(rt: HostRuntime) -> Resu
 // The store is left by a run without checkpoints, in 11 calls. One opens it again, one is that of
 // the restart, and the next is the first one of the checkpoint.
 fn is_left_behind_a_restart(alloc: Global) -> Result<bool, Fail> {
-    let disk = disk_of(alloc, "", Some(Cut { call: 14, pick: 0 }))?;
+    let disk = disk_of(alloc, &[], Some(Cut { call: 14, pick: 0 }))?;
     let runs = [
         run_of(BOTH, 1, 0, Ending::Done, SET),
         run_of(READ, 1, 1, Ending::Device, BEHIND_A_LINE),

@@ -11,3 +11,5 @@ mod disks;
 mod listing;
 #[cfg(test)]
 mod shared;
+#[cfg(test)]
+mod updates;

@@ -58,7 +58,7 @@ fn lists(alloc: Global, agent: &Agent<'_, MemDisk>, text: &str) -> Result<bool, 
 
 // An agent over a new disk, in batches that are longer than the lines.
 fn opened(alloc: Global, list: &SuffixList) -> Result<Agent<'_, MemDisk>, Fail> {
-    match Agent::open(alloc, disk_of(alloc, "", None)?, list, options(16, 0)) {
+    match Agent::open(alloc, disk_of(alloc, &[], None)?, list, options(16, 0)) {
         Ok(agent) => Ok(agent),
         Err(_) => Err(Fail::from(AllocError)),
     }

@@ -98,8 +98,8 @@ fn sink(alloc: Global) -> Result<MemSink, Fail> {
 }
 
 /// A disk with these bytes and this cut.
-pub fn disk_of(alloc: Global, bytes: &str, cut: Option<Cut>) -> Result<MemDisk, Fail> {
-    let bytes = Vec::from_slice(alloc, bytes.as_bytes())?;
+pub fn disk_of(alloc: Global, bytes: &[u8], cut: Option<Cut>) -> Result<MemDisk, Fail> {
+    let bytes = Vec::from_slice(alloc, bytes)?;
     let cuts = cuts_of(alloc, cut)?;
     Ok(MemDisk::new(alloc, bytes, cuts, Vec::new(alloc)))
 }

@@ -121,6 +121,7 @@ module _ (at : TwinSetting) (first second : List PlainLine) where
     equal_line lines text is none (status.List why) takes = absurd takes
     equal_line lines text is none (status.Store why) takes = absurd takes
     equal_line lines text is none status.Read takes = absurd takes
+    equal_line lines text is none status.InUse takes = absurd takes
     equal_line lines text is none status.Device takes = absurd takes
     equal_line lines text is none status.Memory takes = absurd takes
 
@@ -169,6 +170,7 @@ module _ (P : Status → Type 0) (done : P status.Done) (write : P status.Write)
   answer_ends answer (status.List why) taken takes = absurd takes
   answer_ends answer (status.Store why) taken takes = absurd takes
   answer_ends answer status.Read taken takes = absurd takes
+  answer_ends answer status.InUse taken takes = absurd takes
   answer_ends answer status.Device taken takes = absurd takes
   answer_ends answer status.Memory taken takes = absurd takes
 
@@ -233,6 +235,7 @@ read_counts (status.Script why) host script still counts = (still, counts)
 read_counts (status.List why) host script still counts = (still, counts)
 read_counts (status.Store why) host script still counts = (still, counts)
 read_counts status.Read host script still counts = inr counts
+read_counts status.InUse host script still counts = (still, counts)
 read_counts status.Write host script still counts = (still, counts)
 read_counts status.Device host script still counts = (still, counts)
 read_counts status.Memory host script still counts = (still, counts)

@@ -22,7 +22,8 @@ use Rattle.replay.specs.Endings.{IsOfList, IsOfScript, IsOfTwoScripts}
 use Rattle.replay.specs.Words.{IsNoSite, IsSite, list_named}
 use Rattle.replay.specs.declared.status.Status.{Status}
 use Rattle.replay.specs.declared.status.Status.TheVariants.{Done, Usage, Script, List as ListStatus}
-use Rattle.replay.specs.declared.status.Status.TheVariants.{Store, Read, Write, Device, Memory}
+use Rattle.replay.specs.declared.status.Status.TheVariants.{Store, Read, InUse, Write, Device}
+use Rattle.replay.specs.declared.status.Status.TheVariants.{Memory}
 
 -- ---- what is named
 
@@ -51,6 +52,7 @@ ShownCanEnd what site Usage = IsNoSite site
 ShownCanEnd what site (Script why) = IsSite site × IsOf what (fault_of why)
 ShownCanEnd what site (ListStatus why) = IsSite site × IsOfList why
 ShownCanEnd what site (Store why) = ⊥
+ShownCanEnd what site InUse = ⊥
 ShownCanEnd what site Device = ⊥
 ShownCanEnd what site Memory = Unit {0}
 ShownCanEnd what site status = IsSite site

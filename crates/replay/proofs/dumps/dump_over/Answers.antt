@@ -21,7 +21,7 @@ returns-in-Ok-clause-text g c =
     let stored : tells ≡ true → DumpedStore taken before after (dump_ending c.dump-dumped.result) list =
     λ tell.
     let held = c.in-Ok.ensures.told tell in
-    dumped c.dump-dumped.result list held.0 taken _ _ c.dump-dumped.ensures.opening held.1 before after held.2 (c.close_store.ensures.told (c.in-Ok.ensures.tells ∙ tell)) (g.met.H.Store.Disk.lawful c.dump-dumped.new.disk)
+    dumped c.dump-dumped.result list held.0 taken _ _ c.dump-dumped.ensures.opening held.1 c.in-Ok.ensures.settled before after held.2 (c.close_store.ensures.told (c.in-Ok.ensures.tells ∙ tell)) (g.met.H.Store.Disk.lawful c.dump-dumped.new.disk)
     (c.dump-dumped.ensures.opening.any_moment c.in-Ok.ensures.settled held.0 held.1) c.dump-dumped.ensures.rows c.dump-dumped.ensures.written in
     let ran : DumpedRows taken tells before after (dump_ending c.dump-dumped.result) list = (stored, dumped_some list _ taken c.dump-dumped.result c.dump-dumped.ensures.rows) in
     subst (λ s. Written s (LeftAlone taken before after) (λ e. DumpedRows taken tells before after e list)) (sym c.status.ensures)

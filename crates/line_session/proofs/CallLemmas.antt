@@ -1,18 +1,29 @@
 -- What a list of calls is together.
-use Rattle.std.proofs.Common.{◌≡◌, ℕ, ◌+◌, ◌<◌, ◌≤◌, ◌^◌, List, [], ◌∷◌, ◌++◌, Option, Some, None, Result, Ok, Err, length, sym, ap, subst, ◌∙◌, append-nil, append_assoc, arith}
+use Rattle.std.proofs.Common.{◌≡◌, ℕ, ◌+◌, ◌<◌, ◌≤◌, ◌^◌, true, List, [], ◌∷◌, ◌++◌, Option, Some, None, Result, Ok, Err, length, refl, sym, ap, subst, ◌∙◌, append-nil, append_assoc, arith}
 use Rattle.std.proofs.lemmas.List.{length-append}
-use Rattle.unwinding.specs.Admissible.{Acts, Reopens}
+use Rattle.unwinding.specs.Admissible.{Acts, History, Reopens}
 use Rattle.disk_model.specs.Disk.{View}
-use Rattle.script_actions.specs.Action.{PlainLine, PlainStep}
+use Rattle.journal.specs.Region.{StandsForState}
+use Rattle.suffix_list.specs.Suffix.{Rule}
+use Rattle.script_actions.specs.Action.{PlainAction, PlainLine, PlainStep}
 use Rattle.script_lines.specs.Grammar.{line_of_bytes}
 use Rattle.script_lines.specs.Script.{PlainFault}
 use Rattle.durable_model.specs.Histories.{AgentOpening, opened_at}
-use Rattle.agent_core.specs.AgentView.{may_of}
+use Rattle.durable_model.specs.Keeping.{durable_of}
+use Rattle.durable_model.specs.Migrate.{IsUnder}
+use Rattle.durable_model.specs.Saved.{Saved, nothing_saved}
+use Rattle.row_store.specs.Bodies as bodies
+use Rattle.agent_core.specs.AgentView.{list_of, may_find, may_of, since_opening}
+use Rattle.agent_core.specs.Means.{AgentMay}
 use Rattle.printed_model.specs.Histories.{HasSameLines, HasSiteLines}
-use Rattle.store_runs.specs.Courses.{On, text_on}
+use Rattle.store_runs.specs.Courses.{Leaves, On, text_on}
+use Rattle.store_runs.specs.Openings.{GoesOn}
+use Rattle.store_runs.specs.Runs.{LeavesHistory}
 use Rattle.store_runs.proofs.LoopLemmas.{cut_off, cut_off_admissible, cut_off_leaves, cut_off_text}
+use Rattle.store_runs.proofs.StopLemmas.{goes_then}
 use Rattle.line_session.specs.Asked.{asked_by, steps_in}
-use Rattle.line_session.specs.Calls.{AreCalls, HasCallsSame, HasCallsSites, HasCallsText, LineCall, TellsCalls, call_steps, call_text, ran_by, steps_of_calls, text_of_calls}
+use Rattle.line_session.specs.Calls.{AreCalls, Began, HasCallsSame, HasCallsSites, HasCallsText, IsHistoryOfCalls, LineCall, TellsCalls, call_steps, call_text, ran_by, steps_of_calls, text_of_calls}
+use Rattle.line_session.specs.Left.{HasCallsLeft}
 use Rattle.line_session.specs.SessionView.{SessionView}
 use Rattle.line_session.specs.StandsFor.{AreTold, StandsFor}
 use Rattle.line_session.specs.declared.refused.LineRefused.{LineRefused}
@@ -80,27 +91,77 @@ module _ {D : Type 0} (tell : D → View) where
         rest.1 ∙ goes.goes_on.rules ∙ ap (λ (s : SessionView D). s.agent.memory.rules) are.0,
       )
 
-  -- the replies are the text of a history of the lines
+  -- the list, and whether the disk tells its contents, stay
+  pub calls_go : (calls : List (LineCall D)) (first last : SessionView D) → AreCalls tell first last calls
+      → GoesOn tell first.agent last.agent
+  calls_go [] first last same = subst (λ (s : SessionView D). GoesOn tell first.agent s.agent) (sym same)
+      (record { rules = refl; digest = refl; batch = refl; checkpoint = refl; tells = refl })
+  calls_go (c ∷ cs) first last are = goes_then tell first.agent c.new.agent last.agent
+      (subst (λ (s : SessionView D). GoesOn tell s.agent c.new.agent) are.0 are.1.goes_on)
+      (calls_go cs c.new last are.2)
+
+  module _ (start : ℕ) (saved : Saved) (first last : SessionView D) (calls : List (LineCall D))
+      (began : Began tell start saved first last calls) where
+    abbrev opening : AgentOpening
+    opening = opened_at start saved
+
+    abbrev rules_of_all : List Rule
+    rules_of_all = first.agent.memory.rules
+
+    abbrev may_last : AgentMay
+    may_last = may_of last.agent (tell last.agent.disk)
+
+    abbrev all_stand : StandsFor tell last opening (steps_of_calls calls) (text_of_calls calls)
+        × (last.agent.memory.rules ≡ first.agent.memory.rules)
+    all_stand = calls_stand opening calls first last [] [] began.begins began.are began.told (omega (arith, began.few))
+
+    -- the replies are the text of a history of the lines, which leaves what may be found
+    calls_history : (history : History PlainAction) × IsHistoryOfCalls rules_of_all opening calls history
+        × Leaves rules_of_all 1 opening may_last [] history
+    calls_history =
+        let x = opening in
+        let rules = rules_of_all in
+        let s = all_stand.0 in
+        let same = all_stand.1 in
+        let on : On rules 1 x s.course s.seen may_last = subst (λ n. On rules n x s.course s.seen may_last) s.one
+        (subst (λ rs. On rs last.agent.batch x s.course s.seen may_last) same s.on) in (
+          cut_off rules 1 x s.course,
+          record {
+            runs = record {
+              admissible = cut_off_admissible rules 1 x s.course s.seen may_last on;
+              lines = s.lines;
+              quiet = λ never. absurd never;
+            };
+            text = cut_off_text rules 1 x s.course ∙ ap (λ rs. text_on rs x s.course) (sym same) ∙ s.replies;
+          },
+          cut_off_leaves rules 1 x s.course s.seen may_last on [],
+        )
+
+    -- each image that a cut leaves is a store
+    left_images : (tell first.agent.disk).tells ≡ true → (history : History PlainAction)
+        → Leaves rules_of_all 1 opening may_last [] history
+        → LeavesHistory (list_of first.agent) 1 opening (tell last.agent.disk).may_leave [] history
+    unfolding may_find
+    left_images tells history leaves file image =
+        let goes = calls_go calls first last began.are in
+        let store = (all_stand.0.stands.stores (goes.tells ∙ tells) file image).1 in (
+          store.0,
+          store.1,
+          subst (λ digest. StandsForState bodies.Takes nothing_saved digest file store.0 store.1) goes.digest store.2,
+          subst (λ rules. IsUnder rules store.0) goes.rules store.3,
+          leaves (durable_of store.0) (since_opening store.1 last.agent.opened)
+              (file, image, store.0, store.1, store.2, refl, refl),
+        )
+
   pub calls_text : HasCallsText tell
   calls_text start saved first last calls began =
-      let x = opened_at start saved in
-      let rules = first.agent.memory.rules in
-      let may = may_of last.agent (tell last.agent.disk) in
-      let all = calls_stand x calls first last [] [] began.begins began.are began.told (omega (arith, began.few)) in
-      let s = all.0 in
-      let on : On rules 1 x s.course s.seen may = subst (λ n. On rules n x s.course s.seen may) s.one
-      (subst (λ rs. On rs last.agent.batch x s.course s.seen may) all.1 s.on) in (
-        cut_off rules 1 x s.course,
-        record {
-          runs = record {
-            admissible = cut_off_admissible rules 1 x s.course s.seen may on;
-            lines = s.lines;
-            quiet = λ never. absurd never;
-          };
-          text = cut_off_text rules 1 x s.course ∙ ap (λ rs. text_on rs x s.course) (sym all.1) ∙ s.replies;
-        },
-        λ d n left. (cut_off_leaves rules 1 x s.course s.seen may on [] d n left).left,
-      )
+      let all = calls_history start saved first last calls began in
+      (all.0, all.1, λ d n left. (all.2 d n left).left)
+
+  pub calls_left : HasCallsLeft tell
+  calls_left start saved first last calls began tells =
+      let all = calls_history start saved first last calls began in
+      (all.0, all.1, left_images start saved first last calls began tells all.0 all.2)
 
   pub calls_sites : HasSiteLines → HasCallsSites tell
   calls_sites sites start saved first last calls began history is site =

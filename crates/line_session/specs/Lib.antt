@@ -4,3 +4,4 @@ pub mod Asked
 pub mod Refusals
 pub mod StandsFor
 pub mod Calls
+pub mod Left

@@ -32,8 +32,8 @@ pub enum LineRefused {
     /// feed or a carriage return.
     #[error("bad header")]
     BadHeader,
-    /// What a line found that opens the store again is no store of this list.
-    #[error("no store of this list")]
+    /// What a line found that opens the store again is no store.
+    #[error("no store")]
     Store(OpenFault),
     /// The reply of the line before is still to be printed.
     #[error("a reply is still to be printed")]

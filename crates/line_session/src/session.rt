@@ -1,18 +1,21 @@
 //! The session.
 ghost use Rattle.std.specs.Prelude.{◌≡◌, ◌⊎◌, ◌∷◌, [], ℕ, List, Some, IfErr, IfOk, OnErr, OnOk};
 ghost use Rattle.std.specs.Prelude.{IsErrAnd, IsErrOf, MatchResult, Option, false, true};
-ghost use Rattle.agent_core.specs.AgentView.{owes};
+ghost use Rattle.agent_base.specs.Counts.{Rose};
+ghost use Rattle.agent_core.specs.AgentView.{is_down, owes};
 ghost use Rattle.agent_core.specs.declared.agent.Power.TheVariants as power;
 ghost use Rattle.durable_model.specs.Histories.{opened_at};
+ghost use Rattle.durable_model.specs.Migrate.{IsUnder, migrate};
 ghost use Rattle.durable_model.specs.Saved.{IsValid, Saved, nothing_saved};
-ghost use Rattle.journal.specs.Opening.{FileMeans, IsExcused, IsLimitRefusal, IsOfFile, IsOver};
-ghost use Rattle.journal.specs.Opening.{IsRefusal};
+ghost use Rattle.journal.specs.Opening.{IsExcused, IsLimitRefusal, IsOfFile, IsOver, IsRefusal};
 ghost use Rattle.journal.specs.declared.open_fault.OpenFault.{OpenFault};
 ghost use Rattle.row_store.specs.Bodies.{Refuses};
 ghost use Rattle.row_store.specs.Bodies as bodies;
+ghost use Rattle.row_opening.specs.Under.{MeansUnder};
 ghost use Rattle.script_actions.specs.Action.{PlainLine};
 ghost use Rattle.script_actions.specs.Plain.{step_of};
 ghost use Rattle.store_runs.specs.Answers.{answer_text};
+ghost use Rattle.store_runs.specs.FaultCounts.{KeepsCount, RoseSince};
 ghost use Rattle.line_session.specs.Asked as asked;
 ghost use Rattle.line_session.specs.Asked.{asked_by};
 ghost use Rattle.line_session.specs.Calls.{text_by, ran_by};
@@ -62,7 +65,8 @@ impl<'l, D: Disk + Drop> Model for Session<'l, D> {
 impl<'l, D: Disk + Drop> Session<'l, D> {
     /// A session over the store on a disk, or over a new one where the file is no store yet. Its
     /// clock begins at `start`, and a checkpoint is due after `checkpoint` durable changes; 0 is
-    /// never.
+    /// never. A store under another suffix list is opened too: what of it is none under this list
+    /// goes, and what stays is as it was.
     pub fn open(
         alloc: Global,
         disk: D,
@@ -70,25 +74,25 @@ impl<'l, D: Disk + Drop> Session<'l, D> {
         start: Seconds,
         checkpoint: u32,
     ) -> Result<Session<'l, D>, Refused<D>>
-        // It stands for what the file stands for, with no line and no text behind it.
+        // It stands for what stays, under the list, of what the file stands for, with no line and
+        // no text behind it.
         ensures seen { IfOk result (λ s. (base : Saved) × IsValid base
+            × IsUnder list.now.rules base
             × (StandsFor D.view s (opened_at start base) [] []
-            × ((c : List ℕ) (d : Saved) (n : ℕ) → (D.view disk).contents ≡ Some c
-            → FileMeans (bodies.Takes list.now.rules) nothing_saved list.now.digest c d n
-            → base ≡ d)
-            × ((c : List ℕ) → (D.view disk).contents ≡ Some c → (n : ℕ)
-            × FileMeans (bodies.Takes list.now.rules) nothing_saved list.now.digest c base n))) }
+            × ((c kept : List ℕ) (d : Saved) (n : ℕ) → (D.view disk).contents ≡ Some c
+            → MeansUnder list.now.digest kept c d n → base ≡ migrate list.now.rules d)
+            × ((c : List ℕ) → (D.view disk).contents ≡ Some c
+            → (kept : List ℕ) × (d : Saved) × (n : ℕ) × MeansUnder list.now.digest kept c d n
+            × (base ≡ migrate list.now.rules d)))) }
         ensures begun { IfOk result (λ s. (s.agent.memory.rules ≡ list.now.rules)
             × (s.agent.journal.digest ≡ list.now.digest) × (s.agent.checkpoint ≡ checkpoint)
             × (s.reply ≡ []) × (s.printed ≡ true)) }
         ensures refused { IfErr result (λ r. (c : List ℕ)
             → (D.view disk).contents ≡ Some c
-            → IsRefusal (bodies.Takes list.now.rules) (Refuses list.now.rules) nothing_saved true
-            list.now.digest c r.why) }
+            → IsRefusal bodies.Takes Refuses nothing_saved true c r.why) }
         ensures exactly { (why : OpenFault) (c : List ℕ)
             → (D.view disk).contents ≡ Some c → IsOfFile why
-            → IsRefusal (bodies.Takes list.now.rules) (Refuses list.now.rules) nothing_saved true
-            list.now.digest c why
+            → IsRefusal bodies.Takes Refuses nothing_saved true c why
             → MatchResult result (λ _. ⊥) (λ r. (r.why ≡ why) ⊎ IsExcused r.why) }
         ensures limit { (c : List ℕ) → (D.view disk).contents ≡ Some c → IsOver true c
             → MatchResult result (λ _. ⊥) (λ r. IsLimitRefusal c r.why) }
@@ -97,6 +101,11 @@ impl<'l, D: Disk + Drop> Session<'l, D> {
         ensures tells { MatchResult result
             (λ s. (D.view s.agent.disk).tells ≡ (D.view disk).tells)
             (λ r. (D.view r.disk).tells ≡ (D.view disk).tells) }
+        // A call of the disk that failed leaves its count of faults higher.
+        ensures counts { MatchResult result
+            (λ s. RoseSince D.view (D.view disk).faults s.agent)
+            (λ r. r.why ≡ OpenFault.DeviceFault
+            → Rose (D.view disk).faults (D.view r.disk).faults) }
     {
         let options = Options {
             start,
@@ -133,6 +142,7 @@ impl<'l, D: Disk + Drop> Session<'l, D> {
         ensures owed { self.old.printed ≡ false → IsErrOf result LineRefused.Owed }
         ensures any_moment { (self.new.agent ≡ self.old.agent)
             ⊎ LineMoments D.view self.old.agent self.new.agent (asked_by line.now) }
+        ensures counts { KeepsCount D.view self.old.agent self.new.agent }
     {
         if self.unprinted.is_some() {
             return Err(LineRefused::Owed);
@@ -156,6 +166,7 @@ impl<'l, D: Disk + Drop> Session<'l, D> {
         ensures refused { IfErr result (λ why. IsStop self.old self.new (step_of step.now) why) }
         ensures any_moment { LineMoments D.view self.old.agent self.new.agent
             (step_of step.now ∷ []) }
+        ensures counts { KeepsCount D.view self.old.agent self.new.agent }
     {
         match run_line(&mut self.agent, step) {
             Ok(answer) => {
@@ -206,12 +217,27 @@ impl<'l, D: Disk + Drop> Session<'l, D> {
         ensures stays { (self.new.reply ≡ self.old.reply)
             × (self.new.printed ≡ self.old.printed) }
         ensures device { IsErrOf result Untended.Device → self.new.agent.power ≡ power.Down }
+        ensures counts { KeepsCount D.view self.old.agent self.new.agent }
     {
         match tend(&mut self.agent) {
             Ending::Done => Ok(()),
             Ending::Device => Err(Untended::Device),
             _ => Err(Untended::NoMemory),
         }
+    }
+
+    /// Whether a call of the disk failed since the store was last opened.
+    pub fn is_down(&self) -> bool
+        ensures down { result ≡ is_down self.now.agent.power }
+    {
+        self.agent.is_down()
+    }
+
+    /// The disk that the store is on.
+    pub fn disk(&self) -> &D
+        ensures disk { result.now ≡ self.now.agent.disk }
+    {
+        self.agent.disk()
     }
 
     /// Hands the disk back.

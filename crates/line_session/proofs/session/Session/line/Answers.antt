@@ -1,9 +1,11 @@
-use Rattle.std.proofs.Common.{inl, Some, None, refl, sym, ap, ◌∙◌}
+use Rattle.std.proofs.Common.{inl, Some, None, refl, subst, sym, ap, ◌∙◌}
 use Rattle.script_actions.specs.Plain.{line_of}
 use Rattle.line_session.specs.SessionView.{SessionView}
 use Rattle.line_session.proofs.LineLemmas.{also_ok, blank_goes, none_unprinted, nothing_replied, owes_none, ran_goes, ran_moments, ran_refused, read_as, some_unprinted}
 use Rattle.line_session.proofs.RefusalLemmas.{fault_goes, fault_refused}
 use Rattle.line_session.proofs.SessionLemmas.{goes_nowhere}
+use Rattle.store_runs.specs.FaultCounts.{KeepsCount}
+use Rattle.store_runs.proofs.PowerLemmas.{counts_same, counts_still}
 use Rattle.line_session.proofs.session.Session.line.Goals as goal
 
 -- a reply is still to be printed
@@ -90,3 +92,20 @@ returns-in-Err-clause-owed g c owed = absurd
 
 pub returns-in-Err-clause-any_moment : goal.returns-in-Err-clause-any_moment
 returns-in-Err-clause-any_moment g c = inl (ap (λ (s : SessionView _). s.agent) c.self.view_is)
+
+-- ---- the count of the disk's faults
+
+pub returns-then-is_some-clause-counts : goal.returns-then-is_some-clause-counts
+returns-then-is_some-clause-counts g c = counts_still g.D.Disk.view c.args.self.now.agent
+
+pub returns-in-Ok-Some-clause-counts : goal.returns-in-Ok-Some-clause-counts
+returns-in-Ok-Some-clause-counts g c =
+    subst (λ (old : SessionView _). KeepsCount g.D.Disk.view old.agent c.run.new.self.agent) c.self.view_is c.run.ensures.counts
+
+pub returns-in-Ok-None-clause-counts : goal.returns-in-Ok-None-clause-counts
+returns-in-Ok-None-clause-counts g c =
+    counts_same g.D.Disk.view _ _ (ap (λ (s : SessionView _). s.agent) c.self.view_is)
+
+pub returns-in-Err-clause-counts : goal.returns-in-Err-clause-counts
+returns-in-Err-clause-counts g c =
+    counts_same g.D.Disk.view _ _ (ap (λ (s : SessionView _). s.agent) c.self.view_is)

@@ -6,6 +6,7 @@ use Rattle.line_session.specs.SessionView.{SessionView}
 use Rattle.line_session.specs.StandsFor.{GoesBy}
 use Rattle.line_session.proofs.LineLemmas.{stopped_goes, stopped_left}
 use Rattle.line_session.proofs.SessionLemmas.{goes_ran}
+use Rattle.store_runs.specs.FaultCounts.{KeepsCount}
 use Rattle.line_session.proofs.session.Session.run.Goals as goal
 
 pub returns-in-Ok-print-clause-means : goal.returns-in-Ok-print-clause-means
@@ -50,3 +51,20 @@ pub returns-in-Err-clause-any_moment : goal.returns-in-Err-clause-any_moment
 returns-in-Err-clause-any_moment g c =
     subst (λ (old : SessionView _). AnyMoment g.D.Disk.view old.agent c.run_line.new.agent (step_of c.args.step.now))
     c.self.view_is c.run_line.ensures.any_moment
+
+-- ---- the count of the disk's faults
+
+pub returns-in-Ok-print-clause-counts : goal.returns-in-Ok-print-clause-counts
+returns-in-Ok-print-clause-counts g c =
+    subst (λ (old : SessionView _). KeepsCount g.D.Disk.view old.agent c.print.new.self.agent) c.self.view_is
+    (subst (KeepsCount g.D.Disk.view c.self.inside.agent) (sym c.print.ensures.stays.0) c.run_line.ensures.counts)
+
+pub returns-in-Err-print-clause-counts : goal.returns-in-Err-print-clause-counts
+returns-in-Err-print-clause-counts g c =
+    subst (λ (old : SessionView _). KeepsCount g.D.Disk.view old.agent c.print.new.self.agent) c.self.view_is
+    (subst (KeepsCount g.D.Disk.view c.self.inside.agent) (sym c.print.ensures.stays.0) c.run_line.ensures.counts)
+
+pub returns-in-Err-clause-counts : goal.returns-in-Err-clause-counts
+returns-in-Err-clause-counts g c =
+    subst (λ (old : SessionView _). KeepsCount g.D.Disk.view old.agent c.run_line.new.agent) c.self.view_is
+    c.run_line.ensures.counts

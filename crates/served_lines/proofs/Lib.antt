@@ -1,0 +1,5 @@
+pub mod WaitingLemmas
+pub mod GivenLemmas
+pub mod ServedLemmas
+pub mod AnswerLemmas
+pub mod DiskLemmas

@@ -7,3 +7,4 @@ mod CookieFacts
 mod BatchFacts
 mod PrintedFacts
 mod StoredFacts
+mod ListFacts

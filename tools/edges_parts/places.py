@@ -8,7 +8,7 @@ import subprocess
 import tempfile
 
 from .lines import Wanted, line, pair, script_of
-from .rooms import LIMIT, ends
+from .rooms import IN_USE, LIMIT, ends
 
 LONGEST_STORE = 1_073_741_824
 NOBODY = 65_534
@@ -61,20 +61,24 @@ def words(report, room):
 
 
 def refused(report, room):
-    """Files that are no store of the list: named, and left as they are."""
+    """Files that are no store: named, and left as they are. One under another list is a store."""
     part = 'refused stores'
     room.put_back()
     true, _, file = room.true(room.replay())
     other = os.path.join(room.folder, 'other')
     room.write(other, 'test\n')
-    cases = [('another list', file, other), ('text', b'no store, but a text\n' * 20, room.list),
-             ('a store that is cut short', file[:-30], room.list), ('a byte behind the version', file[:9] + b'\1' + file[10:], room.list)]
-    for what, found, listed in cases:
+    cases = [('text', b'no store, but a text\n' * 20), ('a store that is cut short', file[:-30]),
+             ('a byte behind the version', file[:9] + b'\1' + file[10:])]
+    for what, found in cases:
         with open(room.store, 'wb') as store:
             store.write(found)
-        for ran in (replayed(room, room.store, listed), room.run(['dump', listed, room.store])):
-            wrong = stated(ran, {5})
-            report.hold(part, what, wrong or (None if room.bytes() == found else 'the file is another'))
+        for listed in (room.list, other):
+            for ran in (replayed(room, room.store, listed), room.run(['dump', listed, room.store])):
+                wrong = stated(ran, {5})
+                report.hold(part, what, wrong or (None if room.bytes() == found else 'the file is another'))
+    with open(room.store, 'wb') as store:
+        store.write(file)
+    report.hold(part, 'another list', stated(room.run(['dump', other, room.store]), {0}, None))
 
 
 def paths(report, room):
@@ -185,9 +189,9 @@ def others(report, room):
     true, wanted, file = room.true(room.replay())
     with open(room.store, 'rb') as held:
         fcntl.flock(held, fcntl.LOCK_EX)
-        report.hold(part, 'a store in use', stated(replayed(room, room.store), {6}) or (
+        report.hold(part, 'a store in use', stated(replayed(room, room.store), {6}, err=IN_USE) or (
             None if room.bytes() == file else 'the store is another'))
-        report.hold(part, 'a dump of a store in use', stated(room.run(['dump', room.list, room.store]), {6}))
+        report.hold(part, 'a dump of a store in use', stated(room.run(['dump', room.list, room.store]), {6}, err=IN_USE))
     reads = [number for number, call in enumerate(true.calls) if call.part == 'store' and call.name in ('pread', 'fstat')]
     for what, change in (('emptied', lambda: os.truncate(room.store, 0)), ('cut short', lambda: os.truncate(room.store, 150)),
                          ('overwritten', lambda: overwrite(room.store, b'\1' + b'x' * 300))):

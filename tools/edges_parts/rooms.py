@@ -12,6 +12,7 @@ from .tracing import Ended, Traced
 # The seconds that a run has, and the status of one that takes longer.
 LIMIT, NEVER = 300, 'no end'
 FAULT_LINES = {0: b'', 6: b'read fault\n', 7: b'write fault\n', 8: b'device fault\n', 9: b'no memory\n'}
+IN_USE = b'store: in use\n'
 
 
 class Report:
@@ -131,6 +132,6 @@ def ends(ended, statuses):
     """What is wrong with a status and its line."""
     if ended.status not in statuses:
         return f'ends with {ended.status}, and not {" or ".join(map(str, sorted(statuses)))}; prints {ended.err[-300:]!r}'
-    if FAULT_LINES.get(ended.status, ended.err) != ended.err:
+    if FAULT_LINES.get(ended.status, ended.err) != ended.err and (ended.status, ended.err) != (6, IN_USE):
         return f'ends with {ended.status} and tells {ended.err!r}'
     return None

@@ -1,10 +1,11 @@
 -- Values worked out by hand from the rules of frames and sandboxes.
 use Rattle.std.proofs.Common.{◌≡◌, refl, List, [], ◌∷◌, map, ℕ, true, false, Some, None}
 use Rattle.std.specs.Prelude.{codes, pos}
+use Rattle.std.specs.List.{All, Contains}
 use Rattle.origin_site.specs.Address.{PlainAddress}
 use Rattle.frame_tree.specs.Sandbox.{sandbox_of, unrestricted}
 use Rattle.frame_tree.specs.Document.{PlainDocument, is_active_by, loaded, loaded_below}
-use Rattle.frame_tree.specs.Tree.{PlainFrame, chain_of, is_on_chain, top_site}
+use Rattle.frame_tree.specs.Tree.{PlainFrame, IsChain, IsLine, chain_of, is_on_chain, top_site}
 use Rattle.frame_tree.specs.Calls.{without, without_below}
 
 only_scripts : sandbox_of (Some (codes "allow-scripts")) ≡ record { same_origin = false; storage_access = false }
@@ -82,3 +83,18 @@ site_of_a_tab = refl
 
 site_of_no_frames : top_site [] ≡ None
 site_of_no_frames = refl
+
+abbrev frame_of : ℕ → ℕ → PlainFrame
+frame_of frame parent = record { frame = frame; parent = parent; document = top }
+
+one_is_not_zero : ◌≡◌ {A = ℕ} 1 0 → ⊥
+one_is_not_zero is = cc
+
+-- a line goes from a parent to its child
+not_a_line : IsLine (frame_of 0 0 ∷ frame_of 2 1 ∷ []) → ⊥
+not_a_line is = one_is_not_zero is.0
+
+-- no frame of another tab is on a chain
+members_of_the_tab : (frame : ℕ) (frames chain : List PlainFrame) → IsChain frame frames chain
+    → All (Contains frames) chain
+members_of_the_tab frame frames chain is = is.members

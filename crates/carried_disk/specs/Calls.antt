@@ -2,7 +2,7 @@
 -- Source: none.
 -- Our own choice: a call that is under way counts as carried out where it is a write, whose bytes
 -- may be torn until the next sync, and as not carried out where it is a sync.
-use Rattle.std.specs.Prelude.{◌≡◌, ℕ, ◌≤◌, Bool, false, List, length, take, Some, None}
+use Rattle.std.specs.Prelude.{◌≡◌, ℕ, ◌≤◌, Bool, false, List, drop, length, take, Some, None}
 use Rattle.disk_model.specs.Disk.{View}
 use Rattle.disk_model.specs.History.{Held, Event, wrote, synced, replay, ImageOf}
 use Rattle.disk_model.specs.MemDisk.{MemView, view_of}
@@ -55,3 +55,11 @@ pub record FileStands (file : Held) (since : ℕ) (d : CarriedView) : Type 0 whe
 abbrev pub StillStands : CarriedView → CarriedView → Type 0
 StillStands old new = (file : Held) (since : ℕ) → FileStands file since old
     → FileStands file since new
+
+-- The first of the calls left is carried out, and nothing else changes. Where none is left, nothing
+-- does. The owner's file stands that has carried it out.
+pub record CarriesOut (old new : CarriedView) : Type 0 where
+  pub left : new.left ≡ drop 1 old.left
+  pub file : (file : Held) (since : ℕ) → FileStands file since old
+      → FileStands (replay file (take 1 old.left)) since new
+  pub same : new ≡ record old { left = new.left }

@@ -1,19 +1,20 @@
 //! A disk in memory, whose changing calls are carried out by its owner.
 ghost use Rattle.std.specs.Prelude.{◌≡◌, ◌↔◌, ◌+◌, ◌<◌, ◌≤◌, ◌++◌, ◌∷◌, true, false, [], List, ℕ};
 ghost use Rattle.std.specs.Prelude.{Some, None, IfOk, OnOk, OnErr, IsOk, IsTrue, MatchOption};
-ghost use Rattle.std.specs.Prelude.{drop, length, take, if◌then◌else◌};
+ghost use Rattle.std.specs.Prelude.{length, if◌then◌else◌};
 ghost use Rattle.agent_base.specs.Counts.{next_count, HasCause};
 ghost use Rattle.disk_model.specs.Disk.{Holds, Written, Torn, Goes, Follows, IsSettled, Elapses};
 ghost use Rattle.disk_model.specs.Disk.{Stays, Device, HasFailed, UsesRoom};
-ghost use Rattle.disk_model.specs.History.{Held, held, replay, at_first, Event, wrote, synced};
+ghost use Rattle.disk_model.specs.Carried.{TellsSame};
+ghost use Rattle.disk_model.specs.History.{Held, held, at_first, Event, wrote, synced};
 ghost use Rattle.carried_disk.specs.Calls.{CarriedView, view_told, event_of, FileStands};
-ghost use Rattle.carried_disk.specs.Calls.{StillStands};
+ghost use Rattle.carried_disk.specs.Calls.{CarriesOut, StillStands};
 ghost use Rattle.carried_disk.specs.CallBuffers.{IsSteady, KeepsRoom, HasCallRoom};
 ghost use Rattle.carried_disk.specs.CarriedLaws.{carried_lawful};
 
 use crate::call_list::{Calls, CarriedCall};
 use agent_base::{Failed, NoMemory};
-use disk_model::{Disk, MemDisk};
+use disk_model::{Carried, Disk, MemDisk};
 use std::alloc::Global;
 use std::marker::Model;
 
@@ -62,6 +63,7 @@ impl CarriedDisk {
         ensures contents { (view_told result).contents ≡ Some bytes.items }
         ensures left { (result.left ≡ []) × (result.unsynced ≡ false) }
         ensures counts { (result.faults ≡ 0) × (result.changing ≡ 0) }
+        ensures settled { IsSettled (view_told result) }
     {
         CarriedDisk {
             disk: MemDisk::new(alloc, bytes, Vec::new(alloc), Vec::new(alloc)),
@@ -83,16 +85,6 @@ impl CarriedDisk {
             (λ call. (rest : List Event) × (self.now.left ≡ event_of call ∷ rest)) }
     {
         self.calls.next()
-    }
-
-    /// The owner has carried out the next call. Where none is left, nothing changes.
-    pub fn done(&mut self)
-        ensures left { self.new.left ≡ drop 1 self.old.left }
-        ensures file { (file : Held) (since : ℕ) → FileStands file since self.old
-            → FileStands (replay file (take 1 self.old.left)) since self.new }
-        ensures same { self.new ≡ record self.old { left = self.new.left } }
-    {
-        self.calls.done();
     }
 
     /// Whether the owner has carried out every call. Then its file holds what this disk holds.
@@ -119,6 +111,18 @@ impl CarriedDisk {
     {
         self.faults = self.faults.saturating_add(1);
         Failed
+    }
+}
+
+impl Carried for CarriedDisk {
+    ghost is_done = { CarriesOut };
+
+    /// The owner has carried out the next call. Where none is left, nothing changes.
+    fn done(&mut self)
+        ensures done { CarriesOut self.old self.new }
+        ensures same { TellsSame (view_told self.old) (view_told self.new) }
+    {
+        self.calls.done();
     }
 }
 
@@ -248,6 +252,8 @@ impl Disk for CarriedDisk {
         ensures made { OnOk result ((self.new.room_end ≡ end) × (self.new.room_writes ≡ writes)) }
         ensures left { self.new.left ≡ self.old.left }
         ensures file { StillStands self.old self.new }
+        ensures past { (self.new.disk.past.first ≡ self.old.disk.past.first)
+            × (self.new.disk.past.events ≡ self.old.disk.past.events) }
         ensures unsynced { self.new.unsynced ≡ self.old.unsynced }
     {
         self.calls.reserve(writes as usize, end as usize)?;

@@ -1,6 +1,7 @@
 -- What has to be believed: the calls of a disk, its images, and the disk in memory.
 pub mod Disk
 pub mod DiskLaws
+pub mod Carried
 pub mod Image
 pub mod History
 pub mod Recovery

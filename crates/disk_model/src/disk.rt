@@ -4,6 +4,7 @@ ghost use Rattle.std.specs.Prelude.{IfOk, OnOk, OnErr, IsOk};
 ghost use Rattle.agent_base.specs.Counts.{HasCause};
 ghost use Rattle.disk_model.specs.Disk.{View, Holds, Written, Torn, Goes, Follows, IsSettled};
 ghost use Rattle.disk_model.specs.Disk.{Elapses, Stays, Device, HasFailed, UsesRoom};
+ghost use Rattle.disk_model.specs.Carried.{TellsSame};
 ghost use Rattle.disk_model.specs.DiskLaws.{IsLawful};
 
 use agent_base::{Failed, NoMemory};
@@ -89,4 +90,16 @@ pub trait Disk {
 
     // what is told keeps to the laws
     ghost lawful: { (disk : Self) → IsLawful (view disk) };
+}
+
+/// A disk whose owner carries out its changing calls, one after another, on a file that only the
+/// owner can write.
+pub trait Carried: Disk {
+    // what the disk is once its owner has carried out the next of its calls
+    ghost is_done: { (old new : Self) → Type 0 };
+
+    /// The owner has carried out the next call. What the disk tells stays.
+    fn done(&mut self)
+        ensures done { is_done self.old self.new }
+        ensures same { TellsSame (Self.view self.old) (Self.view self.new) };
 }

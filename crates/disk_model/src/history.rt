@@ -25,6 +25,9 @@ impl Model for History {
     ghost also_owns = { λ _. ftrue };
 }
 
+// It owns nothing.
+unsafe impl Send for History {}
+
 impl History {
     ghost use Rattle.disk_model.specs.Changes.{changed};
 

@@ -275,6 +275,8 @@ impl Disk for MemDisk {
         ensures end { OnOk result (end ≤ (view_of self.new).room_end) }
         ensures writes { OnOk result (writes ≤ (view_of self.new).room_writes) }
         ensures room { OnErr result (UsesRoom 0 (view_of self.old) (view_of self.new)) }
+        ensures past { (self.new.past.first ≡ self.old.past.first)
+            × (self.new.past.events ≡ self.old.past.events) }
         ensures same { self.new ≡ record self.old { past = self.new.past } }
     {
         if self.medium.reserve(end as usize, writes as usize).is_err() {

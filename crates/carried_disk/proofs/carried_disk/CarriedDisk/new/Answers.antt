@@ -20,3 +20,6 @@ invariant_of-result c =
       },
       omega arith,
     )
+
+pub returns-clause-settled : goal.returns-clause-settled
+returns-clause-settled c = λ bytes image. settled_anew c.new-3.result.past bytes c.new-3.ensures.contents.1 image

@@ -11,8 +11,8 @@ use Rattle.cookie_jar.specs.declared.cause.CookieDrop.{CookieDrop}
 use Rattle.cookie_jar.specs.declared.cause.CookieDrop.TheVariants as why
 use Rattle.cookie_jar.specs.Access.{PlainAccess}
 use Rattle.cookie_jar.specs.Cookie.{PlainCookie}
-use Rattle.cookie_jar.specs.Drops.{dropped}
-use Rattle.cookie_jar.specs.NewCookie.{fresh, made}
+use Rattle.cookie_jar.specs.Drops.{dropped, is_not_ascii}
+use Rattle.cookie_jar.specs.NewCookie.{fresh, made, own_domain}
 use Rattle.cookie_jar.specs.Sending.{select}
 use Rattle.cookie_jar.specs.Steps.{stored}
 
@@ -74,6 +74,16 @@ kept = refl
 not_ascii : drops (record plain { domain = Some (195 ∷ 169 ∷ []) }) here ≡ Some why.NonAsciiDomain
 not_ascii = refl
 
+-- a byte is one of ASCII up to 7F
+last_ascii : is_not_ascii 127 ≡ false
+last_ascii = refl
+
+first_past_ascii : drops (record plain { domain = Some (128 ∷ []) }) here ≡ Some why.NonAsciiDomain
+first_past_ascii = refl
+
+not_ascii_first : drops (record plain { domain = Some (195 ∷ 169 ∷ []); secure = true }) over_http ≡ Some why.NonAsciiDomain
+not_ascii_first = refl
+
 -- a public suffix comes before a domain that the host does not match
 suffix_first : drops (record plain { domain = Some (codes "org") }) here ≡ Some why.PublicSuffix
 suffix_first = refl
@@ -87,6 +97,35 @@ above_the_host = refl
 -- the host is below the Domain, which is no suffix, and is another registrable domain
 other_domain : drops (record plain { domain = Some (codes "wild.test") }) (record here { host = codes "x.y.wild.test" }) ≡ Some why.DomainMismatch
 other_domain = refl
+
+-- the Domain in lower case, without which the cookie is host-only
+lower_case : (made list (record plain { domain = Some (codes "A.Pub.test") }) here (pos 5)).domain ≡ codes "a.pub.test"
+lower_case = refl
+
+-- a public suffix counts as absent where it is the host, and is not taken for absent below it
+suffix_at_the_host : own_domain list (record here { host = codes "pub.test" }) (Some (codes "pub.test")) ≡ None
+suffix_at_the_host = refl
+
+suffix_below : own_domain list here (Some (codes "pub.test")) ≡ Some (codes "pub.test")
+suffix_below = refl
+
+-- the host is an IP address, of which nothing is a public suffix: the Domain counts
+abbrev at_ip : PlainAccess
+at_ip = record here { host = codes "[::1]"; ip = true }
+
+domain_of_an_address : (made list (record plain { domain = Some (codes "[::1]") }) at_ip (pos 5)).host_only ≡ false
+domain_of_an_address = refl
+
+-- without a Path the path is what stands before the last `/` of the URL's
+path_of_the_url : (made list plain (record here { path = codes "/p/q" }) (pos 5)).path ≡ codes "/p"
+path_of_the_url = refl
+
+expiry_of_the_text : (made list (record plain { expiry = Some (pos 9) }) here (pos 5)).expiry ≡ Some (pos 9)
+expiry_of_the_text = refl
+
+mismatch_before_secure : drops (record plain { domain = Some (codes "y.x.a.pub.test"); secure = true }) over_http
+    ≡ Some why.DomainMismatch
+mismatch_before_secure = refl
 
 -- ---- Secure and HttpOnly
 
@@ -114,11 +153,27 @@ same_one = secure_one (codes "n") (codes "x.a.pub.test") (codes "/") None
 overlaid : drops_over (same_one ∷ []) plain over_http ≡ Some why.OverlaysSecure
 overlaid = refl
 
+http_only_before_overlaid : drops_over (same_one ∷ []) (record plain { http_only = true }) (record over_http { script = true })
+    ≡ Some why.HttpOnlyFromScript
+http_only_before_overlaid = refl
+
+-- one that is not Secure itself may be hidden
+not_secure_itself : drops_over (record same_one { secure = false } ∷ []) plain over_http ≡ None
+not_secure_itself = refl
+
+over_http_alone : drops plain over_http ≡ None
+over_http_alone = refl
+
 over_https_it_may : drops_over (same_one ∷ []) plain here ≡ None
 over_https_it_may = refl
 
 other_name : drops_over (secure_one (codes "m") (codes "x.a.pub.test") (codes "/") None ∷ []) plain over_http ≡ None
 other_name = refl
+
+-- one of several is enough
+other_and_same : drops_over (secure_one (codes "m") (codes "x.a.pub.test") (codes "/") None ∷ same_one ∷ []) plain over_http
+    ≡ Some why.OverlaysSecure
+other_and_same = refl
 
 expired_one : drops_over (secure_one (codes "n") (codes "x.a.pub.test") (codes "/") (Some (pos 5)) ∷ []) plain over_http ≡ None
 expired_one = refl
@@ -196,6 +251,20 @@ host_without_path = refl
 host_other_path : drops (record for_host { path = Some (codes "/p") }) here ≡ Some why.HostPrefix
 host_other_path = refl
 
+-- a prefix ends with its dash, and is whole
+other_host_name : drops (record plain { name = codes "__Host_n" }) here ≡ None
+other_host_name = refl
+
+other_secure_name : drops (record plain { name = codes "__Secure_n" }) here ≡ None
+other_secure_name = refl
+
+shorter_name : drops (record plain { name = codes "__Host" }) here ≡ None
+shorter_name = refl
+
+-- the value counts where there is no name
+named_value : drops (record plain { value = codes "__Host-n" }) here ≡ None
+named_value = refl
+
 nameless_secure : drops (record plain { name = []; value = codes "__SECURE-n" }) here ≡ Some why.NamelessPrefix
 nameless_secure = refl
 
@@ -212,6 +281,18 @@ hidden = record (made list plain here (pos 1)) { http_only = true }
 
 overwrites : drops_over (hidden ∷ []) plain script ≡ Some why.OverwritesHttpOnly
 overwrites = refl
+
+nameless_before_overwrites : drops_over (record hidden { name = [] }
+    ∷ []) (record plain { name = []; value = codes "__Host-n" }) script
+    ≡ Some why.NamelessPrefix
+nameless_before_overwrites = refl
+
+script_alone : drops plain script ≡ None
+script_alone = refl
+
+-- a script may overwrite a cookie that is not HttpOnly
+shown_is_overwritten : drops_over (made list plain here (pos 1) ∷ []) plain script ≡ None
+shown_is_overwritten = refl
 
 request_overwrites : drops_over (hidden ∷ []) plain here ≡ None
 request_overwrites = refl
@@ -236,6 +317,12 @@ overwrites_before_partitioned = refl
 
 third_party : drops (record plain { same_site = site.NoneSent; secure = true }) (record cross_site { first = false }) ≡ Some why.ThirdParty
 third_party = refl
+
+-- a third party has its partition
+partition_of_a_third_party :
+    drops (record plain { same_site = site.NoneSent; secure = true; partitioned = true }) (record cross_site { first = false })
+    ≡ None
+partition_of_a_third_party = refl
 
 granted_third_party : drops (record plain { same_site = site.NoneSent; secure = true }) (record cross_site { first = false; granted = true }) ≡ None
 granted_third_party = refl
@@ -277,6 +364,10 @@ of_partition = refl
 -- its second of creation and its place
 hands_on : fresh list (record plain { value = codes "2" }) here (pos 5) (of_kind site.Default ∷ []) ≡ record (of_kind site.Default) { value = codes "2"; last = pos 5 }
 hands_on = refl
+
+-- the second of creation, and not that of the last use
+hands_on_creation : (fresh list plain here (pos 5) (record (of_kind site.Default) { last = pos 3 } ∷ [])).creation ≡ pos 1
+hands_on_creation = refl
 
 in_its_place : stored kind.Own (pos 5) (fresh list plain here (pos 5) (of_kind site.Default ∷ [])) (of_kind site.Default ∷ record (of_kind site.Default) { name = codes "m" } ∷ [])
     ≡ record (of_kind site.Default) { last = pos 5 } ∷ record (of_kind site.Default) { name = codes "m" } ∷ []

@@ -13,5 +13,6 @@ mod OrderLemmas
 mod HeaderLemmas
 mod StandardFacts
 mod DropFacts
+mod JarFacts
 mod StoreLemmas
 mod UsedLemmas

@@ -1,4 +1,5 @@
 mod StandardFacts
+mod TreeFacts
 pub mod ShapeLemmas
 pub mod TopLemmas
 pub mod ChainLemmas

@@ -1,5 +1,6 @@
 pub mod StandardFacts
 pub mod ClauseFacts
+mod StoreFacts
 pub mod Moments
 pub mod Ranges
 pub mod Frames

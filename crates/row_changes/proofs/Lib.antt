@@ -12,3 +12,4 @@ pub mod UnderLaws
 pub mod TextLemmas
 pub mod WritingLemmas
 pub mod StandardFacts
+mod RowFacts

@@ -4,7 +4,7 @@ use Rattle.std.specs.Prelude.{◌&&◌, ◌==◌, None, OnOk, Result, if◌then�
 use Rattle.std.specs.BTreeMap.{BTreeMap}
 use Rattle.std.specs.Global.{Vec}
 use Rattle.std.proofs.lemmas.Bool.{eq-eqb}
-use Rattle.std.proofs.lemmas.List.{length-set, set-get_or}
+use Rattle.std.proofs.lemmas.List.{set-get_or}
 use Rattle.std.proofs.lemmas.Result.{on_err_weaker, on_ok_weaker}
 use Rattle.agent_base.specs.declared.refusals.Label.{Label}
 use Rattle.origin_site.specs.Site.{PlainSite}
@@ -33,16 +33,10 @@ pub record IsWritten (n : ℕ) (tabs : List PlainTab) (ts : List PlainOpenTab) (
   pub seen : plain_of ts ≡ tabs
 
 -- it is so where a search of the tabs found the place
-pub written : {n : ℕ} {tabs : List PlainTab} {ts searched : List PlainOpenTab} {place : ℕ} {old new : PlainOpenTab} → searched ≡ ts
-    → IsAt n (plain_of searched) place → place < length ts → old ≡ get_or ts place old → new.plain.number ≡ old.plain.number → plain_of ts ≡ tabs
+pub written : {n : ℕ} {tabs : List PlainTab} {ts : List PlainOpenTab} {place : ℕ} {old new : PlainOpenTab}
+    → IsAt n (plain_of ts) place → place < length ts → old ≡ get_or ts place old → new.plain.number ≡ old.plain.number → plain_of ts ≡ tabs
     → IsWritten n tabs ts place old new
-written {n} {tabs} {ts} {searched} {place} equal at within read same seen = record {
-  at = subst (λ (l : List PlainOpenTab). IsAt n (plain_of l) place) equal at;
-  within = within;
-  read = read;
-  same = same;
-  seen = seen;
-}
+written at within read same seen = record { at = at; within = within; read = read; same = same; seen = seen }
 
 module _ {n : ℕ} {tabs : List PlainTab} {ts : List PlainOpenTab} {place : ℕ} {old new : PlainOpenTab} (is : IsWritten n tabs ts place old new) where
   -- the number that both have
@@ -96,12 +90,12 @@ module _ {n : ℕ} {tabs : List PlainTab} {ts : List PlainOpenTab} {place : ℕ}
   tabs-changed change others own =
       changed-set n change others ts place is.at old new is.within is.read own ∙ ap (map change) is.seen
 
--- the open tabs as contracts see them, with room for so many in all, and with these sites
-abbrev pub live_of : (capacity : ℕ) → List (PlainSite × Bool) → List PlainOpenTab → PlainLive
-live_of capacity sites ts = record {
+-- the open tabs as contracts see them, with this room and these sites
+abbrev pub live_of : (room : ℕ) → List (PlainSite × Bool) → List PlainOpenTab → PlainLive
+live_of room sites ts = record {
   tabs = plain_of ts;
   ready = map ready_tab ts;
-  room = capacity - length ts;
+  room = room;
   sites = sites;
 }
 
@@ -125,16 +119,16 @@ module _ {n : ℕ} {tabs : List PlainTab} {ts : List PlainOpenTab} {place : ℕ}
       ∙ stay)) ready
 
   -- so the open tabs are changed there and nowhere else, as contracts see them
-  pub changes-in : (capacity : ℕ) {sites : List (PlainSite × Bool)} {live : PlainLive} → live_of capacity sites ts ≡ live
-      → ChangesTab n fresh result live (live_of capacity sites (set ts place new))
-  changes-in capacity {sites} seen =
-      subst (λ before. ChangesTab n fresh result before (live_of capacity sites (set ts place new))) seen (record {
+  pub changes-in : (room : ℕ) {sites : List (PlainSite × Bool)} {live : PlainLive} → live_of room sites ts ≡ live
+      → ChangesTab n fresh result live (live_of room sites (set ts place new))
+  changes-in room {sites} seen =
+      subst (λ before. ChangesTab n fresh result before (live_of room sites (set ts place new))) seen (record {
         put = put_in;
         unchanged =
             on_err_weaker result
-            (λ same. ap (live_of capacity sites) (ap (set ts place) (same ∙ is.read) ∙ set-get_or ts place old)) changes.unchanged;
+            (λ same. ap (live_of room sites) (ap (set ts place) (same ∙ is.read) ∙ set-get_or ts place old)) changes.unchanged;
         site = ap top_site (frames_after is) ∙ changes.site ∙ ap (λ o. top_site (frames_by o)) (sym (tab-here n ts place is.at old is.within is.read));
-        room = ap (λ count. capacity - count) (length-set ts place new);
+        room = refl;
         sites = refl;
         kept = kept_in;
       })
@@ -145,11 +139,10 @@ module _ {n : ℕ} {tabs : List PlainTab} {ts : List PlainOpenTab} {place : ℕ}
       indexed-same n ts place is.at old is.within is.read numbers before new (number-after is) changes.tree changes.site
 
 -- a tab that is not open has no frames
-pub frames-gap : {n : ℕ} {tabs : List PlainTab} {ts searched : List PlainOpenTab} {place : ℕ} → searched ≡ ts → IsGap n (plain_of searched) place
+pub frames-gap : {n : ℕ} {tabs : List PlainTab} (ts : List PlainOpenTab) {place : ℕ} → IsGap n (plain_of ts) place
     → plain_of ts ≡ tabs → frames_at n tabs ≡ []
-frames-gap {n} {tabs} {ts} {searched} {place} equal gap seen =
-    sym (ap (frames_at n) seen)
-    ∙ ap frames_by (found-gap n (plain_of ts) place (subst (λ (l : List PlainOpenTab). IsGap n (plain_of l) place) equal gap))
+frames-gap {n} {tabs} ts {place} gap seen =
+    sym (ap (frames_at n) seen) ∙ ap frames_by (found-gap n (plain_of ts) place gap)
 
 -- ---- the end of a request for storage access
 

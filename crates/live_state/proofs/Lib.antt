@@ -15,5 +15,6 @@ pub mod UnderLemmas
 pub mod HearerLemmas
 pub mod IndexStepLemmas
 pub mod LiveLemmas
+pub mod TabListLemmas
 pub mod FramesInPlaceLemmas
 pub mod LabelLemmas

@@ -3,8 +3,7 @@ use Rattle.std.proofs.Common.{◌≡◌, ◌<◌, ◌≤◌, ◌+◌, ◌-◌, �
 use Rattle.std.specs.Prelude.{◌||◌, if◌then◌else◌, is_err, is_some, nat_lt, option_map, slice_get}
 use Rattle.std.specs.List.{insert, remove}
 use Rattle.std.proofs.lemmas.Bool.Decides.{nat_tests}
-use Rattle.std.proofs.lemmas.List.Edits.{length-insert, length-remove}
-use Rattle.std.proofs.lemmas.List.{drop-map, length-map, map-append, map-set, take-map}
+use Rattle.std.proofs.lemmas.List.{drop-map, map-append, map-set, take-map}
 use Rattle.std.proofs.lemmas.Option.{slice_get-map, slice_get_read}
 use Rattle.frame_tree.specs.Tree.{PlainFrame}
 use Rattle.live_state.specs.ExistingQueues.{PlainOpenTab}
@@ -40,14 +39,6 @@ module _ (n : ℕ) (ts : List PlainOpenTab) (place : ℕ) (at : IsAt n (plain_of
         let same : ◌≡◌ {A = Option ℕ} (Some old.plain.number) (Some n) = sym (ap (option_map (λ t. t.number)) plain_here) ∙ at.here in
         cc
 
-    -- what the drop of an open tab gives back
-    pub room-here : (capacity : ℕ) → length ts ≤ capacity
-        → capacity - length (remove ts place) ≡ (if is_open n (plain_of ts) then capacity - length ts + 1 else capacity - length ts)
-    room-here capacity fits =
-        let less : length (remove ts place) + 1 ≡ length ts = length-remove ts place within in
-        let more : capacity - length (remove ts place) ≡ capacity - length ts + 1 = omega arith in
-        more ∙ ap (λ b. if b then capacity - length ts + 1 else capacity - length ts) (sym open-here)
-
     -- the tab at the place is another of its number
     pub written-at : (new : PlainOpenTab) → new.plain.number ≡ n → plain_of (set ts place new) ≡ with_tab new.plain (plain_of ts)
     written-at new same =
@@ -66,23 +57,13 @@ module _ (n : ℕ) (ts : List PlainOpenTab) (place : ℕ) (gap : IsGap n (plain_
       ∙ ap (λ l. take place (plain_of ts) ++ new.plain ∷ l) (sym (drop-map (λ t. t.plain) place ts))
       ∙ put-gap new.plain (plain_of ts) place (subst (λ m. IsGap m (plain_of ts) place) (sym same) gap)
 
-  room_by : (closed : Bool) (capacity count : ℕ) → closed ≡ false → (closed || nat_lt 0 (capacity - count)) ≡ true → count < capacity
-  room_by true capacity count isnt reserved = absurd (cc isnt)
-  room_by false capacity count isnt reserved = grind (arith, nat_tests)
+  room_by : (closed : Bool) (room : ℕ) → closed ≡ false → (closed || nat_lt 0 room) ≡ true → 0 < room
+  room_by true room isnt reserved = absurd (cc isnt)
+  room_by false room isnt reserved = grind (arith, nat_tests)
 
   -- where there is no tab, what is reserved is room
-  pub room-gap : (capacity : ℕ) → (is_open n (plain_of ts) || nat_lt 0 (capacity - length ts)) ≡ true → length ts < capacity
-  room-gap capacity reserved = room_by (is_open n (plain_of ts)) capacity (length ts) closed-gap reserved
-
-  -- what the put of a new tab takes
-  pub room-inserted : (capacity : ℕ) (new : PlainOpenTab)
-      → capacity - length (insert ts place new) ≡ (if is_open n (plain_of ts) then capacity - length ts else capacity - length ts - 1)
-  room-inserted capacity new =
-      let long : length (plain_of ts) ≡ length ts = length-map ts (λ t. t.plain) in
-      let within : place ≤ length ts = rw (sym long) gap.within in
-      let more : length (insert ts place new) ≡ length ts + 1 = length-insert ts place new within in
-      let less : capacity - length (insert ts place new) ≡ capacity - length ts - 1 = omega arith in
-      less ∙ ap (λ b. if b then capacity - length ts else capacity - length ts - 1) (sym closed-gap)
+  pub room-gap : (room : ℕ) → (is_open n (plain_of ts) || nat_lt 0 room) ≡ true → 0 < room
+  room-gap room reserved = room_by (is_open n (plain_of ts)) room closed-gap reserved
 
 -- the tabs made of the ones before, in the place of one that is open
 pub put-open : (n : ℕ) (frames : List PlainFrame) (fresh : Option ℕ) (ts : List PlainOpenTab) (place : ℕ) (at : IsAt n (plain_of ts) place)

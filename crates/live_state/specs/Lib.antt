@@ -8,3 +8,5 @@ pub mod FramesInPlace
 pub mod ExistingQueues
 pub mod TabPlaces
 pub mod SiteTabs
+pub mod OpenTabs
+pub mod TabLists

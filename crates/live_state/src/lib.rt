@@ -11,5 +11,6 @@ mod listed;
 mod live;
 mod open_tab;
 mod site_tabs;
+mod tab_list;
 
 pub use live::Live;

@@ -17,6 +17,7 @@ mod queues;
 
 use crate::open_tab::OpenTab;
 use crate::site_tabs::SiteTabs;
+use crate::tab_list::TabList;
 use agent_base::NoMemory;
 use frame_tree::Tab;
 use origin_site::{Site, same_site};
@@ -31,12 +32,12 @@ use std::marker::Model;
 /// wanting.
 #[derive(Debug, Drop)]
 pub struct Live {
-    tabs: Vec<OpenTab>,
+    tabs: TabList,
     sites: SiteTabs,
 }
 
 impl Model for Live {
-    ghost use Rattle.std.specs.Prelude.{◌≡◌, ◌-◌, true, map, vec_capacity, length};
+    ghost use Rattle.std.specs.Prelude.{map};
     ghost use Rattle.live_state.specs.SiteTabs.{AreIndexed, site_rooms};
     ghost use Rattle.live_state.specs.Tabs.{PlainLive};
 
@@ -47,7 +48,7 @@ impl Model for Live {
     ghost view = { λ l. record {
       tabs = map (λ t. t.plain) l.tabs.items;
       ready = map ready_tab l.tabs.items;
-      room = vec_capacity l.tabs - length l.tabs.items;
+      room = l.tabs.room;
       sites = site_rooms l.sites.numbers.entries;
     } };
 
@@ -62,7 +63,7 @@ impl Live {
         ensures room { result.room ≡ 0 }
     {
         Live {
-            tabs: Vec::new(alloc),
+            tabs: TabList::new(alloc),
             sites: SiteTabs::new(alloc),
         }
     }
@@ -73,8 +74,8 @@ impl Live {
         ensures rising { is_rising self.now.tabs ≡ true }
         ensures queues { IfSome (tab_at tab self.now.tabs) HasQueues }
     {
-        match place_of(self.tabs.as_slice(), tab) {
-            Ok(place) => Some(self.tabs[place].tab()),
+        match self.tabs.place_of(tab) {
+            Ok(place) => Some(self.tabs.at(place).tab()),
             Err(_) => None,
         }
     }
@@ -84,7 +85,7 @@ impl Live {
     pub fn next_tab(&self, after: Option<u16>) -> Option<u16>
         ensures next { result ≡ next_tab after self.now.tabs }
     {
-        let place = place_after(self.tabs.as_slice(), after);
+        let place = place_after(&self.tabs, after);
         match self.tabs.get(place) {
             Some(found) => Some(found.number()),
             None => None,
@@ -102,10 +103,10 @@ impl Live {
         ensures memory { OnErr result (is_reserved tab made.now self.old ≡ false) }
         ensures unchanged { OnErr result (self.new.room ≡ self.old.room) }
     {
-        let alloc = *self.tabs.allocator();
+        let alloc = self.tabs.allocator();
         self.sites.reserve(alloc, made.top_site())?;
-        if place_of(self.tabs.as_slice(), tab).is_err() {
-            self.tabs.reserve(1)?;
+        if self.tabs.place_of(tab).is_err() {
+            self.tabs.reserve()?;
         }
         Ok(())
     }
@@ -118,20 +119,20 @@ impl Live {
         ensures room { self.new.room ≡ room_put tab self.old }
         ensures kept { StayReadyBut (goes tab made fresh) self.old self.new }
     {
-        match place_of(self.tabs.as_slice(), tab) {
+        match self.tabs.place_of(tab) {
             Ok(place) => {
                 move_tab(
                     &mut self.sites,
                     tab,
-                    self.tabs[place].top_site(),
+                    self.tabs.at(place).top_site(),
                     made.top_site(),
                 );
-                self.tabs[place].put(made, fresh);
+                self.tabs.at_mut(place).put(made, fresh);
             }
             Err(place) => {
                 self.sites.put(made.top_site(), tab);
-                let opened = OpenTab::new(*self.tabs.allocator(), tab, made);
-                insert_at(&mut self.tabs, place, opened);
+                let opened = OpenTab::new(self.tabs.allocator(), tab, made);
+                self.tabs.insert(place, opened);
             }
         }
     }
@@ -142,35 +143,25 @@ impl Live {
         ensures room { self.new.room ≡ room_dropped tab self.old }
         ensures kept { StayReadyBut (λ at. at.tab == tab) self.old self.new }
     {
-        if let Ok(place) = place_of(self.tabs.as_slice(), tab) {
-            self.sites.drop(self.tabs[place].top_site(), tab);
+        if let Ok(place) = self.tabs.place_of(tab) {
+            self.sites.drop(self.tabs.at(place).top_site(), tab);
             self.tabs.remove(place);
         }
     }
 }
 
-/// The place of the tab of a number, or the place where it would stand.
-pub fn place_of(tabs: &[OpenTab], number: u16) -> Result<usize, usize>
-    requires { is_rising (map (λ t. t.plain) tabs.now) ≡ true }
-    ensures place { let open_tabs = map (λ t. t.plain) tabs.now in
+/// The place of the tab of a number, or the place where it would stand, in one step where the tab
+/// stands at a place that is given, which may be any.
+pub fn place_by(tabs: &TabList, given: usize, number: u16) -> Result<usize, usize>
+    requires rising { is_rising (map (λ t. t.plain) tabs.now.items) ≡ true }
+    ensures place { let open_tabs = map (λ t. t.plain) tabs.now.items in
         MatchResult result (IsAt number open_tabs) (IsGap number open_tabs) }
-    ensures fits { MatchResult result (λ place. place < length tabs.now)
-        (λ place. place ≤ length tabs.now) }
-{
-    tabs.binary_search_by_key(&number, |tab| tab.number())
-}
-
-/// The same, in one step where the tab stands at a place that is given, which may be any.
-pub fn place_by(tabs: &[OpenTab], given: usize, number: u16) -> Result<usize, usize>
-    requires { is_rising (map (λ t. t.plain) tabs.now) ≡ true }
-    ensures place { let open_tabs = map (λ t. t.plain) tabs.now in
-        MatchResult result (IsAt number open_tabs) (IsGap number open_tabs) }
-    ensures fits { MatchResult result (λ place. place < length tabs.now)
-        (λ place. place ≤ length tabs.now) }
+    ensures fits { MatchResult result (λ place. place < length tabs.now.items)
+        (λ place. place ≤ length tabs.now.items) }
 {
     match tabs.get(given) {
         Some(tab) if tab.number() == number => Ok(given),
-        _ => place_of(tabs, number),
+        _ => tabs.place_of(number),
     }
 }
 
@@ -181,40 +172,28 @@ const STEPS: [usize; 18] = [
 
 /// A place to give to `place_by`. It is that of the tab if the tab stands at `from` or behind, and
 /// takes fewer steps the nearer it is.
-pub fn place_behind(tabs: &[OpenTab], from: usize, number: u16) -> usize {
+pub fn place_behind(tabs: &TabList, from: usize, number: u16) -> usize {
     let mut low = from;
     for step in &STEPS {
         let high = from.saturating_add(*step);
         match tabs.get(high) {
             Some(tab) if tab.number() < number => low = high,
-            _ => return place_within(tabs, low, high, number),
+            _ => return tabs.place_within(low, high, number),
         }
     }
     low
 }
 
-// The same, where the tab stands at one of two places or between them, if at all behind.
-fn place_within(tabs: &[OpenTab], low: usize, high: usize, number: u16) -> usize {
-    let end = high.saturating_add(1).min(tabs.len());
-    let Some(window) = tabs.get(low..end) else {
-        return low;
-    };
-    match window.binary_search_by_key(&number, |tab| tab.number()) {
-        Ok(place) => low.saturating_add(place),
-        Err(_) => low,
-    }
-}
-
 // The place of the first tab that is after a number.
-fn place_after(tabs: &[OpenTab], after: Option<u16>) -> usize
-    requires { is_rising (map (λ t. t.plain) tabs.now) ≡ true }
-    ensures place { next_tab after (map (λ t. t.plain) tabs.now)
-        ≡ option_map (λ t. t.plain.number) (slice_get tabs.now result) }
+fn place_after(tabs: &TabList, after: Option<u16>) -> usize
+    requires rising { is_rising (map (λ t. t.plain) tabs.now.items) ≡ true }
+    ensures place { next_tab after (map (λ t. t.plain) tabs.now.items)
+        ≡ option_map (λ t. t.plain.number) (slice_get tabs.now.items result) }
 {
     let Some(number) = after else {
         return 0;
     };
-    match place_of(tabs, number) {
+    match tabs.place_of(number) {
         Ok(place) => place + 1,
         Err(place) => place,
     }
@@ -234,14 +213,4 @@ fn move_tab(sites: &mut SiteTabs, number: u16, from: &Site, to: &Site)
         sites.drop(from, number);
         sites.put(to, number);
     }
-}
-
-// Puts a tab at a place. There is room for it.
-fn insert_at(tabs: &mut Vec<OpenTab>, place: usize, opened: OpenTab)
-    requires room { vec_len tabs.old < vec_capacity tabs.old }
-    requires within { place ≤ vec_len tabs.old }
-    ensures inserted { tabs.new.items ≡ insert tabs.old.items place opened }
-    ensures capacity { vec_capacity tabs.new ≡ vec_capacity tabs.old }
-{
-    let _ = tabs.insert(place, opened);
 }

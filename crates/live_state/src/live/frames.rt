@@ -8,7 +8,6 @@ ghost use Rattle.frame_tree.specs.declared.tab.TreeFault.{TreeFault};
 ghost use Rattle.live_state.specs.FramesInPlace.{ChangesTab, frames_at, requested};
 
 use crate::Live;
-use crate::live::place_of;
 use agent_base::Label;
 use frame_tree::{NoFrame, Sandbox, TreeFault};
 use origin_site::Address;
@@ -36,9 +35,11 @@ impl Live {
             (plain_sandbox sandbox) deny before ≡ Err why → result ≡ Err why }
         ensures changes { ChangesTab at.tab None result self.old self.new }
     {
-        match place_of(self.tabs.as_slice(), at.tab) {
+        match self.tabs.place_of(at.tab) {
             Ok(place) => {
-                self.tabs[place].add_frame(parent, at.frame, address, sandbox, deny, list)
+                self.tabs
+                    .at_mut(place)
+                    .add_frame(parent, at.frame, address, sandbox, deny, list)
             }
             Err(_) => Err(TreeFault::NoFrame),
         }
@@ -62,8 +63,11 @@ impl Live {
             keep_flag before ≡ Err why → result ≡ Err why }
         ensures changes { ChangesTab at.tab (Some at.frame) result self.old self.new }
     {
-        match place_of(self.tabs.as_slice(), at.tab) {
-            Ok(place) => self.tabs[place].navigate_frame(at.frame, address, keep_flag, list),
+        match self.tabs.place_of(at.tab) {
+            Ok(place) => self
+                .tabs
+                .at_mut(place)
+                .navigate_frame(at.frame, address, keep_flag, list),
             Err(_) => Err(TreeFault::NoFrame),
         }
     }
@@ -77,8 +81,8 @@ impl Live {
             result }
         ensures changes { ChangesTab at.tab None result self.old self.new }
     {
-        match place_of(self.tabs.as_slice(), at.tab) {
-            Ok(place) => self.tabs[place].remove_frame(at.frame),
+        match self.tabs.place_of(at.tab) {
+            Ok(place) => self.tabs.at_mut(place).remove_frame(at.frame),
             Err(_) => Err(NoFrame),
         }
     }
@@ -90,8 +94,8 @@ impl Live {
             (activated at.frame now before) result }
         ensures changes { ChangesTab at.tab None result self.old self.new }
     {
-        match place_of(self.tabs.as_slice(), at.tab) {
-            Ok(place) => self.tabs[place].activate(at.frame, now),
+        match self.tabs.place_of(at.tab) {
+            Ok(place) => self.tabs.at_mut(place).activate(at.frame, now),
             Err(_) => Err(NoFrame),
         }
     }
@@ -105,8 +109,11 @@ impl Live {
             (requested gives consumes at.frame before) result }
         ensures changes { ChangesTab at.tab None result self.old self.new }
     {
-        match place_of(self.tabs.as_slice(), at.tab) {
-            Ok(place) => self.tabs[place].finish_request(at.frame, gives, consumes),
+        match self.tabs.place_of(at.tab) {
+            Ok(place) => self
+                .tabs
+                .at_mut(place)
+                .finish_request(at.frame, gives, consumes),
             Err(_) => Err(NoFrame),
         }
     }

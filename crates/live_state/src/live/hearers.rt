@@ -27,10 +27,10 @@ impl Live {
             list_all (λ d. has_document self.now.tabs d.0) list.items ≡ true) }
         ensures rising { is_rising self.now.tabs ≡ true }
     {
-        let alloc = *self.tabs.allocator();
+        let alloc = self.tabs.allocator();
         let mut documents = Vec::new(alloc);
-        for tab in &self.tabs {
-            tab.list_documents(alloc, &mut documents)?;
+        for place in 0..self.tabs.len() {
+            self.tabs.at(place).list_documents(alloc, &mut documents)?;
         }
         Ok(documents)
     }
@@ -63,10 +63,10 @@ impl Live {
             to.items ≡ hearers Local writer (plain_key key.now) self.now.tabs) }
         ensures rising { is_rising self.now.tabs ≡ true }
     {
-        let mut to = Vec::new(*self.tabs.allocator());
+        let mut to = Vec::new(self.tabs.allocator());
         let mut place = 0;
         for number in self.sites.at(&key.top) {
-            place = place_behind(self.tabs.as_slice(), place, *number);
+            place = place_behind(&self.tabs, place, *number);
             self.list_hearers(AreaKind::Local, writer, key, *number, place, &mut to)?;
         }
         Ok(to)
@@ -78,7 +78,7 @@ impl Live {
             to.items ≡ hearers Session writer (plain_key key.now) self.now.tabs) }
         ensures rising { is_rising self.now.tabs ≡ true }
     {
-        let mut to = Vec::new(*self.tabs.allocator());
+        let mut to = Vec::new(self.tabs.allocator());
         self.list_hearers(AreaKind::Session, writer, key, writer.tab, 0, &mut to)?;
         Ok(to)
     }
@@ -98,8 +98,8 @@ impl Live {
             OnOk result (to.new.items
             ≡ to.old.items ++ hearers_by kind writer (plain_key key.now) found) }
     {
-        match place_by(self.tabs.as_slice(), given, number) {
-            Ok(place) => self.tabs[place].list_hearers(kind, writer, key, to),
+        match place_by(&self.tabs, given, number) {
+            Ok(place) => self.tabs.at(place).list_hearers(kind, writer, key, to),
             Err(_) => Ok(()),
         }
     }

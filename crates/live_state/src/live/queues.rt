@@ -7,7 +7,7 @@ ghost use Rattle.live_state.specs.Documents.{documents};
 ghost use Rattle.live_state.specs.Queues.{StayReadyBut, are_distinct, has_document, is_ready, is_told, plain_sent, queue_at, sent, taken};
 
 use crate::Live;
-use crate::live::{place_behind, place_by, place_of};
+use crate::live::{place_behind, place_by};
 use agent_base::{Label, NoMemory};
 use storage_events::Event;
 
@@ -22,7 +22,7 @@ impl Live {
     {
         let mut place = 0;
         for at in to {
-            place = place_behind(self.tabs.as_slice(), place, at.tab);
+            place = place_behind(&self.tabs, place, at.tab);
             self.reserve_queue(*at, place)?;
         }
         Ok(())
@@ -38,7 +38,7 @@ impl Live {
     {
         let mut place = 0;
         for (at, event) in events {
-            place = place_behind(self.tabs.as_slice(), place, at.tab);
+            place = place_behind(&self.tabs, place, at.tab);
             self.push_event(at, place, event);
         }
     }
@@ -52,9 +52,9 @@ impl Live {
         ensures kept { StayReadyBut (λ other. same_label other at) self.old self.new }
         ensures room { self.new.room ≡ self.old.room }
     {
-        match place_of(self.tabs.as_slice(), at.tab) {
-            Ok(place) => self.tabs[place].take(at.frame),
-            Err(_) => (Vec::new(*self.tabs.allocator()), 0),
+        match self.tabs.place_of(at.tab) {
+            Ok(place) => self.tabs.at_mut(place).take(at.frame),
+            Err(_) => (Vec::new(self.tabs.allocator()), 0),
         }
     }
 
@@ -67,9 +67,9 @@ impl Live {
         ensures kept { StayReadyBut (λ other. false) self.old self.new }
         ensures same { (self.new.tabs ≡ self.old.tabs) × (self.new.room ≡ self.old.room) }
     {
-        let alloc = *self.tabs.allocator();
-        match place_by(self.tabs.as_slice(), given, at.tab) {
-            Ok(place) => self.tabs[place].reserve(alloc, at.frame),
+        let alloc = self.tabs.allocator();
+        match place_by(&self.tabs, given, at.tab) {
+            Ok(place) => self.tabs.at_mut(place).reserve(alloc, at.frame),
             Err(_) => Ok(()),
         }
     }
@@ -82,8 +82,8 @@ impl Live {
         ensures kept { StayReadyBut (λ other. same_label other at) self.old self.new }
         ensures room { self.new.room ≡ self.old.room }
     {
-        if let Ok(place) = place_by(self.tabs.as_slice(), given, at.tab) {
-            self.tabs[place].push(at.frame, event);
+        if let Ok(place) = place_by(&self.tabs, given, at.tab) {
+            self.tabs.at_mut(place).push(at.frame, event);
         }
     }
 }

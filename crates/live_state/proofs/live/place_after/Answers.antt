@@ -10,13 +10,13 @@ use Rattle.live_state.proofs.live.place_after.Goals as goal
 
 pub returns-in_default : goal.returns-in_default
 returns-in_default c =
-    let ts : List PlainOpenTab = c.args.tabs.now in record {
+    let ts : List PlainOpenTab = c.args.tabs.now.items in record {
       place = ap (λ o. next_tab o (plain_of ts)) c.in_default.is ∙ next-first (plain_of ts) ∙ number_at ts 0;
     }
 
 pub returns-in-Ok : goal.returns-in-Ok
 returns-in-Ok c =
-    let ts : List PlainOpenTab = c.args.tabs.now in record {
+    let ts : List PlainOpenTab = c.args.tabs.now.items in record {
       place =
           ap (λ o. next_tab o (plain_of ts)) c.in-Some.is
           ∙ next-at c.in-Some.number (plain_of ts) c.in-Ok.place c.in-Ok.ensures.place
@@ -26,7 +26,7 @@ returns-in-Ok c =
 
 pub returns-in-Err : goal.returns-in-Err
 returns-in-Err c =
-    let ts : List PlainOpenTab = c.args.tabs.now in record {
+    let ts : List PlainOpenTab = c.args.tabs.now.items in record {
       place =
           ap (λ o. next_tab o (plain_of ts)) c.in-Some.is
           ∙ next-gap c.in-Some.number (plain_of ts) c.in-Err.place c.in-Err.ensures.place

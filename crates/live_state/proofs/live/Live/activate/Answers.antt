@@ -7,8 +7,8 @@ use Rattle.live_state.proofs.FramesInPlaceLemmas.{IsWritten, changes-in, framed,
 use Rattle.live_state.proofs.live.Live.activate.Goals as goal
 use Rattle.live_state.proofs.live.Live.activate.Goals.{After-self-1}
 
-changed : (c : After-self-1) → IsWritten c.args.at.tab c.args.self.now.tabs c.self.inside.tabs.items c.in-Ok.place c.index_mut.result.now c.activate.new.self
-changed c = written c.as_slice.ensures.value c.in-Ok.ensures.place (search rules) c.index_mut.ensures.value c.activate.ensures.changes.number (ap (λ live. live.tabs) c.self.view_is)
+changed : (c : After-self-1) → IsWritten c.args.at.tab c.args.self.now.tabs c.self.inside.tabs.items c.in-Ok.place c.at_mut.result.now c.activate.new.self
+changed c = written c.in-Ok.ensures.place (search rules) c.at_mut.ensures.value c.activate.ensures.changes.number (ap (λ live. live.tabs) c.self.view_is)
 
 pub invariant_of-self : goal.invariant_of-self
 invariant_of-self c =
@@ -25,5 +25,5 @@ returns-in-Ok-clause-changes c = changes-in (changed c) c.activate.ensures.chang
 
 pub returns-in-Err-clause-activated : goal.returns-in-Err-clause-activated
 returns-in-Err-clause-activated c =
-    let none = frames-gap c.as_slice.ensures.value c.in-Err.ensures.place (ap (λ live. live.tabs) c.self.view_is) in
+    let none = frames-gap c.self.inside.tabs.items c.in-Err.ensures.place (ap (λ live. live.tabs) c.self.view_is) in
     (ap (has_frame c.args.at.frame) none, refl)

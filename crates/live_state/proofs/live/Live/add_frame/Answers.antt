@@ -11,8 +11,8 @@ use Rattle.live_state.proofs.FramesInPlaceLemmas.{IsWritten, changes-in, framed,
 use Rattle.live_state.proofs.live.Live.add_frame.Goals as goal
 use Rattle.live_state.proofs.live.Live.add_frame.Goals.{After-self-1}
 
-changed : (c : After-self-1) → IsWritten c.args.at.tab c.args.self.now.tabs c.self.inside.tabs.items c.in-Ok.place c.index_mut.result.now c.add_frame.new.self
-changed c = written c.as_slice.ensures.value c.in-Ok.ensures.place (search rules) c.index_mut.ensures.value c.add_frame.ensures.changes.number (ap (λ live. live.tabs) c.self.view_is)
+changed : (c : After-self-1) → IsWritten c.args.at.tab c.args.self.now.tabs c.self.inside.tabs.items c.in-Ok.place c.at_mut.result.now c.add_frame.new.self
+changed c = written c.in-Ok.ensures.place (search rules) c.at_mut.ensures.value c.add_frame.ensures.changes.number (ap (λ live. live.tabs) c.self.view_is)
 
 pub invariant_of-self : goal.invariant_of-self
 invariant_of-self c =
@@ -31,10 +31,10 @@ returns-in-Ok-clause-changes c = changes-in (changed c) c.add_frame.ensures.chan
 
 pub returns-in-Err-clause-answer : goal.returns-in-Err-clause-answer
 returns-in-Err-clause-answer c =
-    let none = frames-gap c.as_slice.ensures.value c.in-Err.ensures.place (ap (λ live. live.tabs) c.self.view_is) in
+    let none = frames-gap c.self.inside.tabs.items c.in-Err.ensures.place (ap (λ live. live.tabs) c.self.view_is) in
     inr (ap (added c.args.list.now.rules c.args.parent c.args.at.frame (plain_address c.args.address) (plain_sandbox c.args.sandbox) c.args.deny) none)
 
 pub returns-in-Err-clause-decided : goal.returns-in-Err-clause-decided
 returns-in-Err-clause-decided c = λ why is.
-    let none = frames-gap c.as_slice.ensures.value c.in-Err.ensures.place (ap (λ live. live.tabs) c.self.view_is) in
+    let none = frames-gap c.self.inside.tabs.items c.in-Err.ensures.place (ap (λ live. live.tabs) c.self.view_is) in
     cc (sym (ap (added c.args.list.now.rules c.args.parent c.args.at.frame (plain_address c.args.address) (plain_sandbox c.args.sandbox) c.args.deny) none) ∙ is)

@@ -3,6 +3,5 @@ use Rattle.std.proofs.Common.{◌≡◌, map, take}
 use Rattle.live_state.specs.Documents.{documents, plain_keyed}
 use Rattle.live_state.proofs.live.Live.documents.Given as goal
 
-abbrev pub invariant-loop-tab : goal.invariant-loop-tab
-invariant-loop-tab l =
-    map plain_keyed l.documents.items ≡ documents (map (λ t. t.plain) (take l.tab-index l.tab-items))
+abbrev pub invariant-loop-place : goal.invariant-loop-place
+invariant-loop-place l = map plain_keyed l.documents.items ≡ documents (take l.place l.self.tabs)

@@ -15,8 +15,8 @@ use Rattle.live_state.proofs.live.Live.list_hearers.Goals as goal
 pub returns-in-Ok : goal.returns-in-Ok
 returns-in-Ok c =
     let items : List PlainOpenTab = c.self.inside.tabs.items in
-    let at : IsAt c.args.number (plain_of items) c.in-Ok.place = rw c.as_slice.ensures.value at c.in-Ok.ensures.place in
-    let found = sym (tab-here c.args.number items c.in-Ok.place at c.index.result.now (search rules) (search rules))
+    let at : IsAt c.args.number (plain_of items) c.in-Ok.place = c.in-Ok.ensures.place in
+    let found = sym (tab-here c.args.number items c.in-Ok.place at c.at.result.now (search rules) (search rules))
     ∙ ap (λ live. tab_at c.args.number live.tabs) c.self.view_is in record {
       listed =
           on_ok_weaker c.list_hearers.result
@@ -27,7 +27,7 @@ returns-in-Ok c =
 pub returns-in-Err : goal.returns-in-Err
 returns-in-Err c =
     let items : List PlainOpenTab = c.self.inside.tabs.items in
-    let gap : IsGap c.args.number (plain_of items) c.in-Err.field-0 = rw c.as_slice.ensures.value at c.in-Err.ensures.place in
+    let gap : IsGap c.args.number (plain_of items) c.in-Err.field-0 = c.in-Err.ensures.place in
     let found = sym (found-gap c.args.number (plain_of items) c.in-Err.field-0 gap)
     ∙ ap (λ live. tab_at c.args.number live.tabs) c.self.view_is in record {
       listed =

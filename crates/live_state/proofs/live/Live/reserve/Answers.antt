@@ -37,10 +37,9 @@ returns-in_err-reserve-2-clause-kept c = λ site is.
 pub returns-in_err-reserve-2-clause-memory : goal.returns-in_err-reserve-2-clause-memory
 returns-in_err-reserve-2-clause-memory c =
     let items : List PlainOpenTab = c.self.inside.tabs.items in
-    let capacity : ℕ = vec_capacity c.self.inside.tabs in
     let closed : is_open c.args.tab (plain_of items) ≡ false =
-    closed-found c.args.tab items c.place_of.result (rw c.as_slice.ensures.value at c.place_of.ensures.place) (sym c.if-is_err.ensures.value) in
-    let full : nat_lt 0 (capacity - length items) ≡ false = grind (arith, nat_tests, c.in_err-reserve-2.ensures.full, c.self.inside.tabs.ok.0, c.self.inside.tabs.ok.1) in
+    closed-found c.args.tab items c.place_of.result (c.place_of.ensures.place) (sym c.if-is_err.ensures.value) in
+    let full : nat_lt 0 c.self.inside.tabs.room ≡ false = ap (nat_lt 0) c.in_err-reserve-2.ensures.memory in
     on_err c.from_residual-in_err-reserve-2.result
     (not-reserved-tab c.args.tab c.args.made.now (plain_site c.top_site.result.now) c.top_site.ensures.site c.args.self.now
     (sym (ap (λ live. is_open c.args.tab live.tabs) c.self.view_is) ∙ closed)
@@ -50,10 +49,10 @@ pub returns-in_ok-reserve-2-clause-reserved : goal.returns-in_ok-reserve-2-claus
 returns-in_ok-reserve-2-clause-reserved c =
     let site : PlainSite = plain_site c.top_site.result.now in
     let made = c.reserve-then-is_err.new.self in
-    let room : nat_lt 0 (vec_capacity made - length made.items) ≡ true = grind (arith, nat_tests, c.in_ok-reserve-2.ensures.ok) in
+    let room : nat_lt 0 made.room ≡ true = grind (arith, nat_tests, c.in_ok-reserve-2.ensures.reserved) in
     reserved-from c.args.tab c.args.made.now site c.top_site.ensures.site
-    (record { tabs = plain_of made.items; ready = map ready_tab made.items; room = vec_capacity made - length made.items; sites = site_rooms c.reserve.new.self.numbers.entries })
-    (or_right (is_open c.args.tab (plain_of made.items)) (nat_lt 0 (vec_capacity made - length made.items)) room)
+    (record { tabs = plain_of made.items; ready = map ready_tab made.items; room = made.room; sites = site_rooms c.reserve.new.self.numbers.entries })
+    (or_right (is_open c.args.tab (plain_of made.items)) (nat_lt 0 made.room) room)
     (room-seen site c.reserve.new.self.numbers.entries ∙ c.in_ok-reserve.ensures.reserved)
   where
     or_right : (a b : Bool) → b ≡ true → (a || b) ≡ true
@@ -64,7 +63,7 @@ pub returns-in_ok-reserve-2-clause-open : goal.returns-in_ok-reserve-2-clause-op
 returns-in_ok-reserve-2-clause-open c = λ opened.
     let items : List PlainOpenTab = c.self.inside.tabs.items in
     let no : false ≡ true =
-    sym (closed-found c.args.tab items c.place_of.result (rw c.as_slice.ensures.value at c.place_of.ensures.place) (sym c.if-is_err.ensures.value))
+    sym (closed-found c.args.tab items c.place_of.result (c.place_of.ensures.place) (sym c.if-is_err.ensures.value))
     ∙ ap (λ live. is_open c.args.tab live.tabs) c.self.view_is
     ∙ opened in absurd (cc no)
 
@@ -78,12 +77,11 @@ pub returns-else-is_err-clause-reserved : goal.returns-else-is_err-clause-reserv
 returns-else-is_err-clause-reserved c =
     let items : List PlainOpenTab = c.self.inside.tabs.items in
     let site : PlainSite = plain_site c.top_site.result.now in
-    let capacity : ℕ = vec_capacity c.self.inside.tabs in
     let opened : is_open c.args.tab (plain_of items) ≡ true =
-    open-found c.args.tab items c.place_of.result (rw c.as_slice.ensures.value at c.place_of.ensures.place) (sym c.if-is_err.ensures.value) in
+    open-found c.args.tab items c.place_of.result (c.place_of.ensures.place) (sym c.if-is_err.ensures.value) in
     reserved-from c.args.tab c.args.made.now site c.top_site.ensures.site
-    (record { tabs = plain_of items; ready = map ready_tab items; room = capacity - length items; sites = site_rooms c.reserve.new.self.numbers.entries })
-    (ap (λ b. b || nat_lt 0 (capacity - length items)) opened)
+    (record { tabs = plain_of items; ready = map ready_tab items; room = c.self.inside.tabs.room; sites = site_rooms c.reserve.new.self.numbers.entries })
+    (ap (λ b. b || nat_lt 0 c.self.inside.tabs.room) opened)
     (room-seen site c.reserve.new.self.numbers.entries ∙ c.in_ok-reserve.ensures.reserved)
 
 pub returns-else-is_err-clause-kept : goal.returns-else-is_err-clause-kept

@@ -13,15 +13,15 @@ use Rattle.live_state.proofs.StepLemmas.{tab-here}
 use Rattle.live_state.proofs.live.Live.reserve_queue.Goals as goal
 use Rattle.live_state.proofs.live.Live.reserve_queue.Goals.{After-self-1}
 
-changed : (c : After-self-1) → IsWritten c.args.at.tab c.args.self.now.tabs c.self.inside.tabs.items c.in-Ok.place c.index_mut.result.now c.reserve.new.self
-changed c = written c.as_slice.ensures.value c.in-Ok.ensures.place (search rules) c.index_mut.ensures.value (ap (λ t. t.number) c.reserve.ensures.same) (ap (λ live. live.tabs) c.self.view_is)
+changed : (c : After-self-1) → IsWritten c.args.at.tab c.args.self.now.tabs c.self.inside.tabs.items c.in-Ok.place c.at_mut.result.now c.reserve.new.self
+changed c = written c.in-Ok.ensures.place (search rules) c.at_mut.ensures.value (ap (λ t. t.number) c.reserve.ensures.same) (ap (λ live. live.tabs) c.self.view_is)
 
 pub reserve-requires : goal.reserve-requires
 reserve-requires c = record {
   there =
       let items : List PlainOpenTab = c.self.inside.tabs.items in
-      let at : IsAt c.args.at.tab (plain_of items) c.in-Ok.place = rw c.as_slice.ensures.value at c.in-Ok.ensures.place in
-      sym (ap (λ o. has_frame c.args.at.frame (frames_by o)) (tab-here c.args.at.tab items c.in-Ok.place at c.index_mut.result.now (search rules) c.index_mut.ensures.value))
+      let at : IsAt c.args.at.tab (plain_of items) c.in-Ok.place = c.in-Ok.ensures.place in
+      sym (ap (λ o. has_frame c.args.at.frame (frames_by o)) (tab-here c.args.at.tab items c.in-Ok.place at c.at_mut.result.now (search rules) c.at_mut.ensures.value))
       ∙ ap (λ live. has_document live.tabs c.args.at) c.self.view_is
       ∙ c.requires.there;
 }
@@ -45,7 +45,7 @@ returns-in-Ok c =
 pub returns-in-Err-clause-reserved : goal.returns-in-Err-clause-reserved
 returns-in-Err-clause-reserved c =
     let items : List PlainOpenTab = c.self.inside.tabs.items in
-    let gap : IsGap c.args.at.tab (plain_of items) c.in-Err.field-0 = rw c.as_slice.ensures.value at c.in-Err.ensures.place in
+    let gap : IsGap c.args.at.tab (plain_of items) c.in-Err.field-0 = c.in-Err.ensures.place in
     let no : false ≡ true =
     sym (ap (λ o. has_frame c.args.at.frame (frames_by o)) (found-gap c.args.at.tab (plain_of items) c.in-Err.field-0 gap))
     ∙ ap (λ live. has_document live.tabs c.args.at) c.self.view_is

@@ -12,29 +12,29 @@ use Rattle.live_state.proofs.live.Live.tab.Goals as goal
 pub returns-in-Ok-clause-tab : goal.returns-in-Ok-clause-tab
 returns-in-Ok-clause-tab c =
     let items : List PlainOpenTab = c.self.inside.tabs.items in
-    let at : IsAt c.args.tab (plain_of items) c.in-Ok.place = rw c.as_slice.ensures.value at c.in-Ok.ensures.place in
+    let at : IsAt c.args.tab (plain_of items) c.in-Ok.place = c.in-Ok.ensures.place in
     ap Some c.tab.ensures.tab
-    ∙ sym (ap (option_map (λ t. t.frames)) (tab-here c.args.tab items c.in-Ok.place at c.index.result.now (search rules) (search rules)))
+    ∙ sym (ap (option_map (λ t. t.frames)) (tab-here c.args.tab items c.in-Ok.place at c.at.result.now (search rules) (search rules)))
     ∙ ap (λ live. option_map (λ t. t.frames) (tab_at c.args.tab live.tabs)) c.self.view_is
 
 pub returns-in-Err-clause-tab : goal.returns-in-Err-clause-tab
 returns-in-Err-clause-tab c =
     let items : List PlainOpenTab = c.self.inside.tabs.items in
-    let gap : IsGap c.args.tab (plain_of items) c.in-Err.field-0 = rw c.as_slice.ensures.value at c.in-Err.ensures.place in
+    let gap : IsGap c.args.tab (plain_of items) c.in-Err.field-0 = c.in-Err.ensures.place in
     sym (ap (option_map (λ t. t.frames)) (found-gap c.args.tab (plain_of items) c.in-Err.field-0 gap))
     ∙ ap (λ live. option_map (λ t. t.frames) (tab_at c.args.tab live.tabs)) c.self.view_is
 
 pub returns-in-Ok-clause-queues : goal.returns-in-Ok-clause-queues
 returns-in-Ok-clause-queues c =
     let items : List PlainOpenTab = c.self.inside.tabs.items in
-    let at : IsAt c.args.tab (plain_of items) c.in-Ok.place = rw c.as_slice.ensures.value at c.in-Ok.ensures.place in
+    let at : IsAt c.args.tab (plain_of items) c.in-Ok.place = c.in-Ok.ensures.place in
     let found = ap (λ live. tab_at c.args.tab live.tabs) (sym c.self.view_is)
-    ∙ tab-here c.args.tab items c.in-Ok.place at c.index.result.now (search rules) (search rules) in
+    ∙ tab-here c.args.tab items c.in-Ok.place at c.at.result.now (search rules) (search rules) in
     subst (λ o. IfSome o HasQueues) (sym found) c.tab.ensures.queues
 
 pub returns-in-Err-clause-queues : goal.returns-in-Err-clause-queues
 returns-in-Err-clause-queues c =
     let items : List PlainOpenTab = c.self.inside.tabs.items in
-    let gap : IsGap c.args.tab (plain_of items) c.in-Err.field-0 = rw c.as_slice.ensures.value at c.in-Err.ensures.place in
+    let gap : IsGap c.args.tab (plain_of items) c.in-Err.field-0 = c.in-Err.ensures.place in
     let found = ap (λ live. tab_at c.args.tab live.tabs) (sym c.self.view_is) ∙ found-gap c.args.tab (plain_of items) c.in-Err.field-0 gap in
     subst (λ o. IfSome o HasQueues) (sym found) tt

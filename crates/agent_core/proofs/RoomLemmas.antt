@@ -1,5 +1,6 @@
 -- The room of a store: more is enough for less, and room may be made again and again.
-use Rattle.std.proofs.Common.{ℕ, ◌≤◌, ◌∙◌, ap, arith, refl}
+use Rattle.std.proofs.Common.{ℕ, ◌≤◌, ◌∙◌, ap, arith, refl, sym}
+use Rattle.disk_model.specs.Carried.{TellsSame}
 use Rattle.disk_model.specs.Disk.{Stays, View}
 use Rattle.journal.specs.Journal.{JournalView}
 use Rattle.open_store.specs.Commits.{HasRoomFor}
@@ -65,4 +66,17 @@ roomier_same j v = record {
   rests = λ rests. rests;
   stays = stays_same v;
   fine = record { faults = refl; off = refl; failures = refl; cuts = refl };
+}
+
+-- a disk tells the same
+pub roomier_told : (j : JournalView) (v w : View) → TellsSame v w → IsRoomier j j v w
+roomier_told j v w same = record {
+  journal = refl;
+  stands = λ c frames stands. stands;
+  rests = λ rests. record {
+    settled = λ c left. same.stays.contents ∙ rests.settled c (same.stays.no_more c left);
+    stands = λ c told. rests.stands c (sym same.stays.contents ∙ told);
+  };
+  stays = same.stays;
+  fine = record { faults = same.faults; off = same.off; failures = same.failures; cuts = same.cuts };
 }

@@ -6,6 +6,7 @@
 #![tactic(auto)]
 
 mod agent;
+mod carried;
 mod checkpoint;
 mod looking;
 mod open_batch;

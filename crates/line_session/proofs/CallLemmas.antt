@@ -1,7 +1,7 @@
 -- What a list of calls is together.
 use Rattle.std.proofs.Common.{◌≡◌, ℕ, ◌+◌, ◌<◌, ◌≤◌, ◌^◌, true, List, [], ◌∷◌, ◌++◌, Option, Some, None, Result, Ok, Err, length, refl, sym, ap, subst, ◌∙◌, append-nil, append_assoc, arith}
 use Rattle.std.proofs.lemmas.List.{length-append}
-use Rattle.unwinding.specs.Admissible.{Acts, History, Reopens}
+use Rattle.unwinding.specs.Admissible.{History}
 use Rattle.disk_model.specs.Disk.{View}
 use Rattle.journal.specs.Region.{StandsForState}
 use Rattle.suffix_list.specs.Suffix.{Rule}
@@ -22,12 +22,14 @@ use Rattle.store_runs.specs.Runs.{LeavesHistory}
 use Rattle.store_runs.proofs.LoopLemmas.{cut_off, cut_off_admissible, cut_off_leaves, cut_off_text}
 use Rattle.store_runs.proofs.StopLemmas.{goes_then}
 use Rattle.line_session.specs.Asked.{asked_by, steps_in}
+use Rattle.line_session.specs.Between.{HasCallsBetween}
 use Rattle.line_session.specs.Calls.{AreCalls, Began, HasCallsSame, HasCallsSites, HasCallsText, IsHistoryOfCalls, LineCall, TellsCalls, call_steps, call_text, ran_by, steps_of_calls, text_of_calls}
 use Rattle.line_session.specs.Left.{HasCallsLeft}
 use Rattle.line_session.specs.SessionView.{SessionView}
 use Rattle.line_session.specs.StandsFor.{AreTold, StandsFor}
 use Rattle.line_session.specs.declared.refused.LineRefused.{LineRefused}
 use Rattle.line_session.specs.declared.refused.LineRefused.TheVariants as refused
+use Rattle.line_session.proofs.SessionLemmas.{goes_between, goes_nowhere, stands_none, told_still}
 
 -- a line asks for one step at most
 few_in : (line : Result (Option PlainLine) PlainFault) → length (steps_in line) ≤ 1
@@ -50,12 +52,6 @@ few_ran (Err refused.BadHeader) asked few = omega arith
 few_ran (Err (refused.Store why)) asked few = omega arith
 few_ran (Err refused.Owed) asked few = omega arith
 few_ran (Err refused.NoMemory) asked few = omega arith
-
--- a disk goes on telling, so that what is known of steps stays known
-told_still : (old new : View) → new.tells ≡ old.tells → (steps : List PlainStep) → AreTold old steps → AreTold new steps
-told_still old new same [] told = tt
-told_still old new same (Acts l ∷ more) told = (tt, told_still old new same more told.1)
-told_still old new same (Reopens ∷ more) told = (same ∙ told.0, told_still old new same more told.1)
 
 module _ {D : Type 0} (tell : D → View) where
   calls_told : (old new : View) → new.tells ≡ old.tells → (calls : List (LineCall D)) → TellsCalls old calls → TellsCalls new calls
@@ -100,6 +96,13 @@ module _ {D : Type 0} (tell : D → View) where
       (subst (λ (s : SessionView D). GoesOn tell s.agent c.new.agent) are.0 are.1.goes_on)
       (calls_go cs c.new last are.2)
 
+  -- no more lines than calls ran
+  calls_few : (calls : List (LineCall D)) → length (steps_of_calls calls) ≤ length calls
+  calls_few [] = omega arith
+  calls_few (c ∷ cs) =
+      let one : length (call_steps c) ≤ 1 = few_ran c.answer (asked_by c.line) (few_in (line_of_bytes 1 c.line)) in
+      omega (arith, length-append (call_steps c) (steps_of_calls cs), one, calls_few cs)
+
   module _ (start : ℕ) (saved : Saved) (first last : SessionView D) (calls : List (LineCall D))
       (began : Began tell start saved first last calls) where
     abbrev opening : AgentOpening
@@ -113,7 +116,12 @@ module _ {D : Type 0} (tell : D → View) where
 
     abbrev all_stand : StandsFor tell last opening (steps_of_calls calls) (text_of_calls calls)
         × (last.agent.memory.rules ≡ first.agent.memory.rules)
-    all_stand = calls_stand opening calls first last [] [] began.begins began.are began.told (omega (arith, began.few))
+    all_stand =
+        let all = calls_stand opening calls first began.behind [] [] began.begins began.are began.told (omega (arith, began.few)) in (
+          stands_none tell began.behind last opening (steps_of_calls calls) (text_of_calls calls) began.ended
+              (omega (arith, began.few, calls_few calls)) all.0,
+          began.ended.goes_on.rules ∙ all.1,
+        )
 
     -- the replies are the text of a history of the lines, which leaves what may be found
     calls_history : (history : History PlainAction) × IsHistoryOfCalls rules_of_all opening calls history
@@ -143,7 +151,8 @@ module _ {D : Type 0} (tell : D → View) where
         → LeavesHistory (list_of first.agent) 1 opening (tell last.agent.disk).may_leave [] history
     unfolding may_find
     left_images tells history leaves file image =
-        let goes = calls_go calls first last began.are in
+        let goes = goes_then tell first.agent began.behind.agent last.agent (calls_go calls first began.behind began.are)
+        began.ended.goes_on in
         let store = (all_stand.0.stands.stores (goes.tells ∙ tells) file image).1 in (
           store.0,
           store.1,
@@ -152,6 +161,12 @@ module _ {D : Type 0} (tell : D → View) where
           leaves (durable_of store.0) (since_opening store.1 last.agent.opened)
               (file, image, store.0, store.1, store.2, refl, refl),
         )
+
+  pub calls_between : HasCallsBetween tell
+  calls_between = record {
+    still = λ old new same. goes_nowhere tell old new [] same;
+    before = λ old between new asked ran given one two. goes_between tell old between new asked ran given one two;
+  }
 
   pub calls_text : HasCallsText tell
   calls_text start saved first last calls began =

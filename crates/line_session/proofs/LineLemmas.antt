@@ -3,10 +3,14 @@ use Rattle.std.proofs.Common.{◌≡◌, ◌⊎◌, inr, ℕ, Bool, true, false,
 use Rattle.std.proofs.lemmas.Bool.{true≢false}
 use Rattle.std.proofs.lemmas.Result.{IfErr-weaker, IfOk-weaker}
 use Rattle.std.specs.Prelude.{IfErr, OnOk, is_some, option_map}
+use Rattle.disk_model.specs.Carried.{TellsSame}
 use Rattle.disk_model.specs.Disk.{View}
 use Rattle.script_actions.specs.Action.{PlainLine, PlainStep}
 use Rattle.script_actions.specs.Plain.{line_of}
 use Rattle.script_actions.specs.declared.step.Line.{Line}
+use Rattle.durable_model.specs.Keeping.{AgentDurable}
+use Rattle.agent_core.specs.AgentView.{may_of}
+use Rattle.agent_core.specs.Seen.{AgentSeen, IsSeen}
 use Rattle.store_runs.specs.Closing.{Closes}
 use Rattle.store_runs.specs.Moments.{StopsBefore}
 use Rattle.store_runs.specs.Openings.{GoesOn}
@@ -21,7 +25,7 @@ use Rattle.line_session.specs.StandsFor.{GoesBy, LineMoments}
 use Rattle.line_session.specs.declared.refused.LineRefused.{LineRefused}
 use Rattle.line_session.proofs.ReadingLemmas.{asked_as}
 use Rattle.line_session.proofs.RefusalLemmas.{stop_goes, stop_left, stop_refused}
-use Rattle.line_session.proofs.SessionLemmas.{goes_nowhere, goes_tended}
+use Rattle.line_session.proofs.SessionLemmas.{goes_nowhere, goes_tended, goes_told}
 
 -- an answer that is there is still to be printed, and no other
 pub some_unprinted : (answer : Option Answer) → is_some answer ≡ true → is_printed answer ≡ false
@@ -57,6 +61,16 @@ module _ {D : Type 0} (tell : D → View) (old inside new : SessionView D) (same
       → Closes tell inside.agent new.agent Done ending → GoesBy tell old new [] [] []
   tended_goes ending goes closes =
       subst (λ s. GoesBy tell s new [] [] []) same (goes_tended tell inside new ending goes closes)
+
+  -- a call of the disk that is done
+  pub done_goes : TellsSame (tell inside.agent.disk) (tell new.agent.disk)
+      → new.agent ≡ record inside.agent { disk = new.agent.disk }
+      → ((a : AgentSeen) → IsSeen inside.agent (tell inside.agent.disk) a → IsSeen new.agent (tell new.agent.disk) a)
+      → ((d : AgentDurable) (n : ℕ) → may_of new.agent (tell new.agent.disk) d n
+      → may_of inside.agent (tell inside.agent.disk) d n)
+      → GoesBy tell old new [] [] []
+  done_goes told agent stands found =
+      subst (λ s. GoesBy tell s new [] [] []) same (goes_told tell inside new told agent stands found)
 
   -- a line whose run stopped
   pub stopped_goes : (step : PlainStep) (stop : Ending) (why : LineRefused) → why ≡ stop_of stop

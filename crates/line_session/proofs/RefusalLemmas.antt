@@ -114,7 +114,7 @@ module _ {D : Type 0} (old new : SessionView D) (bytes : List ℕ) (line : Plain
   pub stop_refused : (why : LineRefused) → IsStop old new line.step why → RefusedSo old new bytes why
   stop_refused NoMemory stop = (read_takes bytes line was, stop.0, stop.1)
   stop_refused (Store why) stop = (stop.0, asked_as bytes (Some line) was ∙ ap (λ step. step ∷ []) stop.1, stop.2, stop.3)
-  stop_refused Unprinted stop = (was.one, stop)
+  stop_refused Unprinted stop = ((line, was), stop)
   stop_refused LineFeed stop = absurd stop
   stop_refused TooLong stop = absurd stop
   stop_refused NotUtf8 stop = absurd stop

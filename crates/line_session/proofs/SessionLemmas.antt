@@ -1,12 +1,16 @@
 -- How the calls of a session go on with its history and its text.
-use Rattle.std.proofs.Common.{◌≡◌, ⊎_elim, ℕ, true, List, [], ◌∷◌, ◌++◌, length, refl, sym, ap, subst, ◌∙◌, arith}
+use Rattle.std.proofs.Common.{◌≡◌, inl, ⊎_elim, ℕ, ◌+◌, ◌<◌, ◌^◌, true, List, [], ◌∷◌, ◌++◌, length, refl, sym, ap, subst, ◌∙◌, append-nil, arith}
+use Rattle.unwinding.specs.Admissible.{Acts, Reopens}
 use Rattle.unwinding.specs.Course.{empty_course}
+use Rattle.disk_model.specs.Carried.{TellsSame}
 use Rattle.disk_model.specs.Disk.{View}
 use Rattle.journal.specs.declared.open_fault.OpenFault.{OpenFault}
 use Rattle.script_actions.specs.Action.{PlainStep}
 use Rattle.durable_model.specs.Histories.{AgentOpening}
+use Rattle.durable_model.specs.Keeping.{AgentDurable}
 use Rattle.agent_core.specs.AgentView.{AgentView, may_of, owes}
-use Rattle.store_runs.specs.Calls.{Called, ToldAt}
+use Rattle.agent_core.specs.Seen.{AgentSeen, IsSeen}
+use Rattle.store_runs.specs.Calls.{Called, ToldAt, over_call}
 use Rattle.store_runs.specs.Moments.{StopsBefore}
 use Rattle.store_runs.specs.Closing.{Closes, Ends}
 use Rattle.store_runs.specs.Courses.{On, text_on}
@@ -14,7 +18,8 @@ use Rattle.store_runs.specs.Openings.{GoesOn, IsJustOpened, just_opened}
 use Rattle.store_runs.specs.declared.ending.Ending.{Ending}
 use Rattle.store_runs.specs.declared.ending.Ending.TheVariants.{Done, Device, Store, Write, Memory}
 use Rattle.store_runs.proofs.AgentLemmas.{checkpoint_called, checkpoint_wants, nothing_called}
-use Rattle.store_runs.proofs.CourseLemmas.{nothing_printed, on_begun, on_fits}
+use Rattle.store_runs.proofs.CourseLemmas.{nothing_printed, on_begun, on_fits, same_stands}
+use Rattle.store_runs.proofs.StopLemmas.{goes_then}
 use Rattle.line_session.specs.SessionView.{SessionView}
 use Rattle.line_session.specs.StandsFor.{AreTold, GoesBy, StandsFor}
 
@@ -29,6 +34,12 @@ write_memory e = cc
 
 store_memory : (why : OpenFault) → Store why ≡ Memory → ⊥
 store_memory why e = cc
+
+-- a disk goes on telling, so that what is known of steps stays known
+pub told_still : (old new : View) → new.tells ≡ old.tells → (steps : List PlainStep) → AreTold old steps → AreTold new steps
+told_still old new same [] told = tt
+told_still old new same (Acts l ∷ more) told = (tt, told_still old new same more told.1)
+told_still old new same (Reopens ∷ more) told = (same ∙ told.0, told_still old new same more told.1)
 
 module _ {D : Type 0} (tell : D → View) where
   -- a session that was just opened
@@ -76,6 +87,30 @@ module _ {D : Type 0} (tell : D → View) where
             replies = ap (λ rs. text_on rs x next.0) goes.rules ∙ next.2.prints ∙ ap (λ t. t ++ given) stands.replies;
           };
     }
+
+    -- where the disk tells the same, and the agent stands for what it stood for
+    pub goes_told : TellsSame (tell old.agent.disk) (tell new.agent.disk)
+        → new.agent ≡ record old.agent { disk = new.agent.disk }
+        → ((a : AgentSeen) → IsSeen old.agent (tell old.agent.disk) a → IsSeen new.agent (tell new.agent.disk) a)
+        → ((d : AgentDurable) (n : ℕ) → may_of new.agent (tell new.agent.disk) d n → may_of old.agent (tell old.agent.disk) d n)
+        → GoesBy tell old new [] [] []
+    goes_told same agent stands found = goes_by [] [] [] (Unit {0}) ⊥
+        (record {
+          rules = ap (λ (v : AgentView D). v.memory.rules) agent;
+          digest = ap (λ (v : AgentView D). v.journal.digest) agent;
+          batch = ap (λ (v : AgentView D). v.batch) agent;
+          checkpoint = ap (λ (v : AgentView D). v.checkpoint) agent;
+          tells = same.stays.tells;
+        })
+        (λ told. tt)
+        (λ told some a seen fits. (
+          a,
+          stands a seen,
+          same_stands old.agent.memory.rules old.agent.batch (over_call tell a old.agent new.agent ⊥) a a
+              (may_of old.agent (tell old.agent.disk)) (may_of new.agent (tell new.agent.disk)) (inl same.faults) (λ on. on)
+              (refl, found),
+          (λ on. absurd on),
+        ))
 
     -- where the agent is as it was
     pub goes_nowhere : (asked : List PlainStep) → new.agent ≡ old.agent → GoesBy tell old new asked [] []
@@ -128,3 +163,20 @@ module _ {D : Type 0} (tell : D → View) where
             (checkpoint_called tell old.agent new.agent owed Write ends write_memory)
         by (Store why) owed ends = goes_by [] [] [] (Unit {0}) (Unit {0}) goes (λ told. tt)
             (checkpoint_called tell old.agent new.agent owed (Store why) ends (store_memory why))
+
+  -- by a call that runs no line
+  pub stands_none : (old new : SessionView D) (x : AgentOpening) (steps : List PlainStep) (text : List ℕ)
+      → GoesBy tell old new [] [] [] → length steps + 2 < 2 ^ 64 → StandsFor tell old x steps text → StandsFor tell new x steps text
+  stands_none old new x steps text goes few stands =
+      subst (StandsFor tell new x steps) (append-nil text)
+      (subst (λ ss. StandsFor tell new x ss (text ++ [])) (append-nil steps) (goes.means x steps text stands few tt))
+
+  -- and by another call behind it
+  pub goes_between : (a b c : SessionView D) (asked ran : List PlainStep) (given : List ℕ) → GoesBy tell a b [] [] []
+      → GoesBy tell b c asked ran given → GoesBy tell a c asked ran given
+  goes_between a b c asked ran given one two = record {
+    goes_on = goes_then tell a.agent b.agent c.agent one.goes_on two.goes_on;
+    means = λ x steps text stands few told.
+        two.means x steps text (stands_none a b x steps text one few stands) few
+        (told_still (tell a.agent.disk) (tell b.agent.disk) one.goes_on.tells asked told);
+  }

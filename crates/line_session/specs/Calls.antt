@@ -14,6 +14,7 @@ use Rattle.agent_core.specs.AgentView.{may_of}
 use Rattle.printed_model.specs.Histories.{IsHistoryOf, history_text, printed_replies}
 use Rattle.printed_model.specs.Left.{IsLeft}
 use Rattle.line_session.specs.Asked.{asked_by}
+use Rattle.line_session.specs.Between.{RunsNone}
 use Rattle.line_session.specs.SessionView.{SessionView}
 use Rattle.line_session.specs.StandsFor.{AreTold, GoesBy, StandsFor}
 use Rattle.line_session.specs.declared.refused.LineRefused.{LineRefused}
@@ -48,7 +49,8 @@ call_steps c = ran_by c.answer (asked_by c.line)
 abbrev pub call_text : {D : Type 0} → LineCall D → List ℕ
 call_text c = text_by c.answer c.new.reply
 
--- it is one that `Session::line` may make: its clause `means`
+-- it is one that `Session::line` may make: its clause `means`. Calls before it that run no line are
+-- part of it.
 abbrev pub IsCall : {D : Type 0} → (tell : D → View) → LineCall D → Type 0
 IsCall tell c = GoesBy tell c.old c.new (asked_by c.line) (call_steps c) (call_text c)
 
@@ -75,12 +77,14 @@ TellsCalls view [] = Unit {0}
 TellsCalls view (c ∷ cs) = AreTold view (asked_by c.line) × TellsCalls view cs
 
 -- A session began over a valid state at this moment, and calls were made of it, of fewer than 2^64
--- lines.
+-- lines. Behind the last of these, calls may have been made that run none.
 pub record Began {D : Type 0} (tell : D → View) (start : ℕ) (saved : Saved)
     (first last : SessionView D) (calls : List (LineCall D)) : Type 0 where
   pub valid : IsValid saved
   pub begins : StandsFor tell first (opened_at start saved) [] []
-  pub are : AreCalls tell first last calls
+  pub behind : SessionView D
+  pub are : AreCalls tell first behind calls
+  pub ended : RunsNone tell behind last
   pub told : TellsCalls (tell first.agent.disk) calls
   pub few : length calls + 2 < 2 ^ 64
 

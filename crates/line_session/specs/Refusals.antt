@@ -2,11 +2,12 @@
 -- Source: the script format of docs/FORMATS.md, as `script_lines` reads it.
 -- Our own choice: the refusals. Want of memory alone is free, but where a line is blank, too long,
 -- no UTF-8 or more than one.
-use Rattle.std.specs.Prelude.{◌≡◌, ℕ, ◌≤◌, true, false, List, [], ◌∷◌, length, Err, string_bytes}
+use Rattle.std.specs.Prelude.{◌≡◌, ℕ, ◌≤◌, true, false, List, [], ◌∷◌, length, Some, Err}
+use Rattle.std.specs.Prelude.{string_bytes}
 use Rattle.std.specs.Str.{is_utf8}
 use Rattle.unwinding.specs.Admissible.{Reopens}
 use Rattle.journal.specs.Opening.{IsOfFile}
-use Rattle.script_actions.specs.Action.{PlainStep}
+use Rattle.script_actions.specs.Action.{PlainLine, PlainStep}
 use Rattle.script_lines.specs.Grammar.{is_blank, line_limit, line_of_bytes}
 use Rattle.script_lines.specs.Script.{PlainFault}
 use Rattle.script_lines.specs.Script as plain
@@ -15,7 +16,7 @@ use Rattle.script_lines.specs.declared.script.ScriptFault.{ScriptFault}
 use Rattle.script_lines.specs.declared.script.ScriptFault.TheVariants as script
 use Rattle.store_runs.specs.declared.ending.Ending.{Ending}
 use Rattle.store_runs.specs.declared.ending.Ending.TheVariants as ending
-use Rattle.line_session.specs.Asked.{asked_by, is_one_line}
+use Rattle.line_session.specs.Asked.{IsReadAs, asked_by, is_one_line}
 use Rattle.line_session.specs.SessionView.{SessionView}
 use Rattle.line_session.specs.declared.refused.LineRefused.{LineRefused}
 use Rattle.line_session.specs.declared.refused.LineRefused.TheVariants.{LineFeed, TooLong, NotUtf8}
@@ -67,7 +68,8 @@ TellsFault fault NoMemory = IsOfNoLine fault
 TellsFault fault other = ⊥
 
 -- What is left where a line has no reply. A fault leaves all as it was, and so does a reply that
--- is still to be printed. Want of memory before the line ran leaves the reply of the line before.
+-- is still to be printed. Want of memory before the line ran leaves the reply of the line before;
+-- behind one that was read, and is not blank, it leaves that line's reply to be printed.
 abbrev pub RefusedSo : {D : Type 0} → (old new : SessionView D) → List ℕ → LineRefused → Type 0
 RefusedSo old new bytes NoMemory =
     TakesMemory bytes × (new.reply ≡ old.reply) × (new.printed ≡ old.printed)
@@ -75,7 +77,8 @@ RefusedSo old new bytes (Store why) =
     IsOfFile why × (asked_by bytes ≡ Reopens ∷ [])
     × (new.reply ≡ old.reply) × (new.printed ≡ old.printed)
 RefusedSo old new bytes Owed = (old.printed ≡ false) × (new ≡ old)
-RefusedSo old new bytes Unprinted = (is_one_line bytes ≡ true) × (new.printed ≡ false)
+RefusedSo old new bytes Unprinted =
+    ((line : PlainLine) × IsReadAs bytes (Some line)) × (new.printed ≡ false)
 RefusedSo old new bytes why = IsFaultOf bytes why × (new ≡ old)
 
 -- why a line has no reply whose run stopped so

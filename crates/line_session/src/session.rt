@@ -2,6 +2,8 @@
 ghost use Rattle.std.specs.Prelude.{◌≡◌, ◌⊎◌, ◌∷◌, [], ℕ, List, Some, IfErr, IfOk, OnErr, OnOk};
 ghost use Rattle.std.specs.Prelude.{IsErrAnd, IsErrOf, MatchResult, Option, false, true};
 ghost use Rattle.agent_base.specs.Counts.{Rose};
+ghost use Rattle.disk_model.specs.Carried.{TellsSame};
+ghost use Rattle.disk_model.specs.Disk.{IsSettled, LeavesOnly};
 ghost use Rattle.agent_core.specs.AgentView.{is_down, owes};
 ghost use Rattle.agent_core.specs.declared.agent.Power.TheVariants as power;
 ghost use Rattle.durable_model.specs.Histories.{opened_at};
@@ -11,7 +13,7 @@ ghost use Rattle.journal.specs.Opening.{IsExcused, IsLimitRefusal, IsOfFile, IsO
 ghost use Rattle.journal.specs.declared.open_fault.OpenFault.{OpenFault};
 ghost use Rattle.row_store.specs.Bodies.{Refuses};
 ghost use Rattle.row_store.specs.Bodies as bodies;
-ghost use Rattle.row_opening.specs.Under.{MeansUnder};
+ghost use Rattle.row_opening.specs.Under.{IsOpeningUnder, MeansUnder};
 ghost use Rattle.script_actions.specs.Action.{PlainLine};
 ghost use Rattle.script_actions.specs.Plain.{step_of};
 ghost use Rattle.store_runs.specs.Answers.{answer_text};
@@ -27,7 +29,7 @@ use crate::refused::stopped;
 use crate::{LineRefused, Untended};
 use agent_base::{NoMemory, Seconds};
 use agent_core::{Agent, Options, Refused};
-use disk_model::Disk;
+use disk_model::{Carried, Disk};
 use journal::OpenFault;
 use json::Scratch;
 use script_actions::Step;
@@ -98,6 +100,8 @@ impl<'l, D: Disk + Drop> Session<'l, D> {
             → MatchResult result (λ _. ⊥) (λ r. IsLimitRefusal c r.why) }
         ensures unchanged { IfErr result (λ r. IsOfFile r.why
             → (D.view r.disk).contents ≡ (D.view disk).contents) }
+        ensures images { IfErr result (λ r. IsOfFile r.why → (file : List ℕ)
+            → (D.view r.disk).may_leave file → (D.view disk).may_leave file) }
         ensures tells { MatchResult result
             (λ s. (D.view s.agent.disk).tells ≡ (D.view disk).tells)
             (λ r. (D.view r.disk).tells ≡ (D.view disk).tells) }
@@ -106,6 +110,12 @@ impl<'l, D: Disk + Drop> Session<'l, D> {
             (λ s. RoseSince D.view (D.view disk).faults s.agent)
             (λ r. r.why ≡ OpenFault.DeviceFault
             → Rose (D.view disk).faults (D.view r.disk).faults) }
+        // A cut at any moment leaves what it leaves of the opening of an agent.
+        ensures any_moment { IsSettled (D.view disk) → (c : List ℕ)
+            → (D.view disk).contents ≡ Some c
+            → MatchResult result
+            (λ s. LeavesOnly (D.view disk) (D.view s.agent.disk) (IsOpeningUnder list.now c))
+            (λ r. LeavesOnly (D.view disk) (D.view r.disk) (IsOpeningUnder list.now c)) }
     {
         let options = Options {
             start,
@@ -245,5 +255,20 @@ impl<'l, D: Disk + Drop> Session<'l, D> {
         ensures { result ≡ self.entry.agent.disk }
     {
         self.agent.into_disk()
+    }
+}
+
+impl<'l, D: Carried + Drop> Session<'l, D> {
+    /// The owner of the disk has carried out its next call. Nothing else changes, and the session
+    /// stands for what it stood for.
+    pub fn call_done(&mut self)
+        ensures disk { D.is_done self.old.agent.disk self.new.agent.disk }
+        ensures tells { TellsSame (D.view self.old.agent.disk) (D.view self.new.agent.disk) }
+        ensures same { self.new ≡ record self.old {
+          agent = record self.old.agent { disk = self.new.agent.disk };
+        } }
+        ensures means { GoesBy D.view self.old self.new [] [] [] }
+    {
+        self.agent.call_done();
     }
 }

@@ -1,4 +1,4 @@
-use Rattle.line_session.proofs.CallLemmas.{calls_left, calls_same, calls_sites, calls_text}
+use Rattle.line_session.proofs.CallLemmas.{calls_between, calls_left, calls_same, calls_sites, calls_text}
 use Rattle.line_session.proofs.laws.calls.Goals as goal
 
 pub returns-clause-text : goal.returns-clause-text
@@ -12,3 +12,6 @@ returns-clause-same g c = calls_same g.D.Disk.view c.printed_histories_are_isola
 
 pub returns-clause-left : goal.returns-clause-left
 returns-clause-left g c = calls_left g.D.Disk.view
+
+pub returns-clause-between : goal.returns-clause-between
+returns-clause-between g c = calls_between g.D.Disk.view

@@ -1,7 +1,8 @@
 //! A commit and a checkpoint over a disk whose calls its owner carries out, one after another.
 use crate::journals::{kept, run};
-use crate::shared::disk_of;
+use crate::shared::{bytes_of, disk_of, sent};
 use carried_disk::{CarriedCall, CarriedDisk};
+use disk_model::Carried;
 use std::alloc::Global;
 use std::test::Fail;
 
@@ -75,5 +76,15 @@ fn a_file_that_carried_out_some_calls_has_the_change_or_has_it_not(
     let mut file = Vec::new(alloc);
     assert!(rt; are_carried(alloc, &mut disk, &mut file)?);
     assert!(rt; disk.next().is_none());
+    Ok(())
+}
+
+#[test]
+fn a_disk_in_memory_may_go_to_another_thread(rt: HostRuntime) -> Result<(), Fail> {
+    let alloc = rt.alloc();
+    let mut disk = sent(disk_of(alloc, b"ABC", None, &[])?);
+    assert!(rt; bytes_of(alloc, &mut disk)?.as_slice() == b"ABC".as_slice());
+    let disk = sent(CarriedDisk::new(alloc, Vec::from_slice(alloc, b"ABC")?));
+    assert!(rt; disk.bytes() == b"ABC".as_slice());
     Ok(())
 }

@@ -160,3 +160,10 @@ pub fn add<D: Disk>(
     };
     Ok(())
 }
+
+/// A value that may go to another thread.
+pub fn sent<T: Send>(value: T) -> T
+    ensures { result ≡ value }
+{
+    value
+}
